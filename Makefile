@@ -1,0 +1,26 @@
+# make report   the canonical form of an example manifest, through a C host
+# make test     the gate: proofs, must-fail edits, tests
+# make bench    the library beside serde_json and Python's json
+#
+# ACON_LIB=FILE uses another archive than the one that rt makes (not in `make test`).
+
+.PHONY: report test bench archive
+
+ifdef ACON_LIB
+archive:
+else
+ACON_LIB = target/staticlib/libacon.a
+archive:
+	rt staticlib acon
+endif
+
+report: archive
+	@mkdir -p target/examples
+	gcc -O2 -std=c11 -Wall -Wextra -Iinclude examples/canonical.c $(ACON_LIB) -o target/examples/canonical
+	target/examples/canonical examples/manifest.json
+
+test:
+	.ci/run
+
+bench: archive
+	ACON_LIB=$(ACON_LIB) bench/run

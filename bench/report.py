@@ -1,0 +1,109 @@
+"""Measures and prints: report.py FOLDER, which holds the programs compare, stack and canonical."""
+
+import json
+import os
+import platform
+import statistics
+import subprocess
+import sys
+import time
+
+import inputs
+
+SAMPLES = 201
+PYTHON_SAMPLES = 51
+
+
+def python_form(data):
+    value = json.loads(data)
+    return json.dumps(value, sort_keys=True, separators=(",", ":"), ensure_ascii=False).encode()
+
+
+def python_time(data):
+    """Nanoseconds, as the median of many samples."""
+    calls = 1
+    while True:
+        start = time.perf_counter_ns()
+        for _ in range(calls):
+            python_form(data)
+        if time.perf_counter_ns() - start > 1000000:
+            break
+        calls *= 2
+    times = []
+    for _ in range(PYTHON_SAMPLES):
+        start = time.perf_counter_ns()
+        for _ in range(calls):
+            python_form(data)
+        times.append((time.perf_counter_ns() - start) / calls)
+    return statistics.median(times)
+
+
+def check(canonical, path, data):
+    """Python has to give the library's bytes too."""
+    said = subprocess.run([canonical, path], stdout=subprocess.PIPE, check=True).stdout
+    if said.rsplit(b"\n", 2)[0] != python_form(data):
+        sys.exit("bench: %s: Python gives another form" % path)
+
+
+def lines(*command):
+    """What a program prints for each file: its path and some numbers."""
+    said = subprocess.run(command, stdout=subprocess.PIPE, check=True).stdout.decode()
+    return {line.split("\t")[0]: list(map(float, line.split("\t")[1:])) for line in said.splitlines()}
+
+
+def processor():
+    try:
+        with open("/proc/cpuinfo") as f:
+            return next(line.split(":", 1)[1].strip() for line in f if line.startswith("model name"))
+    except (OSError, StopIteration):
+        return platform.machine()
+
+
+def version(*command):
+    return subprocess.run(command, stdout=subprocess.PIPE, check=True).stdout.decode().splitlines()[0]
+
+
+def main():
+    folder = sys.argv[1]
+    made = inputs.write_all(os.path.join(folder, "inputs"))
+    paths = [path for _, _, path in made]
+    speed = lines(os.path.join(folder, "compare"), str(SAMPLES), *paths)
+    stack = lines(os.path.join(folder, "stack"), *paths)
+    rows = {}
+    for name, kilobytes, path in made:
+        with open(path, "rb") as f:
+            data = f.read()
+        check(os.path.join(folder, "canonical"), path, data)
+        acon, serde = (ns / 1000 for ns in speed[path])
+        rows[name, kilobytes] = len(data), acon, serde, python_time(data) / 1000, int(stack[path][0])
+
+    print("Canonical form: microseconds for one call, median of %d samples (Python: %d)" % (SAMPLES, PYTHON_SAMPLES))
+    tools = version("rustc", "--version"), version("gcc", "--version"), "Python " + platform.python_version()
+    print("; ".join((processor(), *tools)))
+    print("Buffers: acon_canonical writes into one buffer that is not cleared between calls;")
+    print("serde_json and Python make a new value and a new output in each call. Stack in bytes.")
+    print()
+    print("%-23s %6s %9s %10s %9s %11s %13s %12s" % (
+        "text", "bytes", "acon", "serde_json", "Python", "acon/serde", "Python/serde", "acon's stack"))
+    for (name, kilobytes), (size, acon, serde, python, used) in rows.items():
+        title = name if kilobytes is None else "%s, %d KB" % (name, kilobytes)
+        print("%-23s %6d %9.2f %10.2f %9.2f %11.2f %13.2f %12d" % (
+            title, size, acon, serde, python, acon / serde, python / serde, used))
+
+    print()
+    print("Growth from 1 KB to 16 KB (linear: as the bytes), and share of the manifest of 16 KB")
+    print("%-23s %6s %9s %10s %9s %22s" % ("text", "bytes", "acon", "serde_json", "Python", "acon, 16 KB/manifest"))
+    _, manifest, _, _, _ = rows["manifest of 16 KB", None]
+    worst = 0, ""
+    for name, _ in inputs.CASES:
+        small, large = rows[name, 1], rows[name, 16]
+        growth = [after / before for before, after in zip(small[:4], large[:4])]
+        share = large[1] / manifest
+        worst = max(worst, (share, name))
+        print("%-23s %6.1f %9.1f %10.1f %9.1f %22.2f" % (name, *growth, share))
+    print()
+    print("Worst case over the manifest of 16 KB: %.2f (%s)" % worst)
+    print("Most stack: %d bytes" % max(row[4] for row in rows.values()))
+
+
+main()

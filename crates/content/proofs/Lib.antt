@@ -1,0 +1,9 @@
+pub mod Basic
+pub mod Size
+pub mod NotLonger
+pub mod Formed
+pub mod InRange
+pub mod ReadBack
+pub mod Same
+pub mod Distinct
+pub mod Laws

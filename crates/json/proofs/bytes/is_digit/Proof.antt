@@ -1,0 +1,16 @@
+-- `json::bytes::is_digit` meets its contract: `between` ensures it.
+-- Assumes nothing.
+use borrow.Author.Needs.{needs}
+use Rattle.json.specs.Bytes.{isDigit}
+use Rattle.json.proofs.bytes.is_digit.Statement.{statement}
+use Rattle.json.proofs.bytes.is_digit.Tie as tie
+
+between-requires : tie.Need-between-requires
+between-requires c κs = search needs
+
+returns : tie.Need-returns
+unfolding isDigit
+returns c = c .between .ensures
+
+pub is-digit-spec : {M : Type 1} → statement M
+is-digit-spec = tie.close (tie.spec between-requires returns)

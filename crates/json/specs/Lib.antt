@@ -1,0 +1,9 @@
+pub mod Bytes
+pub mod Syntax
+pub mod Grammar
+pub mod Read
+pub mod Content
+pub mod Scan
+pub mod Size
+pub mod Measure
+pub mod Parts

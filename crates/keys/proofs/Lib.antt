@@ -1,0 +1,5 @@
+pub mod Keys
+pub mod Merges
+pub mod Sorts
+pub mod Halves
+pub mod Repeats

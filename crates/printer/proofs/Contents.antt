@@ -1,0 +1,111 @@
+-- How far a string's content is written.
+use Prim.Native.Nat.{ℕ, _+_, _-_, _≤_, _<_}
+use mathlib.Core.Path.{_≡_, refl, sym, ap, subst, _∙_}
+use mathlib.Core.List.{List, [], _∷_, _++_, append-assoc, append-nil}
+use native.Mathlib.Omega.{arith}
+use lib.ListN.{length, getD, set, length-append}
+use borrow.Rule.Slice.PartMut.{midOf, putMid}
+use Rattle.utf8.specs.Scalar.{encode}
+use Rattle.json.specs.Content.{escaped, quoted}
+use Rattle.strings.specs.InString.{InString, Inside, Escapes, EscapeAt, contentFrom}
+use Rattle.strings.proofs.Contents.{inside-content}
+use Rattle.strings.proofs.Cursors.{closes, plain}
+use Rattle.strings.proofs.Orders.{inside-within}
+use Rattle.printer.specs.Writes.{Writes}
+use Rattle.printer.proofs.Written.{nothing-written, same-length, lent-length, byte-written, part-written}
+use Rattle.printer.proofs.Escaped.{escaped-plain, escaped-append}
+
+-- Of the content from position i on, n bytes of its canonical form are written, and position k is where the rest of it begins.
+pub record Progress (s : List ℕ) (i : ℕ) (before out : List ℕ) (k n : ℕ) : Type 0 where
+  pub done : List ℕ
+  pub left : List ℕ
+  pub inside : InString s k left
+  pub joins : done ++ escaped left ≡ escaped (contentFrom s i)
+  pub size : n ≡ length done
+  pub written : Writes before out done
+
+pub started : (s : List ℕ) (i : ℕ) (l : List ℕ) → Inside s i → Progress s i l l i 0
+started s i l p = record { done = []; left = contentFrom s i; inside = inside-content s i p; joins = refl; size = refl; written = nothing-written l }
+
+module _ {s : List ℕ} {i : ℕ} {before out : List ℕ} {k n : ℕ} (p : Progress s i before out k n) where
+  pub within : k < length s
+  within = inside-within s k (record { bytes = p .left; here = p .inside })
+
+  pub escape-here : getD s k 0 ≡ 0x5C → EscapeAt s k
+  escape-here e = record { left = p .left; inside = p .inside; backslash = e }
+
+  total : n + length (escaped (p .left)) ≡ length (escaped (contentFrom s i))
+  total = omega (arith, p .size, length-append (p .done) (escaped (p .left)), ap length (p .joins))
+
+  module _ (h : length (escaped (contentFrom s i)) + 1 ≤ length before) where
+    room : n < length before
+    room = omega (arith, total)
+
+    pub byte-room : n < length out
+    byte-room = omega (arith, room, same-length (p .written))
+
+    -- the closing mark
+    pub closed : getD s k 0 ≡ 0x22
+        → (n + 1 ≡ length (escaped (contentFrom s i)) + 1) × Writes before (set out n 0x22) (escaped (contentFrom s i) ++ (0x22 ∷ []))
+    unfolding escaped
+    closed e = (
+      omega (arith, p .size, ap length whole),
+      subst (λ (l : List ℕ). Writes before (set out n 0x22) (l ++ (0x22 ∷ []))) whole (byte-written (p .written) n 0x22 (p .size) room),
+    )
+      where
+        whole : p .done ≡ escaped (contentFrom s i)
+        whole = sym (append-nil (p .done)) ∙ ap (λ (l : List ℕ). p .done ++ escaped l) (sym (closes s k (p .left) (p .inside) e)) ∙ p .joins
+
+    -- a byte that stands for itself
+    pub after-byte : (getD s k 0 ≡ 0x22 → ⊥) → (getD s k 0 ≡ 0x5C → ⊥) → Progress s i before (set out n (getD s k 0)) (k + 1) (n + 1)
+    after-byte a b =
+        let r = plain s k (p .left) (p .inside) a b in
+        record {
+          done = p .done ++ (getD s k 0 ∷ []);
+          left = r .0;
+          inside = r .2;
+          joins = append-assoc (p .done) (getD s k 0 ∷ []) (escaped (r .0)) ∙ ap (λ (l : List ℕ). p .done ++ l) (sym (ap escaped (r .1) ∙ escaped-plain (getD s k 0) (r .0) a b)) ∙ p .joins;
+          size = omega (arith, p .size, length-append (p .done) (getD s k 0 ∷ []));
+          written = byte-written (p .written) n (getD s k 0) (p .size) room;
+        }
+
+    -- an escape
+    module _ (next scalar : ℕ) (e : Escapes s k next scalar) where
+      split : (d : List ℕ) × (escaped (p .left) ≡ escaped (encode scalar) ++ escaped d) × InString s next d
+      split = let r = e .stands (p .left) (p .inside) in (r .0, ap escaped (r .1) ∙ escaped-append (encode scalar) (r .0), r .2)
+
+      pub char-room : n + length (escaped (encode scalar)) < length before
+      char-room = omega (arith, total, ap length (split .1), length-append (escaped (encode scalar)) (escaped (split .0)))
+
+      pub char-fits : length (escaped (encode scalar)) ≤ length (midOf n (length out - n) out)
+      char-fits = omega (arith, char-room, lent-length (p .written) n (p .size))
+
+      pub after-escape : (m : ℕ) (part : List ℕ) → m ≡ length (escaped (encode scalar)) → Writes (midOf n (length out - n) out) part (escaped (encode scalar))
+          → Progress s i before (putMid n (length out - n) out part) next (n + m)
+      after-escape m part f w =
+          record {
+            done = p .done ++ escaped (encode scalar);
+            left = split .0;
+            inside = split .2;
+            joins = append-assoc (p .done) (escaped (encode scalar)) (escaped (split .0)) ∙ ap (λ (l : List ℕ). p .done ++ l) (sym (split .1)) ∙ p .joins;
+            size = omega (arith, p .size, length-append (p .done) (escaped (encode scalar)));
+            written = part-written (p .written) n part (escaped (encode scalar)) (p .size) w;
+          }
+
+-- a string between its marks
+module _ (c l : List ℕ) (h : length (quoted c) ≤ length l) where
+  pub marks-fit : length (escaped c) + 2 ≤ length l
+  unfolding quoted
+  marks-fit = omega (arith, h, length-append (escaped c) (0x22 ∷ []))
+
+  opened : Writes l (set l 0 0x22) (0x22 ∷ [])
+  opened = byte-written (nothing-written l) 0 0x22 refl (omega (arith, marks-fit))
+
+  pub content-fits : length (escaped c) + 1 ≤ length (midOf 1 (length (set l 0 0x22) - 1) (set l 0 0x22))
+  content-fits = omega (arith, marks-fit, lent-length opened 1 refl)
+
+  pub string-written : (r : ℕ) (part : List ℕ)
+      → (r ≡ length (escaped c) + 1) × Writes (midOf 1 (length (set l 0 0x22) - 1) (set l 0 0x22)) part (escaped c ++ (0x22 ∷ []))
+      → (1 + r ≡ length (quoted c)) × Writes l (putMid 1 (length (set l 0 0x22) - 1) (set l 0 0x22) part) (quoted c)
+  unfolding quoted
+  string-written r part w = (omega (arith, length-append (escaped c) (0x22 ∷ [])), part-written opened 1 part (escaped c ++ (0x22 ∷ [])) refl (w .1))

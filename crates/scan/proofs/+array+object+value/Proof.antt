@@ -1,0 +1,2231 @@
+use borrow.Author.Needs.{needs}
+use Prim.Native.Nat.{_+_, _-_, _*_, _≤_}
+use mathlib.Core.Path.{_≡_, refl, sym, ap, subst, subst₂, _∙_}
+use mathlib.Core.List.{List, [], _∷_, _++_}
+use mathlib.Core.Logic.{⊎-elim}
+use native.Mathlib.Omega.{arith}
+use Rattle.scan.proofs.Values.{is-array, is-object, is-scalar, at-bottom, at-end}
+use lib.ListN.{length, take, drop, set, length-set, length-append}
+use lib.Seq.{length-take-le, length-front}
+use Rattle.keys.specs.Keys.{KeysAt}
+use Rattle.scan.specs.Summary.{plus}
+use denote.Ref.{now}
+use Rattle.json.specs.Read.{read}
+use Rattle.scan.specs.Scanned.{Scans, readArray, readObject}
+use Rattle.scan.specs.declared.Summary.{Summary}
+use Rattle.scan.specs.declared.Scanned.the-variants.{Value}
+use Rattle.scan.proofs.Arrays.{Progress, empty, start, stuck-element, later, fits, ends, sticks, goes-on}
+use Rattle.scan.proofs.Objects as objects
+use Rattle.scan.proofs.Progress.{IsValue, scans-value}
+use Prim.Native.Nat.{ℕ, _<_}
+use borrow.Fn.Kinds.{In}
+use borrow.Fn.PlainCycle.{Measures, is, falls, and}
+use Rattle.scan.proofs.array.Reads as array
+use Rattle.scan.proofs.array.Kinds as array-kinds
+use Rattle.scan.proofs.+array+object+value.Lts-array as array-lts
+use Rattle.scan.proofs.object.Reads as object
+use Rattle.scan.proofs.object.Kinds as object-kinds
+use Rattle.scan.proofs.+array+object+value.Lts-object as object-lts
+use Rattle.scan.proofs.value.Reads as value
+use Rattle.scan.proofs.value.Kinds as value-kinds
+use Rattle.scan.proofs.+array+object+value.Lts-value as value-lts
+use Rattle.json.proofs.space.skip_spaces.Reads as skip-spaces-reads
+use Rattle.scan.proofs.added.Reads as added-reads
+use Rattle.scan.proofs.after_item.Reads as after-item-reads
+use Rattle.scan.proofs.closed.Reads as closed-reads
+use Rattle.scan.proofs.key.Reads as key-reads
+use Rattle.scan.proofs.mark.Reads as mark-reads
+use Rattle.scan.proofs.member.Reads as member-reads
+use Rattle.scan.proofs.plain.Reads as plain-reads
+use Rattle.scan.proofs.scalar.Reads as scalar-reads
+use Rattle.scan.proofs.stands.Reads as stands-reads
+use Rattle.scan.proofs.+array+object+value.{statement}
+use Rattle.scan.proofs.+array+object+value.Tie.{close}
+
+abbrev μ-array : Measures 3 array-kinds.ps ℕ
+μ-array κs a = a .1 .1 .0 + a .1 .1 .0 + 1
+
+abbrev μ-object : Measures 3 object-kinds.ps ℕ
+μ-object κs a = a .1 .1 .0 + a .1 .1 .0 + 1
+
+abbrev μ-value : Measures 3 value-kinds.ps ℕ
+μ-value κs a = a .1 .1 .0 + a .1 .1 .0
+
+abbrev array-at : ℕ → In 3 array-kinds.ps
+array-at t = and 3 array-kinds.ps (is 3 array-kinds.ps μ-array t) array.Pre
+
+abbrev array-below : ℕ → In 3 array-kinds.ps
+array-below t = and 3 array-kinds.ps (falls 3 array-kinds.ps _<_ μ-array t) array.Pre
+
+abbrev object-at : ℕ → In 3 object-kinds.ps
+object-at t = and 3 object-kinds.ps (is 3 object-kinds.ps μ-object t) object.Pre
+
+abbrev object-below : ℕ → In 3 object-kinds.ps
+object-below t = and 3 object-kinds.ps (falls 3 object-kinds.ps _<_ μ-object t) object.Pre
+
+abbrev value-at : ℕ → In 3 value-kinds.ps
+value-at t = and 3 value-kinds.ps (is 3 value-kinds.ps μ-value t) value.Pre
+
+abbrev value-below : ℕ → In 3 value-kinds.ps
+value-below t = and 3 value-kinds.ps (falls 3 value-kinds.ps _<_ μ-value t) value.Pre
+
+abbrev array-Inv-loop : array-lts.InvT-loop
+array-Inv-loop s at depth keys₀ spare₀ i₀ sum₀ keys spare i sum =
+    Progress s at depth i sum × (length keys ≡ length keys₀) × (length spare ≡ length spare₀)
+
+abbrev array-μ-loop : array-lts.MeasureT-loop
+array-μ-loop s at depth keys₀ spare₀ i₀ sum₀ keys spare i sum = length s - i
+
+-- src/lib.rt:229:9
+array-skip-spaces-requires : (t : ℕ) → array-lts.Need-skip-spaces-requires (
+  skip-spaces-reads.Asked,
+  skip-spaces-reads.Learnt,
+  stands-reads.Asked,
+  stands-reads.Learnt,
+  plain-reads.Asked,
+  plain-reads.Learnt,
+  value-below t,
+  value.Post,
+  added-reads.Asked,
+  added-reads.Learnt,
+  after-item-reads.Asked,
+  after-item-reads.Learnt,
+) (array-at t) array.Post array-Inv-loop array-μ-loop
+array-skip-spaces-requires t c κs = c .before .before .before .pre .1 .within
+
+-- src/lib.rt:230:8
+array-stands-requires : (t : ℕ) → array-lts.Need-stands-requires (
+  skip-spaces-reads.Asked,
+  skip-spaces-reads.Learnt,
+  stands-reads.Asked,
+  stands-reads.Learnt,
+  plain-reads.Asked,
+  plain-reads.Learnt,
+  value-below t,
+  value.Post,
+  added-reads.Asked,
+  added-reads.Learnt,
+  after-item-reads.Asked,
+  after-item-reads.Learnt,
+) (array-at t) array.Post array-Inv-loop array-μ-loop
+array-stands-requires t c κs = search needs
+
+-- src/lib.rt:231:22
+array-add-plain : (t : ℕ) → array-lts.Need-add-plain (
+  skip-spaces-reads.Asked,
+  skip-spaces-reads.Learnt,
+  stands-reads.Asked,
+  stands-reads.Learnt,
+  plain-reads.Asked,
+  plain-reads.Learnt,
+  value-below t,
+  value.Post,
+  added-reads.Asked,
+  added-reads.Learnt,
+  after-item-reads.Asked,
+  after-item-reads.Learnt,
+) (array-at t) array.Post array-Inv-loop array-μ-loop
+array-add-plain t c = omega (arith, c .before .stands .ensures .0 (c .if1 .taken) .0)
+
+-- src/lib.rt:231:9
+array-plain-requires : (t : ℕ) → array-lts.Need-plain-requires (
+  skip-spaces-reads.Asked,
+  skip-spaces-reads.Learnt,
+  stands-reads.Asked,
+  stands-reads.Learnt,
+  plain-reads.Asked,
+  plain-reads.Learnt,
+  value-below t,
+  value.Post,
+  added-reads.Asked,
+  added-reads.Learnt,
+  after-item-reads.Asked,
+  after-item-reads.Learnt,
+) (array-at t) array.Post array-Inv-loop array-μ-loop
+array-plain-requires t c κs = search needs
+
+-- src/lib.rt:231:9
+array-returns : (t : ℕ) → array-lts.Need-returns (
+  skip-spaces-reads.Asked,
+  skip-spaces-reads.Learnt,
+  stands-reads.Asked,
+  stands-reads.Learnt,
+  plain-reads.Asked,
+  plain-reads.Learnt,
+  value-below t,
+  value.Post,
+  added-reads.Asked,
+  added-reads.Learnt,
+  after-item-reads.Asked,
+  after-item-reads.Learnt,
+) (array-at t) array.Post array-Inv-loop array-μ-loop
+array-returns t c =
+    let a = c .before .before .before .before .before .before .before .args in
+    let h = c .before .before .stands .ensures .0 (c .before .if1 .taken) in
+    subst (Scans (now (a .s)) (readArray (a .depth) (drop (a .at) (now (a .s))))) (sym (c .plain .ensures)) (empty (now (a .s)) (a .at) (a .depth) _ (c .before .before .before .skip-spaces .ensures) (h .0) (h .1))
+
+-- src/lib.rt:239:5
+array-loop-holds : (t : ℕ) → array-lts.Need-loop-holds (
+  skip-spaces-reads.Asked,
+  skip-spaces-reads.Learnt,
+  stands-reads.Asked,
+  stands-reads.Learnt,
+  plain-reads.Asked,
+  plain-reads.Learnt,
+  value-below t,
+  value.Post,
+  added-reads.Asked,
+  added-reads.Learnt,
+  after-item-reads.Asked,
+  after-item-reads.Learnt,
+) (array-at t) array.Post array-Inv-loop array-μ-loop
+array-loop-holds t c =
+    let a = c .before .before .before .before .before .before .args in
+    (start (now (a .s)) (a .at) (a .depth) _ (c .before .before .skip-spaces .ensures) (c .before .stands .ensures .1 (c .if1 .left)), refl, refl)
+
+-- src/lib.rt:240:23
+array-value-requires : (t : ℕ) → array-lts.Need-value-requires (
+  skip-spaces-reads.Asked,
+  skip-spaces-reads.Learnt,
+  stands-reads.Asked,
+  stands-reads.Learnt,
+  plain-reads.Asked,
+  plain-reads.Learnt,
+  value-below t,
+  value.Post,
+  added-reads.Asked,
+  added-reads.Learnt,
+  after-item-reads.Asked,
+  after-item-reads.Learnt,
+) (array-at t) array.Post array-Inv-loop array-μ-loop
+array-value-requires t c κs =
+    let b = c .before .before .before .before .before .before .before .before .before in
+    let p = c .before .before .loop .inv in
+    (omega (arith, b .pre .0), record { within = p .0 .within; short = b .pre .1 .short; enough = omega (arith, p .0 .from, p .1, b .pre .1 .enough); sorting = omega (arith, p .1, p .2, b .pre .1 .sorting) })
+
+-- src/lib.rt:241:28
+array-enum-known-f : (t : ℕ) → array-lts.Need-enum-known-f (
+  skip-spaces-reads.Asked,
+  skip-spaces-reads.Learnt,
+  stands-reads.Asked,
+  stands-reads.Learnt,
+  plain-reads.Asked,
+  plain-reads.Learnt,
+  value-below t,
+  value.Post,
+  added-reads.Asked,
+  added-reads.Learnt,
+  after-item-reads.Asked,
+  after-item-reads.Learnt,
+) (array-at t) array.Post array-Inv-loop array-μ-loop
+array-enum-known-f t c = search needs
+
+-- src/lib.rt:242:28
+array-enum-known-e : (t : ℕ) → array-lts.Need-enum-known-e (
+  skip-spaces-reads.Asked,
+  skip-spaces-reads.Learnt,
+  stands-reads.Asked,
+  stands-reads.Learnt,
+  plain-reads.Asked,
+  plain-reads.Learnt,
+  value-below t,
+  value.Post,
+  added-reads.Asked,
+  added-reads.Learnt,
+  after-item-reads.Asked,
+  after-item-reads.Learnt,
+) (array-at t) array.Post array-Inv-loop array-μ-loop
+array-enum-known-e t c = search needs
+
+-- src/lib.rt:242:34
+array-same-length : (t : ℕ) → array-lts.Need-same-length (
+  skip-spaces-reads.Asked,
+  skip-spaces-reads.Learnt,
+  stands-reads.Asked,
+  stands-reads.Learnt,
+  plain-reads.Asked,
+  plain-reads.Learnt,
+  value-below t,
+  value.Post,
+  added-reads.Asked,
+  added-reads.Learnt,
+  after-item-reads.Asked,
+  after-item-reads.Learnt,
+) (array-at t) array.Post array-Inv-loop array-μ-loop
+array-same-length t c = c .before .before .before .before .before .before .before .value .kept .1 .1 .1 .0 ∙ c .before .before .before .before .before .before .before .before .before .before .loop .inv .1
+
+-- src/lib.rt:242:34
+array-same-length-2 : (t : ℕ) → array-lts.Need-same-length-2 (
+  skip-spaces-reads.Asked,
+  skip-spaces-reads.Learnt,
+  stands-reads.Asked,
+  stands-reads.Learnt,
+  plain-reads.Asked,
+  plain-reads.Learnt,
+  value-below t,
+  value.Post,
+  added-reads.Asked,
+  added-reads.Learnt,
+  after-item-reads.Asked,
+  after-item-reads.Learnt,
+) (array-at t) array.Post array-Inv-loop array-μ-loop
+array-same-length-2 t c = c .before .before .before .before .before .before .before .value .kept .1 .1 .1 .1 .0 ∙ c .before .before .before .before .before .before .before .before .before .before .loop .inv .2
+
+-- src/lib.rt:242:34
+array-returns-2 : (t : ℕ) → array-lts.Need-returns-2 (
+  skip-spaces-reads.Asked,
+  skip-spaces-reads.Learnt,
+  stands-reads.Asked,
+  stands-reads.Learnt,
+  plain-reads.Asked,
+  plain-reads.Learnt,
+  value-below t,
+  value.Post,
+  added-reads.Asked,
+  added-reads.Learnt,
+  after-item-reads.Asked,
+  after-item-reads.Learnt,
+) (array-at t) array.Post array-Inv-loop array-μ-loop
+array-returns-2 t c =
+    let a = c .before .before .before .before .before .before .before .before .before .before .before .before .before .before .before .before .before .args in
+    let l = c .before .before .before .before .before .before .before .before .before .before .loop in
+    let p = l .inv .0 in
+    stuck-element (now (a .s)) (a .at) (a .depth) (l .i) (l .sum) p _ (rw (c .before .e .given .1) at (c .before .before .before .before .before .before .before .value .ensures))
+
+-- src/lib.rt:245:9
+array-added-requires : (t : ℕ) → array-lts.Need-added-requires (
+  skip-spaces-reads.Asked,
+  skip-spaces-reads.Learnt,
+  stands-reads.Asked,
+  stands-reads.Learnt,
+  plain-reads.Asked,
+  plain-reads.Learnt,
+  value-below t,
+  value.Post,
+  added-reads.Asked,
+  added-reads.Learnt,
+  after-item-reads.Asked,
+  after-item-reads.Learnt,
+) (array-at t) array.Post array-Inv-loop array-μ-loop
+array-added-requires t c κs =
+    let a = c .before .before .before .before .before .before .before .before .before .before .before .before .before .before .before .before .before .before .args in
+    let l = c .before .before .before .before .before .before .before .before .before .before .before .loop in
+    let p = l .inv .0 in
+    let f = c .before .before .f .given .0 .0 in
+    let q = scans-value (now (a .s)) (read (a .depth) (drop (l .i) (now (a .s)))) f (rw (c .before .before .f .given .1) at (c .before .before .before .before .before .before .before .before .value .ensures)) in
+    omega (arith, fits (now (a .s)) (a .at) (a .depth) (l .i) (l .sum) p f q, q .within, c .before .before .before .before .before .before .before .before .before .before .before .before .before .before .before .before .before .before .pre .1 .short)
+
+-- src/lib.rt:246:15
+array-after-item-requires : (t : ℕ) → array-lts.Need-after-item-requires (
+  skip-spaces-reads.Asked,
+  skip-spaces-reads.Learnt,
+  stands-reads.Asked,
+  stands-reads.Learnt,
+  plain-reads.Asked,
+  plain-reads.Learnt,
+  value-below t,
+  value.Post,
+  added-reads.Asked,
+  added-reads.Learnt,
+  after-item-reads.Asked,
+  after-item-reads.Learnt,
+) (array-at t) array.Post array-Inv-loop array-μ-loop
+array-after-item-requires t c κs =
+    let a = c .before .before .before .before .before .before .before .before .before .before .before .before .before .before .before .before .before .before .before .args in
+    let l = c .before .before .before .before .before .before .before .before .before .before .before .before .loop in
+    let p = l .inv .0 in
+    let f = c .before .before .before .f .given .0 .0 in
+    let q = scans-value (now (a .s)) (read (a .depth) (drop (l .i) (now (a .s)))) f (rw (c .before .before .before .f .given .1) at (c .before .before .before .before .before .before .before .before .before .value .ensures)) in
+    q .within
+
+-- src/lib.rt:247:24
+array-enum-known-end : (t : ℕ) → array-lts.Need-enum-known-end (
+  skip-spaces-reads.Asked,
+  skip-spaces-reads.Learnt,
+  stands-reads.Asked,
+  stands-reads.Learnt,
+  plain-reads.Asked,
+  plain-reads.Learnt,
+  value-below t,
+  value.Post,
+  added-reads.Asked,
+  added-reads.Learnt,
+  after-item-reads.Asked,
+  after-item-reads.Learnt,
+) (array-at t) array.Post array-Inv-loop array-μ-loop
+array-enum-known-end t c = search needs
+
+-- src/lib.rt:248:17
+array-same-length-3 : (t : ℕ) → array-lts.Need-same-length-3 (
+  skip-spaces-reads.Asked,
+  skip-spaces-reads.Learnt,
+  stands-reads.Asked,
+  stands-reads.Learnt,
+  plain-reads.Asked,
+  plain-reads.Learnt,
+  value-below t,
+  value.Post,
+  added-reads.Asked,
+  added-reads.Learnt,
+  after-item-reads.Asked,
+  after-item-reads.Learnt,
+) (array-at t) array.Post array-Inv-loop array-μ-loop
+array-same-length-3 t c = c .before .before .before .before .before .before .before .before .before .before .before .before .before .value .kept .1 .1 .1 .0 ∙ c .before .before .before .before .before .before .before .before .before .before .before .before .before .before .before .before .loop .inv .1
+
+-- src/lib.rt:248:17
+array-same-length-4 : (t : ℕ) → array-lts.Need-same-length-4 (
+  skip-spaces-reads.Asked,
+  skip-spaces-reads.Learnt,
+  stands-reads.Asked,
+  stands-reads.Learnt,
+  plain-reads.Asked,
+  plain-reads.Learnt,
+  value-below t,
+  value.Post,
+  added-reads.Asked,
+  added-reads.Learnt,
+  after-item-reads.Asked,
+  after-item-reads.Learnt,
+) (array-at t) array.Post array-Inv-loop array-μ-loop
+array-same-length-4 t c = c .before .before .before .before .before .before .before .before .before .before .before .before .before .value .kept .1 .1 .1 .1 .0 ∙ c .before .before .before .before .before .before .before .before .before .before .before .before .before .before .before .before .loop .inv .2
+
+-- src/lib.rt:248:17
+array-returns-3 : (t : ℕ) → array-lts.Need-returns-3 (
+  skip-spaces-reads.Asked,
+  skip-spaces-reads.Learnt,
+  stands-reads.Asked,
+  stands-reads.Learnt,
+  plain-reads.Asked,
+  plain-reads.Learnt,
+  value-below t,
+  value.Post,
+  added-reads.Asked,
+  added-reads.Learnt,
+  after-item-reads.Asked,
+  after-item-reads.Learnt,
+) (array-at t) array.Post array-Inv-loop array-μ-loop
+array-returns-3 t c =
+    let a = c .before .before .before .before .before .before .before .before .before .before .before .before .before .before .before .before .before .before .before .before .before .before .before .args in
+    let l = c .before .before .before .before .before .before .before .before .before .before .before .before .before .before .before .before .loop in
+    let p = l .inv .0 in
+    let f = c .before .before .before .before .before .before .before .f .given .0 .0 in
+    let q = scans-value (now (a .s)) (read (a .depth) (drop (l .i) (now (a .s)))) f (rw (c .before .before .before .before .before .before .before .f .given .1) at (c .before .before .before .before .before .before .before .before .before .before .before .before .before .value .ensures)) in
+    subst (λ (x : Summary). Scans (now (a .s)) (readArray (a .depth) (drop (a .at) (now (a .s)))) (Value (record { end = c .before .end .given .0 .0; sum = x })))
+    (sym (c .before .before .before .before .added .ensures)) (ends (now (a .s)) (a .at) (a .depth) (l .i) (l .sum) p f q _ (rw (c .before .end .given .1) at (c .before .before .before .after-item .ensures)))
+
+-- src/lib.rt:253:25
+array-enum-known-j : (t : ℕ) → array-lts.Need-enum-known-j (
+  skip-spaces-reads.Asked,
+  skip-spaces-reads.Learnt,
+  stands-reads.Asked,
+  stands-reads.Learnt,
+  plain-reads.Asked,
+  plain-reads.Learnt,
+  value-below t,
+  value.Post,
+  added-reads.Asked,
+  added-reads.Learnt,
+  after-item-reads.Asked,
+  after-item-reads.Learnt,
+) (array-at t) array.Post array-Inv-loop array-μ-loop
+array-enum-known-j t c = search needs
+
+-- src/lib.rt:239:5
+array-loop-less : (t : ℕ) → array-lts.Need-loop-less (
+  skip-spaces-reads.Asked,
+  skip-spaces-reads.Learnt,
+  stands-reads.Asked,
+  stands-reads.Learnt,
+  plain-reads.Asked,
+  plain-reads.Learnt,
+  value-below t,
+  value.Post,
+  added-reads.Asked,
+  added-reads.Learnt,
+  after-item-reads.Asked,
+  after-item-reads.Learnt,
+) (array-at t) array.Post array-Inv-loop array-μ-loop
+array-loop-less t c =
+    let a = c .before .before .before .before .before .before .before .before .before .before .before .before .before .before .before .before .before .before .before .before .before .before .before .args in
+    let l = c .before .before .before .before .before .before .before .before .before .before .before .before .before .before .before .before .loop in
+    let p = l .inv .0 in
+    let f = c .before .before .before .before .before .before .before .f .given .0 .0 in
+    let q = scans-value (now (a .s)) (read (a .depth) (drop (l .i) (now (a .s)))) f (rw (c .before .before .before .before .before .before .before .f .given .1) at (c .before .before .before .before .before .before .before .before .before .before .before .before .before .value .ensures)) in
+    let w = rw (c .before .j .given .1) at (c .before .before .before .after-item .ensures) in
+    omega (arith, later (now (a .s)) (a .at) (a .depth) (l .i) (l .sum) p f q, w .0, w .1)
+
+-- src/lib.rt:239:5
+array-loop-again : (t : ℕ) → array-lts.Need-loop-again (
+  skip-spaces-reads.Asked,
+  skip-spaces-reads.Learnt,
+  stands-reads.Asked,
+  stands-reads.Learnt,
+  plain-reads.Asked,
+  plain-reads.Learnt,
+  value-below t,
+  value.Post,
+  added-reads.Asked,
+  added-reads.Learnt,
+  after-item-reads.Asked,
+  after-item-reads.Learnt,
+) (array-at t) array.Post array-Inv-loop array-μ-loop
+array-loop-again t c =
+    let a = c .before .before .before .before .before .before .before .before .before .before .before .before .before .before .before .before .before .before .before .before .before .before .before .args in
+    let l = c .before .before .before .before .before .before .before .before .before .before .before .before .before .before .before .before .loop in
+    let p = l .inv .0 in
+    let f = c .before .before .before .before .before .before .before .f .given .0 .0 in
+    let q = scans-value (now (a .s)) (read (a .depth) (drop (l .i) (now (a .s)))) f (rw (c .before .before .before .before .before .before .before .f .given .1) at (c .before .before .before .before .before .before .before .before .before .before .before .before .before .value .ensures)) in
+    let w = rw (c .before .j .given .1) at (c .before .before .before .after-item .ensures) in (
+      subst (Progress (now (a .s)) (a .at) (a .depth) _) (sym (c .before .before .before .before .added .ensures)) (goes-on (now (a .s)) (a .at) (a .depth) (l .i) (l .sum) p f q _ w),
+      c .before .before .before .before .before .before .before .before .before .before .before .before .before .value .kept .1 .1 .1 .0 ∙ c .before .before .before .before .before .before .before .before .before .before .before .before .before .before .before .before .loop .inv .1,
+      c .before .before .before .before .before .before .before .before .before .before .before .before .before .value .kept .1 .1 .1 .1 .0 ∙ c .before .before .before .before .before .before .before .before .before .before .before .before .before .before .before .before .loop .inv .2,
+    )
+
+-- src/lib.rt:254:26
+array-enum-known-e-2 : (t : ℕ) → array-lts.Need-enum-known-e-2 (
+  skip-spaces-reads.Asked,
+  skip-spaces-reads.Learnt,
+  stands-reads.Asked,
+  stands-reads.Learnt,
+  plain-reads.Asked,
+  plain-reads.Learnt,
+  value-below t,
+  value.Post,
+  added-reads.Asked,
+  added-reads.Learnt,
+  after-item-reads.Asked,
+  after-item-reads.Learnt,
+) (array-at t) array.Post array-Inv-loop array-μ-loop
+array-enum-known-e-2 t c = search needs
+
+-- src/lib.rt:254:32
+array-same-length-5 : (t : ℕ) → array-lts.Need-same-length-5 (
+  skip-spaces-reads.Asked,
+  skip-spaces-reads.Learnt,
+  stands-reads.Asked,
+  stands-reads.Learnt,
+  plain-reads.Asked,
+  plain-reads.Learnt,
+  value-below t,
+  value.Post,
+  added-reads.Asked,
+  added-reads.Learnt,
+  after-item-reads.Asked,
+  after-item-reads.Learnt,
+) (array-at t) array.Post array-Inv-loop array-μ-loop
+array-same-length-5 t c = c .before .before .before .before .before .before .before .before .before .before .before .before .before .value .kept .1 .1 .1 .0 ∙ c .before .before .before .before .before .before .before .before .before .before .before .before .before .before .before .before .loop .inv .1
+
+-- src/lib.rt:254:32
+array-same-length-6 : (t : ℕ) → array-lts.Need-same-length-6 (
+  skip-spaces-reads.Asked,
+  skip-spaces-reads.Learnt,
+  stands-reads.Asked,
+  stands-reads.Learnt,
+  plain-reads.Asked,
+  plain-reads.Learnt,
+  value-below t,
+  value.Post,
+  added-reads.Asked,
+  added-reads.Learnt,
+  after-item-reads.Asked,
+  after-item-reads.Learnt,
+) (array-at t) array.Post array-Inv-loop array-μ-loop
+array-same-length-6 t c = c .before .before .before .before .before .before .before .before .before .before .before .before .before .value .kept .1 .1 .1 .1 .0 ∙ c .before .before .before .before .before .before .before .before .before .before .before .before .before .before .before .before .loop .inv .2
+
+-- src/lib.rt:254:32
+array-returns-4 : (t : ℕ) → array-lts.Need-returns-4 (
+  skip-spaces-reads.Asked,
+  skip-spaces-reads.Learnt,
+  stands-reads.Asked,
+  stands-reads.Learnt,
+  plain-reads.Asked,
+  plain-reads.Learnt,
+  value-below t,
+  value.Post,
+  added-reads.Asked,
+  added-reads.Learnt,
+  after-item-reads.Asked,
+  after-item-reads.Learnt,
+) (array-at t) array.Post array-Inv-loop array-μ-loop
+array-returns-4 t c =
+    let a = c .before .before .before .before .before .before .before .before .before .before .before .before .before .before .before .before .before .before .before .before .before .before .before .args in
+    let l = c .before .before .before .before .before .before .before .before .before .before .before .before .before .before .before .before .loop in
+    let p = l .inv .0 in
+    let f = c .before .before .before .before .before .before .before .f .given .0 .0 in
+    let q = scans-value (now (a .s)) (read (a .depth) (drop (l .i) (now (a .s)))) f (rw (c .before .before .before .before .before .before .before .f .given .1) at (c .before .before .before .before .before .before .before .before .before .before .before .before .before .value .ensures)) in
+    sticks (now (a .s)) (a .at) (a .depth) (l .i) (l .sum) p f q _ (rw (c .before .e2 .given .1) at (c .before .before .before .after-item .ensures))
+
+abbrev object-Inv-loop : object-lts.InvT-loop
+object-Inv-loop s at depth keys₀ spare₀ i₀ sum₀ n₀ keys spare i sum n =
+    objects.Progress s at depth i (take n keys) sum × (n ≤ length keys) × (length keys ≡ length keys₀) × (length spare ≡ length spare₀)
+
+abbrev object-μ-loop : object-lts.MeasureT-loop
+object-μ-loop s at depth keys₀ spare₀ i₀ sum₀ n₀ keys spare i sum n = length s - i
+
+-- src/lib.rt:305:9
+object-skip-spaces-requires : (t : ℕ) → object-lts.Need-skip-spaces-requires (
+  skip-spaces-reads.Asked,
+  skip-spaces-reads.Learnt,
+  stands-reads.Asked,
+  stands-reads.Learnt,
+  plain-reads.Asked,
+  plain-reads.Learnt,
+  key-reads.Asked,
+  key-reads.Learnt,
+  mark-reads.Asked,
+  mark-reads.Learnt,
+  value-below t,
+  value.Post,
+  member-reads.Asked,
+  member-reads.Learnt,
+  added-reads.Asked,
+  added-reads.Learnt,
+  after-item-reads.Asked,
+  after-item-reads.Learnt,
+  closed-reads.Asked,
+  closed-reads.Learnt,
+) (object-at t) object.Post object-Inv-loop object-μ-loop
+object-skip-spaces-requires t c κs = c .before .before .before .pre .1 .0 .within
+
+-- src/lib.rt:306:8
+object-stands-requires : (t : ℕ) → object-lts.Need-stands-requires (
+  skip-spaces-reads.Asked,
+  skip-spaces-reads.Learnt,
+  stands-reads.Asked,
+  stands-reads.Learnt,
+  plain-reads.Asked,
+  plain-reads.Learnt,
+  key-reads.Asked,
+  key-reads.Learnt,
+  mark-reads.Asked,
+  mark-reads.Learnt,
+  value-below t,
+  value.Post,
+  member-reads.Asked,
+  member-reads.Learnt,
+  added-reads.Asked,
+  added-reads.Learnt,
+  after-item-reads.Asked,
+  after-item-reads.Learnt,
+  closed-reads.Asked,
+  closed-reads.Learnt,
+) (object-at t) object.Post object-Inv-loop object-μ-loop
+object-stands-requires t c κs = search needs
+
+-- src/lib.rt:307:22
+object-add-plain : (t : ℕ) → object-lts.Need-add-plain (
+  skip-spaces-reads.Asked,
+  skip-spaces-reads.Learnt,
+  stands-reads.Asked,
+  stands-reads.Learnt,
+  plain-reads.Asked,
+  plain-reads.Learnt,
+  key-reads.Asked,
+  key-reads.Learnt,
+  mark-reads.Asked,
+  mark-reads.Learnt,
+  value-below t,
+  value.Post,
+  member-reads.Asked,
+  member-reads.Learnt,
+  added-reads.Asked,
+  added-reads.Learnt,
+  after-item-reads.Asked,
+  after-item-reads.Learnt,
+  closed-reads.Asked,
+  closed-reads.Learnt,
+) (object-at t) object.Post object-Inv-loop object-μ-loop
+object-add-plain t c = omega (arith, c .before .stands .ensures .0 (c .if1 .taken) .0)
+
+-- src/lib.rt:307:9
+object-plain-requires : (t : ℕ) → object-lts.Need-plain-requires (
+  skip-spaces-reads.Asked,
+  skip-spaces-reads.Learnt,
+  stands-reads.Asked,
+  stands-reads.Learnt,
+  plain-reads.Asked,
+  plain-reads.Learnt,
+  key-reads.Asked,
+  key-reads.Learnt,
+  mark-reads.Asked,
+  mark-reads.Learnt,
+  value-below t,
+  value.Post,
+  member-reads.Asked,
+  member-reads.Learnt,
+  added-reads.Asked,
+  added-reads.Learnt,
+  after-item-reads.Asked,
+  after-item-reads.Learnt,
+  closed-reads.Asked,
+  closed-reads.Learnt,
+) (object-at t) object.Post object-Inv-loop object-μ-loop
+object-plain-requires t c κs = search needs
+
+-- src/lib.rt:307:9
+object-returns : (t : ℕ) → object-lts.Need-returns (
+  skip-spaces-reads.Asked,
+  skip-spaces-reads.Learnt,
+  stands-reads.Asked,
+  stands-reads.Learnt,
+  plain-reads.Asked,
+  plain-reads.Learnt,
+  key-reads.Asked,
+  key-reads.Learnt,
+  mark-reads.Asked,
+  mark-reads.Learnt,
+  value-below t,
+  value.Post,
+  member-reads.Asked,
+  member-reads.Learnt,
+  added-reads.Asked,
+  added-reads.Learnt,
+  after-item-reads.Asked,
+  after-item-reads.Learnt,
+  closed-reads.Asked,
+  closed-reads.Learnt,
+) (object-at t) object.Post object-Inv-loop object-μ-loop
+object-returns t c =
+    let a = c .before .before .before .before .before .before .before .args in
+    let h = c .before .before .stands .ensures .0 (c .before .if1 .taken) in
+    subst (Scans (now (a .s)) (readObject (a .depth) (drop (a .at) (now (a .s))))) (sym (c .plain .ensures)) (objects.empty (now (a .s)) (a .at) (a .depth) _ (c .before .before .before .skip-spaces .ensures) (h .0) (h .1))
+
+-- src/lib.rt:316:5
+object-loop-holds : (t : ℕ) → object-lts.Need-loop-holds (
+  skip-spaces-reads.Asked,
+  skip-spaces-reads.Learnt,
+  stands-reads.Asked,
+  stands-reads.Learnt,
+  plain-reads.Asked,
+  plain-reads.Learnt,
+  key-reads.Asked,
+  key-reads.Learnt,
+  mark-reads.Asked,
+  mark-reads.Learnt,
+  value-below t,
+  value.Post,
+  member-reads.Asked,
+  member-reads.Learnt,
+  added-reads.Asked,
+  added-reads.Learnt,
+  after-item-reads.Asked,
+  after-item-reads.Learnt,
+  closed-reads.Asked,
+  closed-reads.Learnt,
+) (object-at t) object.Post object-Inv-loop object-μ-loop
+object-loop-holds t c =
+    let a = c .before .before .before .before .before .before .args in
+    (objects.start (now (a .s)) (a .at) (a .depth) _ (c .before .before .skip-spaces .ensures) (c .before .stands .ensures .1 (c .if1 .left)), omega arith, refl, refl)
+
+-- src/lib.rt:317:26
+object-key-requires : (t : ℕ) → object-lts.Need-key-requires (
+  skip-spaces-reads.Asked,
+  skip-spaces-reads.Learnt,
+  stands-reads.Asked,
+  stands-reads.Learnt,
+  plain-reads.Asked,
+  plain-reads.Learnt,
+  key-reads.Asked,
+  key-reads.Learnt,
+  mark-reads.Asked,
+  mark-reads.Learnt,
+  value-below t,
+  value.Post,
+  member-reads.Asked,
+  member-reads.Learnt,
+  added-reads.Asked,
+  added-reads.Learnt,
+  after-item-reads.Asked,
+  after-item-reads.Learnt,
+  closed-reads.Asked,
+  closed-reads.Learnt,
+) (object-at t) object.Post object-Inv-loop object-μ-loop
+object-key-requires t c κs = c .loop .inv .0 .within
+
+-- src/lib.rt:318:33
+object-enum-known-end : (t : ℕ) → object-lts.Need-enum-known-end (
+  skip-spaces-reads.Asked,
+  skip-spaces-reads.Learnt,
+  stands-reads.Asked,
+  stands-reads.Learnt,
+  plain-reads.Asked,
+  plain-reads.Learnt,
+  key-reads.Asked,
+  key-reads.Learnt,
+  mark-reads.Asked,
+  mark-reads.Learnt,
+  value-below t,
+  value.Post,
+  member-reads.Asked,
+  member-reads.Learnt,
+  added-reads.Asked,
+  added-reads.Learnt,
+  after-item-reads.Asked,
+  after-item-reads.Learnt,
+  closed-reads.Asked,
+  closed-reads.Learnt,
+) (object-at t) object.Post object-Inv-loop object-μ-loop
+object-enum-known-end t c = search needs
+
+-- src/lib.rt:320:24
+object-mark-requires : (t : ℕ) → object-lts.Need-mark-requires (
+  skip-spaces-reads.Asked,
+  skip-spaces-reads.Learnt,
+  stands-reads.Asked,
+  stands-reads.Learnt,
+  plain-reads.Asked,
+  plain-reads.Learnt,
+  key-reads.Asked,
+  key-reads.Learnt,
+  mark-reads.Asked,
+  mark-reads.Learnt,
+  value-below t,
+  value.Post,
+  member-reads.Asked,
+  member-reads.Learnt,
+  added-reads.Asked,
+  added-reads.Learnt,
+  after-item-reads.Asked,
+  after-item-reads.Learnt,
+  closed-reads.Asked,
+  closed-reads.Learnt,
+) (object-at t) object.Post object-Inv-loop object-μ-loop
+object-mark-requires t c κs = c .before .before .before .before .loop .inv .0 .within
+
+-- src/lib.rt:323:33
+object-enum-known-e : (t : ℕ) → object-lts.Need-enum-known-e (
+  skip-spaces-reads.Asked,
+  skip-spaces-reads.Learnt,
+  stands-reads.Asked,
+  stands-reads.Learnt,
+  plain-reads.Asked,
+  plain-reads.Learnt,
+  key-reads.Asked,
+  key-reads.Learnt,
+  mark-reads.Asked,
+  mark-reads.Learnt,
+  value-below t,
+  value.Post,
+  member-reads.Asked,
+  member-reads.Learnt,
+  added-reads.Asked,
+  added-reads.Learnt,
+  after-item-reads.Asked,
+  after-item-reads.Learnt,
+  closed-reads.Asked,
+  closed-reads.Learnt,
+) (object-at t) object.Post object-Inv-loop object-μ-loop
+object-enum-known-e t c = search needs
+
+-- src/lib.rt:323:39
+object-same-length : (t : ℕ) → object-lts.Need-same-length (
+  skip-spaces-reads.Asked,
+  skip-spaces-reads.Learnt,
+  stands-reads.Asked,
+  stands-reads.Learnt,
+  plain-reads.Asked,
+  plain-reads.Learnt,
+  key-reads.Asked,
+  key-reads.Learnt,
+  mark-reads.Asked,
+  mark-reads.Learnt,
+  value-below t,
+  value.Post,
+  member-reads.Asked,
+  member-reads.Learnt,
+  added-reads.Asked,
+  added-reads.Learnt,
+  after-item-reads.Asked,
+  after-item-reads.Learnt,
+  closed-reads.Asked,
+  closed-reads.Learnt,
+) (object-at t) object.Post object-Inv-loop object-μ-loop
+object-same-length t c = c .before .before .before .before .loop .inv .2
+
+-- src/lib.rt:323:39
+object-same-length-2 : (t : ℕ) → object-lts.Need-same-length-2 (
+  skip-spaces-reads.Asked,
+  skip-spaces-reads.Learnt,
+  stands-reads.Asked,
+  stands-reads.Learnt,
+  plain-reads.Asked,
+  plain-reads.Learnt,
+  key-reads.Asked,
+  key-reads.Learnt,
+  mark-reads.Asked,
+  mark-reads.Learnt,
+  value-below t,
+  value.Post,
+  member-reads.Asked,
+  member-reads.Learnt,
+  added-reads.Asked,
+  added-reads.Learnt,
+  after-item-reads.Asked,
+  after-item-reads.Learnt,
+  closed-reads.Asked,
+  closed-reads.Learnt,
+) (object-at t) object.Post object-Inv-loop object-μ-loop
+object-same-length-2 t c = c .before .before .before .before .loop .inv .3
+
+-- src/lib.rt:323:39
+object-returns-2 : (t : ℕ) → object-lts.Need-returns-2 (
+  skip-spaces-reads.Asked,
+  skip-spaces-reads.Learnt,
+  stands-reads.Asked,
+  stands-reads.Learnt,
+  plain-reads.Asked,
+  plain-reads.Learnt,
+  key-reads.Asked,
+  key-reads.Learnt,
+  mark-reads.Asked,
+  mark-reads.Learnt,
+  value-below t,
+  value.Post,
+  member-reads.Asked,
+  member-reads.Learnt,
+  added-reads.Asked,
+  added-reads.Learnt,
+  after-item-reads.Asked,
+  after-item-reads.Learnt,
+  closed-reads.Asked,
+  closed-reads.Learnt,
+) (object-at t) object.Post object-Inv-loop object-μ-loop
+object-returns-2 t c =
+    let a = c .before .before .before .before .before .before .before .before .before .before .before .args in
+    let l = c .before .before .before .before .loop in
+    let p = l .inv .0 in
+    objects.stuck-key (now (a .s)) (a .at) (a .depth) (l .i) (take (l .n) (l .keys)) (l .sum) p _ ((rw (c .before .e .given .1) at (c .before .before .before .key .ensures)) .1)
+
+-- src/lib.rt:325:19
+object-cast-keys : (t : ℕ) → object-lts.Need-cast-keys (
+  skip-spaces-reads.Asked,
+  skip-spaces-reads.Learnt,
+  stands-reads.Asked,
+  stands-reads.Learnt,
+  plain-reads.Asked,
+  plain-reads.Learnt,
+  key-reads.Asked,
+  key-reads.Learnt,
+  mark-reads.Asked,
+  mark-reads.Learnt,
+  value-below t,
+  value.Post,
+  member-reads.Asked,
+  member-reads.Learnt,
+  added-reads.Asked,
+  added-reads.Learnt,
+  after-item-reads.Asked,
+  after-item-reads.Learnt,
+  closed-reads.Asked,
+  closed-reads.Learnt,
+) (object-at t) object.Post object-Inv-loop object-μ-loop
+object-cast-keys t c = omega (arith, c .before .before .before .before .before .loop .inv .0 .within, c .before .before .before .before .before .before .before .before .before .before .before .before .pre .1 .0 .short)
+
+-- src/lib.rt:325:9
+object-mul-keys : (t : ℕ) → object-lts.Need-mul-keys (
+  skip-spaces-reads.Asked,
+  skip-spaces-reads.Learnt,
+  stands-reads.Asked,
+  stands-reads.Learnt,
+  plain-reads.Asked,
+  plain-reads.Learnt,
+  key-reads.Asked,
+  key-reads.Learnt,
+  mark-reads.Asked,
+  mark-reads.Learnt,
+  value-below t,
+  value.Post,
+  member-reads.Asked,
+  member-reads.Learnt,
+  added-reads.Asked,
+  added-reads.Learnt,
+  after-item-reads.Asked,
+  after-item-reads.Learnt,
+  closed-reads.Asked,
+  closed-reads.Learnt,
+) (object-at t) object.Post object-Inv-loop object-μ-loop
+object-mul-keys t c =
+    let a = c .before .before .before .before .before .before .before .before .before .before .before .before .args in
+    let l = c .before .before .before .before .before .loop in
+    let p = l .inv .0 in
+    let k = rw (c .before .before .end .given .1) at (c .before .before .before .before .key .ensures) in
+    let q = objects.token-name (now (a .s)) (l .i) _ _ _ _ (k .0) (k .1) (c .mark .ensures) in
+    let n = length-take-le (l .n) (l .keys) (l .inv .1) in
+    let h = objects.key-room (now (a .s)) (a .at) (a .depth) (l .i) (take (l .n) (l .keys)) (l .sum) p _ _ _ q (length (l .keys)) (omega (arith, c .before .before .before .before .before .before .before .before .before .before .before .before .pre .1 .1, l .inv .2)) in
+    omega (arith, n, p .from, p .within, c .before .before .before .before .before .before .before .before .before .before .before .before .pre .1 .0 .short)
+
+-- src/lib.rt:325:9
+object-slice-write-keys : (t : ℕ) → object-lts.Need-slice-write-keys (
+  skip-spaces-reads.Asked,
+  skip-spaces-reads.Learnt,
+  stands-reads.Asked,
+  stands-reads.Learnt,
+  plain-reads.Asked,
+  plain-reads.Learnt,
+  key-reads.Asked,
+  key-reads.Learnt,
+  mark-reads.Asked,
+  mark-reads.Learnt,
+  value-below t,
+  value.Post,
+  member-reads.Asked,
+  member-reads.Learnt,
+  added-reads.Asked,
+  added-reads.Learnt,
+  after-item-reads.Asked,
+  after-item-reads.Learnt,
+  closed-reads.Asked,
+  closed-reads.Learnt,
+) (object-at t) object.Post object-Inv-loop object-μ-loop
+object-slice-write-keys t c =
+    let a = c .before .before .before .before .before .before .before .before .before .before .before .before .args in
+    let l = c .before .before .before .before .before .loop in
+    let p = l .inv .0 in
+    let k = rw (c .before .before .end .given .1) at (c .before .before .before .before .key .ensures) in
+    let q = objects.token-name (now (a .s)) (l .i) _ _ _ _ (k .0) (k .1) (c .mark .ensures) in
+    let n = length-take-le (l .n) (l .keys) (l .inv .1) in
+    let h = objects.key-room (now (a .s)) (a .at) (a .depth) (l .i) (take (l .n) (l .keys)) (l .sum) p _ _ _ q (length (l .keys)) (omega (arith, c .before .before .before .before .before .before .before .before .before .before .before .before .pre .1 .1, l .inv .2)) in
+    omega (arith, n, h)
+
+-- src/lib.rt:326:9
+object-add-n : (t : ℕ) → object-lts.Need-add-n (
+  skip-spaces-reads.Asked,
+  skip-spaces-reads.Learnt,
+  stands-reads.Asked,
+  stands-reads.Learnt,
+  plain-reads.Asked,
+  plain-reads.Learnt,
+  key-reads.Asked,
+  key-reads.Learnt,
+  mark-reads.Asked,
+  mark-reads.Learnt,
+  value-below t,
+  value.Post,
+  member-reads.Asked,
+  member-reads.Learnt,
+  added-reads.Asked,
+  added-reads.Learnt,
+  after-item-reads.Asked,
+  after-item-reads.Learnt,
+  closed-reads.Asked,
+  closed-reads.Learnt,
+) (object-at t) object.Post object-Inv-loop object-μ-loop
+object-add-n t c =
+    let a = c .before .before .before .before .before .before .before .before .before .before .before .before .args in
+    let l = c .before .before .before .before .before .loop in
+    let p = l .inv .0 in
+    let k = rw (c .before .before .end .given .1) at (c .before .before .before .before .key .ensures) in
+    let q = objects.token-name (now (a .s)) (l .i) _ _ _ _ (k .0) (k .1) (c .mark .ensures) in
+    let n = length-take-le (l .n) (l .keys) (l .inv .1) in
+    let h = objects.key-room (now (a .s)) (a .at) (a .depth) (l .i) (take (l .n) (l .keys)) (l .sum) p _ _ _ q (length (l .keys)) (omega (arith, c .before .before .before .before .before .before .before .before .before .before .before .before .pre .1 .1, l .inv .2)) in
+    omega (arith, n, p .from, p .within, c .before .before .before .before .before .before .before .before .before .before .before .before .pre .1 .0 .short)
+
+-- src/lib.rt:327:51
+object-mul-value : (t : ℕ) → object-lts.Need-mul-value (
+  skip-spaces-reads.Asked,
+  skip-spaces-reads.Learnt,
+  stands-reads.Asked,
+  stands-reads.Learnt,
+  plain-reads.Asked,
+  plain-reads.Learnt,
+  key-reads.Asked,
+  key-reads.Learnt,
+  mark-reads.Asked,
+  mark-reads.Learnt,
+  value-below t,
+  value.Post,
+  member-reads.Asked,
+  member-reads.Learnt,
+  added-reads.Asked,
+  added-reads.Learnt,
+  after-item-reads.Asked,
+  after-item-reads.Learnt,
+  closed-reads.Asked,
+  closed-reads.Learnt,
+) (object-at t) object.Post object-Inv-loop object-μ-loop
+object-mul-value t c =
+    let a = c .before .before .before .before .before .before .before .before .before .before .before .before .args in
+    let l = c .before .before .before .before .before .loop in
+    let p = l .inv .0 in
+    let k = rw (c .before .before .end .given .1) at (c .before .before .before .before .key .ensures) in
+    let q = objects.token-name (now (a .s)) (l .i) _ _ _ _ (k .0) (k .1) (c .mark .ensures) in
+    let n = length-take-le (l .n) (l .keys) (l .inv .1) in
+    let h = objects.key-room (now (a .s)) (a .at) (a .depth) (l .i) (take (l .n) (l .keys)) (l .sum) p _ _ _ q (length (l .keys)) (omega (arith, c .before .before .before .before .before .before .before .before .before .before .before .before .pre .1 .1, l .inv .2)) in
+    omega (arith, n, p .from, p .within, c .before .before .before .before .before .before .before .before .before .before .before .before .pre .1 .0 .short)
+
+-- src/lib.rt:327:51
+object-sub-value : (t : ℕ) → object-lts.Need-sub-value (
+  skip-spaces-reads.Asked,
+  skip-spaces-reads.Learnt,
+  stands-reads.Asked,
+  stands-reads.Learnt,
+  plain-reads.Asked,
+  plain-reads.Learnt,
+  key-reads.Asked,
+  key-reads.Learnt,
+  mark-reads.Asked,
+  mark-reads.Learnt,
+  value-below t,
+  value.Post,
+  member-reads.Asked,
+  member-reads.Learnt,
+  added-reads.Asked,
+  added-reads.Learnt,
+  after-item-reads.Asked,
+  after-item-reads.Learnt,
+  closed-reads.Asked,
+  closed-reads.Learnt,
+) (object-at t) object.Post object-Inv-loop object-μ-loop
+object-sub-value t c =
+    let a = c .before .before .before .before .before .before .before .before .before .before .before .before .args in
+    let l = c .before .before .before .before .before .loop in
+    let p = l .inv .0 in
+    let k = rw (c .before .before .end .given .1) at (c .before .before .before .before .key .ensures) in
+    let q = objects.token-name (now (a .s)) (l .i) _ _ _ _ (k .0) (k .1) (c .mark .ensures) in
+    let n = length-take-le (l .n) (l .keys) (l .inv .1) in
+    let h = objects.key-room (now (a .s)) (a .at) (a .depth) (l .i) (take (l .n) (l .keys)) (l .sum) p _ _ _ q (length (l .keys)) (omega (arith, c .before .before .before .before .before .before .before .before .before .before .before .before .pre .1 .1, l .inv .2)) in
+    simp length-set (omega (arith, n, h))
+
+-- src/lib.rt:327:51
+object-part-value-start : (t : ℕ) → object-lts.Need-part-value-start (
+  skip-spaces-reads.Asked,
+  skip-spaces-reads.Learnt,
+  stands-reads.Asked,
+  stands-reads.Learnt,
+  plain-reads.Asked,
+  plain-reads.Learnt,
+  key-reads.Asked,
+  key-reads.Learnt,
+  mark-reads.Asked,
+  mark-reads.Learnt,
+  value-below t,
+  value.Post,
+  member-reads.Asked,
+  member-reads.Learnt,
+  added-reads.Asked,
+  added-reads.Learnt,
+  after-item-reads.Asked,
+  after-item-reads.Learnt,
+  closed-reads.Asked,
+  closed-reads.Learnt,
+) (object-at t) object.Post object-Inv-loop object-μ-loop
+object-part-value-start t c =
+    let a = c .before .before .before .before .before .before .before .before .before .before .before .before .args in
+    let l = c .before .before .before .before .before .loop in
+    let p = l .inv .0 in
+    let k = rw (c .before .before .end .given .1) at (c .before .before .before .before .key .ensures) in
+    let q = objects.token-name (now (a .s)) (l .i) _ _ _ _ (k .0) (k .1) (c .mark .ensures) in
+    let n = length-take-le (l .n) (l .keys) (l .inv .1) in
+    let h = objects.key-room (now (a .s)) (a .at) (a .depth) (l .i) (take (l .n) (l .keys)) (l .sum) p _ _ _ q (length (l .keys)) (omega (arith, c .before .before .before .before .before .before .before .before .before .before .before .before .pre .1 .1, l .inv .2)) in
+    simp length-set (omega (arith, n, h))
+
+-- src/lib.rt:327:51
+object-part-value-end : (t : ℕ) → object-lts.Need-part-value-end (
+  skip-spaces-reads.Asked,
+  skip-spaces-reads.Learnt,
+  stands-reads.Asked,
+  stands-reads.Learnt,
+  plain-reads.Asked,
+  plain-reads.Learnt,
+  key-reads.Asked,
+  key-reads.Learnt,
+  mark-reads.Asked,
+  mark-reads.Learnt,
+  value-below t,
+  value.Post,
+  member-reads.Asked,
+  member-reads.Learnt,
+  added-reads.Asked,
+  added-reads.Learnt,
+  after-item-reads.Asked,
+  after-item-reads.Learnt,
+  closed-reads.Asked,
+  closed-reads.Learnt,
+) (object-at t) object.Post object-Inv-loop object-μ-loop
+object-part-value-end t c =
+    let a = c .before .before .before .before .before .before .before .before .before .before .before .before .args in
+    let l = c .before .before .before .before .before .loop in
+    let p = l .inv .0 in
+    let k = rw (c .before .before .end .given .1) at (c .before .before .before .before .key .ensures) in
+    let q = objects.token-name (now (a .s)) (l .i) _ _ _ _ (k .0) (k .1) (c .mark .ensures) in
+    let n = length-take-le (l .n) (l .keys) (l .inv .1) in
+    let h = objects.key-room (now (a .s)) (a .at) (a .depth) (l .i) (take (l .n) (l .keys)) (l .sum) p _ _ _ q (length (l .keys)) (omega (arith, c .before .before .before .before .before .before .before .before .before .before .before .before .pre .1 .1, l .inv .2)) in
+    search needs
+
+-- src/lib.rt:327:23
+object-value-requires : (t : ℕ) → object-lts.Need-value-requires (
+  skip-spaces-reads.Asked,
+  skip-spaces-reads.Learnt,
+  stands-reads.Asked,
+  stands-reads.Learnt,
+  plain-reads.Asked,
+  plain-reads.Learnt,
+  key-reads.Asked,
+  key-reads.Learnt,
+  mark-reads.Asked,
+  mark-reads.Learnt,
+  value-below t,
+  value.Post,
+  member-reads.Asked,
+  member-reads.Learnt,
+  added-reads.Asked,
+  added-reads.Learnt,
+  after-item-reads.Asked,
+  after-item-reads.Learnt,
+  closed-reads.Asked,
+  closed-reads.Learnt,
+) (object-at t) object.Post object-Inv-loop object-μ-loop
+object-value-requires t c κs =
+    let a = c .before .before .before .before .before .before .before .before .before .before .before .before .before .before .args in
+    let l = c .before .before .before .before .before .before .before .loop in
+    let p = l .inv .0 in
+    let k = rw (c .before .before .before .before .end .given .1) at (c .before .before .before .before .before .before .key .ensures) in
+    let q = objects.token-name (now (a .s)) (l .i) _ _ _ _ (k .0) (k .1) (c .before .before .mark .ensures) in
+    let n = length-take-le (l .n) (l .keys) (l .inv .1) in
+    let r : length (now (a .s)) < a .at + 4 * length (l .keys) = omega (arith, c .before .before .before .before .before .before .before .before .before .before .before .before .before .before .pre .1 .1, l .inv .2) in
+    let h : l .n < length (l .keys) = omega (arith, n, objects.key-room (now (a .s)) (a .at) (a .depth) (l .i) (take (l .n) (l .keys)) (l .sum) p _ _ _ q (length (l .keys)) r) in
+    let b = c .before .before .before .before .before .before .before .before .before .before .before .before .before .before .pre in (
+      omega (arith, b .0),
+      record {
+        within = q .within;
+        short = b .1 .0 .short;
+        enough = omega (arith, objects.lent-length (l .keys) (l .n) (l .i) h, objects.value-room (now (a .s)) (a .at) (a .depth) (l .i) (take (l .n) (l .keys)) (l .sum) p _ _ _ q (length (l .keys)) r, n);
+        sorting = omega (arith, objects.lent-length (l .keys) (l .n) (l .i) h, b .1 .0 .sorting, l .inv .2, l .inv .3);
+      },
+    )
+
+-- src/lib.rt:328:28
+object-enum-known-f : (t : ℕ) → object-lts.Need-enum-known-f (
+  skip-spaces-reads.Asked,
+  skip-spaces-reads.Learnt,
+  stands-reads.Asked,
+  stands-reads.Learnt,
+  plain-reads.Asked,
+  plain-reads.Learnt,
+  key-reads.Asked,
+  key-reads.Learnt,
+  mark-reads.Asked,
+  mark-reads.Learnt,
+  value-below t,
+  value.Post,
+  member-reads.Asked,
+  member-reads.Learnt,
+  added-reads.Asked,
+  added-reads.Learnt,
+  after-item-reads.Asked,
+  after-item-reads.Learnt,
+  closed-reads.Asked,
+  closed-reads.Learnt,
+) (object-at t) object.Post object-Inv-loop object-μ-loop
+object-enum-known-f t c = search needs
+
+-- src/lib.rt:329:28
+object-enum-known-e-2 : (t : ℕ) → object-lts.Need-enum-known-e-2 (
+  skip-spaces-reads.Asked,
+  skip-spaces-reads.Learnt,
+  stands-reads.Asked,
+  stands-reads.Learnt,
+  plain-reads.Asked,
+  plain-reads.Learnt,
+  key-reads.Asked,
+  key-reads.Learnt,
+  mark-reads.Asked,
+  mark-reads.Learnt,
+  value-below t,
+  value.Post,
+  member-reads.Asked,
+  member-reads.Learnt,
+  added-reads.Asked,
+  added-reads.Learnt,
+  after-item-reads.Asked,
+  after-item-reads.Learnt,
+  closed-reads.Asked,
+  closed-reads.Learnt,
+) (object-at t) object.Post object-Inv-loop object-μ-loop
+object-enum-known-e-2 t c = search needs
+
+-- src/lib.rt:329:34
+object-same-length-3 : (t : ℕ) → object-lts.Need-same-length-3 (
+  skip-spaces-reads.Asked,
+  skip-spaces-reads.Learnt,
+  stands-reads.Asked,
+  stands-reads.Learnt,
+  plain-reads.Asked,
+  plain-reads.Learnt,
+  key-reads.Asked,
+  key-reads.Learnt,
+  mark-reads.Asked,
+  mark-reads.Learnt,
+  value-below t,
+  value.Post,
+  member-reads.Asked,
+  member-reads.Learnt,
+  added-reads.Asked,
+  added-reads.Learnt,
+  after-item-reads.Asked,
+  after-item-reads.Learnt,
+  closed-reads.Asked,
+  closed-reads.Learnt,
+) (object-at t) object.Post object-Inv-loop object-μ-loop
+object-same-length-3 t c =
+    let a = c .before .before .before .before .before .before .before .before .before .before .before .before .before .before .before .before .before .before .before .before .before .before .args in
+    let l = c .before .before .before .before .before .before .before .before .before .before .before .before .before .before .before .loop in
+    let p = l .inv .0 in
+    let k = rw (c .before .before .before .before .before .before .before .before .before .before .before .before .end .given .1) at (c .before .before .before .before .before .before .before .before .before .before .before .before .before .before .key .ensures) in
+    let q = objects.token-name (now (a .s)) (l .i) _ _ _ _ (k .0) (k .1) (c .before .before .before .before .before .before .before .before .before .before .mark .ensures) in
+    let n = length-take-le (l .n) (l .keys) (l .inv .1) in
+    let r : length (now (a .s)) < a .at + 4 * length (l .keys) = omega (arith, c .before .before .before .before .before .before .before .before .before .before .before .before .before .before .before .before .before .before .before .before .before .before .pre .1 .1, l .inv .2) in
+    let h : l .n < length (l .keys) = omega (arith, n, objects.key-room (now (a .s)) (a .at) (a .depth) (l .i) (take (l .n) (l .keys)) (l .sum) p _ _ _ q (length (l .keys)) r) in
+    objects.stored-length (l .keys) (l .n) (l .i) h (c .before .before .before .before .before .before .before .value .last .1 .1 .1 .0) (c .before .before .before .before .before .before .before .value .kept .1 .1 .1 .0) ∙ l .inv .2
+
+-- src/lib.rt:329:34
+object-same-length-4 : (t : ℕ) → object-lts.Need-same-length-4 (
+  skip-spaces-reads.Asked,
+  skip-spaces-reads.Learnt,
+  stands-reads.Asked,
+  stands-reads.Learnt,
+  plain-reads.Asked,
+  plain-reads.Learnt,
+  key-reads.Asked,
+  key-reads.Learnt,
+  mark-reads.Asked,
+  mark-reads.Learnt,
+  value-below t,
+  value.Post,
+  member-reads.Asked,
+  member-reads.Learnt,
+  added-reads.Asked,
+  added-reads.Learnt,
+  after-item-reads.Asked,
+  after-item-reads.Learnt,
+  closed-reads.Asked,
+  closed-reads.Learnt,
+) (object-at t) object.Post object-Inv-loop object-μ-loop
+object-same-length-4 t c =
+    let a = c .before .before .before .before .before .before .before .before .before .before .before .before .before .before .before .before .before .before .before .before .before .before .args in
+    let l = c .before .before .before .before .before .before .before .before .before .before .before .before .before .before .before .loop in
+    let p = l .inv .0 in
+    let k = rw (c .before .before .before .before .before .before .before .before .before .before .before .before .end .given .1) at (c .before .before .before .before .before .before .before .before .before .before .before .before .before .before .key .ensures) in
+    let q = objects.token-name (now (a .s)) (l .i) _ _ _ _ (k .0) (k .1) (c .before .before .before .before .before .before .before .before .before .before .mark .ensures) in
+    let n = length-take-le (l .n) (l .keys) (l .inv .1) in
+    let r : length (now (a .s)) < a .at + 4 * length (l .keys) = omega (arith, c .before .before .before .before .before .before .before .before .before .before .before .before .before .before .before .before .before .before .before .before .before .before .pre .1 .1, l .inv .2) in
+    let h : l .n < length (l .keys) = omega (arith, n, objects.key-room (now (a .s)) (a .at) (a .depth) (l .i) (take (l .n) (l .keys)) (l .sum) p _ _ _ q (length (l .keys)) r) in
+    c .before .before .before .before .before .before .before .value .kept .1 .1 .1 .1 .0 ∙ l .inv .3
+
+-- src/lib.rt:329:34
+object-returns-3 : (t : ℕ) → object-lts.Need-returns-3 (
+  skip-spaces-reads.Asked,
+  skip-spaces-reads.Learnt,
+  stands-reads.Asked,
+  stands-reads.Learnt,
+  plain-reads.Asked,
+  plain-reads.Learnt,
+  key-reads.Asked,
+  key-reads.Learnt,
+  mark-reads.Asked,
+  mark-reads.Learnt,
+  value-below t,
+  value.Post,
+  member-reads.Asked,
+  member-reads.Learnt,
+  added-reads.Asked,
+  added-reads.Learnt,
+  after-item-reads.Asked,
+  after-item-reads.Learnt,
+  closed-reads.Asked,
+  closed-reads.Learnt,
+) (object-at t) object.Post object-Inv-loop object-μ-loop
+object-returns-3 t c =
+    let a = c .before .before .before .before .before .before .before .before .before .before .before .before .before .before .before .before .before .before .before .before .before .before .args in
+    let l = c .before .before .before .before .before .before .before .before .before .before .before .before .before .before .before .loop in
+    let p = l .inv .0 in
+    let k = rw (c .before .before .before .before .before .before .before .before .before .before .before .before .end .given .1) at (c .before .before .before .before .before .before .before .before .before .before .before .before .before .before .key .ensures) in
+    let q = objects.token-name (now (a .s)) (l .i) _ _ _ _ (k .0) (k .1) (c .before .before .before .before .before .before .before .before .before .before .mark .ensures) in
+    let n = length-take-le (l .n) (l .keys) (l .inv .1) in
+    let r : length (now (a .s)) < a .at + 4 * length (l .keys) = omega (arith, c .before .before .before .before .before .before .before .before .before .before .before .before .before .before .before .before .before .before .before .before .before .before .pre .1 .1, l .inv .2) in
+    let h : l .n < length (l .keys) = omega (arith, n, objects.key-room (now (a .s)) (a .at) (a .depth) (l .i) (take (l .n) (l .keys)) (l .sum) p _ _ _ q (length (l .keys)) r) in
+    objects.stuck-value (now (a .s)) (a .at) (a .depth) (l .i) (take (l .n) (l .keys)) (l .sum) p _ _ _ q _ (rw (c .before .e2 .given .1) at (c .before .before .before .before .before .before .before .value .ensures))
+
+-- src/lib.rt:331:26
+object-member-requires : (t : ℕ) → object-lts.Need-member-requires (
+  skip-spaces-reads.Asked,
+  skip-spaces-reads.Learnt,
+  stands-reads.Asked,
+  stands-reads.Learnt,
+  plain-reads.Asked,
+  plain-reads.Learnt,
+  key-reads.Asked,
+  key-reads.Learnt,
+  mark-reads.Asked,
+  mark-reads.Learnt,
+  value-below t,
+  value.Post,
+  member-reads.Asked,
+  member-reads.Learnt,
+  added-reads.Asked,
+  added-reads.Learnt,
+  after-item-reads.Asked,
+  after-item-reads.Learnt,
+  closed-reads.Asked,
+  closed-reads.Learnt,
+) (object-at t) object.Post object-Inv-loop object-μ-loop
+object-member-requires t c κs =
+    let a = c .before .before .before .before .before .before .before .before .before .before .before .before .before .before .before .before .before .before .before .before .before .before .args in
+    let l = c .before .before .before .before .before .before .before .before .before .before .before .before .before .before .before .loop in
+    let p = l .inv .0 in
+    let k = rw (c .before .before .before .before .before .before .before .before .before .before .before .before .end .given .1) at (c .before .before .before .before .before .before .before .before .before .before .before .before .before .before .key .ensures) in
+    let q = objects.token-name (now (a .s)) (l .i) _ _ _ _ (k .0) (k .1) (c .before .before .before .before .before .before .before .before .before .before .mark .ensures) in
+    let n = length-take-le (l .n) (l .keys) (l .inv .1) in
+    let r : length (now (a .s)) < a .at + 4 * length (l .keys) = omega (arith, c .before .before .before .before .before .before .before .before .before .before .before .before .before .before .before .before .before .before .before .before .before .before .pre .1 .1, l .inv .2) in
+    let h : l .n < length (l .keys) = omega (arith, n, objects.key-room (now (a .s)) (a .at) (a .depth) (l .i) (take (l .n) (l .keys)) (l .sum) p _ _ _ q (length (l .keys)) r) in
+    let f = c .before .f .given .0 .0 in
+    let z = scans-value (now (a .s)) (read (a .depth) (drop (c .before .before .before .before .before .before .before .before .before .before .before .before .end .given .0 .0) (now (a .s)))) f (rw (c .before .f .given .1) at (c .before .before .before .before .before .before .before .value .ensures)) in
+    omega (arith, objects.fits (now (a .s)) (a .at) (a .depth) (l .i) (take (l .n) (l .keys)) (l .sum) p _ _ _ q f z, z .within, c .before .before .before .before .before .before .before .before .before .before .before .before .before .before .before .before .before .before .before .before .before .before .pre .1 .0 .short)
+
+-- src/lib.rt:331:9
+object-added-requires : (t : ℕ) → object-lts.Need-added-requires (
+  skip-spaces-reads.Asked,
+  skip-spaces-reads.Learnt,
+  stands-reads.Asked,
+  stands-reads.Learnt,
+  plain-reads.Asked,
+  plain-reads.Learnt,
+  key-reads.Asked,
+  key-reads.Learnt,
+  mark-reads.Asked,
+  mark-reads.Learnt,
+  value-below t,
+  value.Post,
+  member-reads.Asked,
+  member-reads.Learnt,
+  added-reads.Asked,
+  added-reads.Learnt,
+  after-item-reads.Asked,
+  after-item-reads.Learnt,
+  closed-reads.Asked,
+  closed-reads.Learnt,
+) (object-at t) object.Post object-Inv-loop object-μ-loop
+object-added-requires t c κs =
+    let a = c .before .before .before .before .before .before .before .before .before .before .before .before .before .before .before .before .before .before .before .before .before .before .before .args in
+    let l = c .before .before .before .before .before .before .before .before .before .before .before .before .before .before .before .before .loop in
+    let p = l .inv .0 in
+    let k = rw (c .before .before .before .before .before .before .before .before .before .before .before .before .before .end .given .1) at (c .before .before .before .before .before .before .before .before .before .before .before .before .before .before .before .key .ensures) in
+    let q = objects.token-name (now (a .s)) (l .i) _ _ _ _ (k .0) (k .1) (c .before .before .before .before .before .before .before .before .before .before .before .mark .ensures) in
+    let n = length-take-le (l .n) (l .keys) (l .inv .1) in
+    let r : length (now (a .s)) < a .at + 4 * length (l .keys) = omega (arith, c .before .before .before .before .before .before .before .before .before .before .before .before .before .before .before .before .before .before .before .before .before .before .before .pre .1 .1, l .inv .2) in
+    let h : l .n < length (l .keys) = omega (arith, n, objects.key-room (now (a .s)) (a .at) (a .depth) (l .i) (take (l .n) (l .keys)) (l .sum) p _ _ _ q (length (l .keys)) r) in
+    let f = c .before .before .f .given .0 .0 in
+    let z = scans-value (now (a .s)) (read (a .depth) (drop (c .before .before .before .before .before .before .before .before .before .before .before .before .before .end .given .0 .0) (now (a .s)))) f (rw (c .before .before .f .given .1) at (c .before .before .before .before .before .before .before .before .value .ensures)) in
+    let m = objects.member-size _ _ _ _ (c .member .ensures) in
+    omega (arith, m, objects.fits (now (a .s)) (a .at) (a .depth) (l .i) (take (l .n) (l .keys)) (l .sum) p _ _ _ q f z, z .within, c .before .before .before .before .before .before .before .before .before .before .before .before .before .before .before .before .before .before .before .before .before .before .before .pre .1 .0 .short)
+
+-- src/lib.rt:332:15
+object-after-item-requires : (t : ℕ) → object-lts.Need-after-item-requires (
+  skip-spaces-reads.Asked,
+  skip-spaces-reads.Learnt,
+  stands-reads.Asked,
+  stands-reads.Learnt,
+  plain-reads.Asked,
+  plain-reads.Learnt,
+  key-reads.Asked,
+  key-reads.Learnt,
+  mark-reads.Asked,
+  mark-reads.Learnt,
+  value-below t,
+  value.Post,
+  member-reads.Asked,
+  member-reads.Learnt,
+  added-reads.Asked,
+  added-reads.Learnt,
+  after-item-reads.Asked,
+  after-item-reads.Learnt,
+  closed-reads.Asked,
+  closed-reads.Learnt,
+) (object-at t) object.Post object-Inv-loop object-μ-loop
+object-after-item-requires t c κs =
+    let a = c .before .before .before .before .before .before .before .before .before .before .before .before .before .before .before .before .before .before .before .before .before .before .before .before .args in
+    let l = c .before .before .before .before .before .before .before .before .before .before .before .before .before .before .before .before .before .loop in
+    let p = l .inv .0 in
+    let k = rw (c .before .before .before .before .before .before .before .before .before .before .before .before .before .before .end .given .1) at (c .before .before .before .before .before .before .before .before .before .before .before .before .before .before .before .before .key .ensures) in
+    let q = objects.token-name (now (a .s)) (l .i) _ _ _ _ (k .0) (k .1) (c .before .before .before .before .before .before .before .before .before .before .before .before .mark .ensures) in
+    let n = length-take-le (l .n) (l .keys) (l .inv .1) in
+    let r : length (now (a .s)) < a .at + 4 * length (l .keys) = omega (arith, c .before .before .before .before .before .before .before .before .before .before .before .before .before .before .before .before .before .before .before .before .before .before .before .before .pre .1 .1, l .inv .2) in
+    let h : l .n < length (l .keys) = omega (arith, n, objects.key-room (now (a .s)) (a .at) (a .depth) (l .i) (take (l .n) (l .keys)) (l .sum) p _ _ _ q (length (l .keys)) r) in
+    let f = c .before .before .before .f .given .0 .0 in
+    let z = scans-value (now (a .s)) (read (a .depth) (drop (c .before .before .before .before .before .before .before .before .before .before .before .before .before .before .end .given .0 .0) (now (a .s)))) f (rw (c .before .before .before .f .given .1) at (c .before .before .before .before .before .before .before .before .before .value .ensures)) in
+    z .within
+
+-- src/lib.rt:333:24
+object-enum-known-end-2 : (t : ℕ) → object-lts.Need-enum-known-end-2 (
+  skip-spaces-reads.Asked,
+  skip-spaces-reads.Learnt,
+  stands-reads.Asked,
+  stands-reads.Learnt,
+  plain-reads.Asked,
+  plain-reads.Learnt,
+  key-reads.Asked,
+  key-reads.Learnt,
+  mark-reads.Asked,
+  mark-reads.Learnt,
+  value-below t,
+  value.Post,
+  member-reads.Asked,
+  member-reads.Learnt,
+  added-reads.Asked,
+  added-reads.Learnt,
+  after-item-reads.Asked,
+  after-item-reads.Learnt,
+  closed-reads.Asked,
+  closed-reads.Learnt,
+) (object-at t) object.Post object-Inv-loop object-μ-loop
+object-enum-known-end-2 t c = search needs
+
+-- src/lib.rt:333:59
+object-slice-relend-prefix-closed : (t : ℕ) → object-lts.Need-slice-relend-prefix-closed (
+  skip-spaces-reads.Asked,
+  skip-spaces-reads.Learnt,
+  stands-reads.Asked,
+  stands-reads.Learnt,
+  plain-reads.Asked,
+  plain-reads.Learnt,
+  key-reads.Asked,
+  key-reads.Learnt,
+  mark-reads.Asked,
+  mark-reads.Learnt,
+  value-below t,
+  value.Post,
+  member-reads.Asked,
+  member-reads.Learnt,
+  added-reads.Asked,
+  added-reads.Learnt,
+  after-item-reads.Asked,
+  after-item-reads.Learnt,
+  closed-reads.Asked,
+  closed-reads.Learnt,
+) (object-at t) object.Post object-Inv-loop object-μ-loop
+object-slice-relend-prefix-closed t c =
+    let a = c .before .before .before .before .before .before .before .before .before .before .before .before .before .before .before .before .before .before .before .before .before .before .before .before .before .before .before .before .args in
+    let l = c .before .before .before .before .before .before .before .before .before .before .before .before .before .before .before .before .before .before .before .before .before .loop in
+    let p = l .inv .0 in
+    let k = rw (c .before .before .before .before .before .before .before .before .before .before .before .before .before .before .before .before .before .before .end .given .1) at (c .before .before .before .before .before .before .before .before .before .before .before .before .before .before .before .before .before .before .before .before .key .ensures) in
+    let q = objects.token-name (now (a .s)) (l .i) _ _ _ _ (k .0) (k .1) (c .before .before .before .before .before .before .before .before .before .before .before .before .before .before .before .before .mark .ensures) in
+    let n = length-take-le (l .n) (l .keys) (l .inv .1) in
+    let r : length (now (a .s)) < a .at + 4 * length (l .keys) = omega (arith, c .before .before .before .before .before .before .before .before .before .before .before .before .before .before .before .before .before .before .before .before .before .before .before .before .before .before .before .before .pre .1 .1, l .inv .2) in
+    let h : l .n < length (l .keys) = omega (arith, n, objects.key-room (now (a .s)) (a .at) (a .depth) (l .i) (take (l .n) (l .keys)) (l .sum) p _ _ _ q (length (l .keys)) r) in
+    omega (arith, h, objects.stored-length (l .keys) (l .n) (l .i) h (c .before .before .before .before .before .before .before .before .before .before .before .before .before .value .last .1 .1 .1 .0) (c .before .before .before .before .before .before .before .before .before .before .before .before .before .value .kept .1 .1 .1 .0))
+
+-- src/lib.rt:333:59
+object-slice-aggregate-closed : (t : ℕ) → object-lts.Need-slice-aggregate-closed (
+  skip-spaces-reads.Asked,
+  skip-spaces-reads.Learnt,
+  stands-reads.Asked,
+  stands-reads.Learnt,
+  plain-reads.Asked,
+  plain-reads.Learnt,
+  key-reads.Asked,
+  key-reads.Learnt,
+  mark-reads.Asked,
+  mark-reads.Learnt,
+  value-below t,
+  value.Post,
+  member-reads.Asked,
+  member-reads.Learnt,
+  added-reads.Asked,
+  added-reads.Learnt,
+  after-item-reads.Asked,
+  after-item-reads.Learnt,
+  closed-reads.Asked,
+  closed-reads.Learnt,
+) (object-at t) object.Post object-Inv-loop object-μ-loop
+object-slice-aggregate-closed t c =
+    let a = c .before .before .before .before .before .before .before .before .before .before .before .before .before .before .before .before .before .before .before .before .before .before .before .before .before .before .before .before .before .args in
+    let l = c .before .before .before .before .before .before .before .before .before .before .before .before .before .before .before .before .before .before .before .before .before .before .loop in
+    let p = l .inv .0 in
+    let k = rw (c .before .before .before .before .before .before .before .before .before .before .before .before .before .before .before .before .before .before .before .end .given .1) at (c .before .before .before .before .before .before .before .before .before .before .before .before .before .before .before .before .before .before .before .before .before .key .ensures) in
+    let q = objects.token-name (now (a .s)) (l .i) _ _ _ _ (k .0) (k .1) (c .before .before .before .before .before .before .before .before .before .before .before .before .before .before .before .before .before .mark .ensures) in
+    let n = length-take-le (l .n) (l .keys) (l .inv .1) in
+    let r : length (now (a .s)) < a .at + 4 * length (l .keys) = omega (arith, c .before .before .before .before .before .before .before .before .before .before .before .before .before .before .before .before .before .before .before .before .before .before .before .before .before .before .before .before .before .pre .1 .1, l .inv .2) in
+    let h : l .n < length (l .keys) = omega (arith, n, objects.key-room (now (a .s)) (a .at) (a .depth) (l .i) (take (l .n) (l .keys)) (l .sum) p _ _ _ q (length (l .keys)) r) in
+    omega (arith, n, ap length (objects.stored-keys (l .keys) (l .n) (l .i) h (c .before .before .before .before .before .before .before .before .before .before .before .before .before .before .value .last .1 .1 .1 .0) (c .before .before .before .before .before .before .before .before .before .before .before .before .before .before .value .kept .1 .1 .1 .0)), length-append (take (l .n) (l .keys)) (l .i ∷ []))
+
+-- src/lib.rt:333:32
+object-closed-requires : (t : ℕ) → object-lts.Need-closed-requires (
+  skip-spaces-reads.Asked,
+  skip-spaces-reads.Learnt,
+  stands-reads.Asked,
+  stands-reads.Learnt,
+  plain-reads.Asked,
+  plain-reads.Learnt,
+  key-reads.Asked,
+  key-reads.Learnt,
+  mark-reads.Asked,
+  mark-reads.Learnt,
+  value-below t,
+  value.Post,
+  member-reads.Asked,
+  member-reads.Learnt,
+  added-reads.Asked,
+  added-reads.Learnt,
+  after-item-reads.Asked,
+  after-item-reads.Learnt,
+  closed-reads.Asked,
+  closed-reads.Learnt,
+) (object-at t) object.Post object-Inv-loop object-μ-loop
+object-closed-requires t c κs =
+    let a = c .before .before .before .before .before .before .before .before .before .before .before .before .before .before .before .before .before .before .before .before .before .before .before .before .before .before .before .before .before .before .args in
+    let l = c .before .before .before .before .before .before .before .before .before .before .before .before .before .before .before .before .before .before .before .before .before .before .before .loop in
+    let p = l .inv .0 in
+    let k = rw (c .before .before .before .before .before .before .before .before .before .before .before .before .before .before .before .before .before .before .before .before .end .given .1) at (c .before .before .before .before .before .before .before .before .before .before .before .before .before .before .before .before .before .before .before .before .before .before .key .ensures) in
+    let q = objects.token-name (now (a .s)) (l .i) _ _ _ _ (k .0) (k .1) (c .before .before .before .before .before .before .before .before .before .before .before .before .before .before .before .before .before .before .mark .ensures) in
+    let n = length-take-le (l .n) (l .keys) (l .inv .1) in
+    let r : length (now (a .s)) < a .at + 4 * length (l .keys) = omega (arith, c .before .before .before .before .before .before .before .before .before .before .before .before .before .before .before .before .before .before .before .before .before .before .before .before .before .before .before .before .before .before .pre .1 .1, l .inv .2) in
+    let h : l .n < length (l .keys) = omega (arith, n, objects.key-room (now (a .s)) (a .at) (a .depth) (l .i) (take (l .n) (l .keys)) (l .sum) p _ _ _ q (length (l .keys)) r) in (
+      subst (KeysAt (now (a .s))) (sym (objects.stored-keys (l .keys) (l .n) (l .i) h (c .before .before .before .before .before .before .before .before .before .before .before .before .before .before .before .value .last .1 .1 .1 .0) (c .before .before .before .before .before .before .before .before .before .before .before .before .before .before .before .value .kept .1 .1 .1 .0))) (objects.keys-now (now (a .s)) (a .at) (a .depth) (l .i) (take (l .n) (l .keys)) (l .sum) p _ _ _ q),
+      omega (arith, n, ap length (objects.stored-keys (l .keys) (l .n) (l .i) h (c .before .before .before .before .before .before .before .before .before .before .before .before .before .before .before .value .last .1 .1 .1 .0) (c .before .before .before .before .before .before .before .before .before .before .before .before .before .before .before .value .kept .1 .1 .1 .0)), length-append (take (l .n) (l .keys)) (l .i ∷ []), h, c .before .before .before .before .before .before .before .before .before .before .before .before .before .before .before .value .kept .1 .1 .1 .1 .0 ∙ l .inv .3, l .inv .2, c .before .before .before .before .before .before .before .before .before .before .before .before .before .before .before .before .before .before .before .before .before .before .before .before .before .before .before .before .before .before .pre .1 .0 .sorting),
+    )
+
+-- src/lib.rt:333:32
+object-same-length-5 : (t : ℕ) → object-lts.Need-same-length-5 (
+  skip-spaces-reads.Asked,
+  skip-spaces-reads.Learnt,
+  stands-reads.Asked,
+  stands-reads.Learnt,
+  plain-reads.Asked,
+  plain-reads.Learnt,
+  key-reads.Asked,
+  key-reads.Learnt,
+  mark-reads.Asked,
+  mark-reads.Learnt,
+  value-below t,
+  value.Post,
+  member-reads.Asked,
+  member-reads.Learnt,
+  added-reads.Asked,
+  added-reads.Learnt,
+  after-item-reads.Asked,
+  after-item-reads.Learnt,
+  closed-reads.Asked,
+  closed-reads.Learnt,
+) (object-at t) object.Post object-Inv-loop object-μ-loop
+object-same-length-5 t c =
+    let a = c .before .before .before .before .before .before .before .before .before .before .before .before .before .before .before .before .before .before .before .before .before .before .before .before .before .before .before .before .before .before .before .before .before .before .before .args in
+    let l = c .before .before .before .before .before .before .before .before .before .before .before .before .before .before .before .before .before .before .before .before .before .before .before .before .before .before .before .before .loop in
+    let p = l .inv .0 in
+    let k = rw (c .before .before .before .before .before .before .before .before .before .before .before .before .before .before .before .before .before .before .before .before .before .before .before .before .before .end .given .1) at (c .before .before .before .before .before .before .before .before .before .before .before .before .before .before .before .before .before .before .before .before .before .before .before .before .before .before .before .key .ensures) in
+    let q = objects.token-name (now (a .s)) (l .i) _ _ _ _ (k .0) (k .1) (c .before .before .before .before .before .before .before .before .before .before .before .before .before .before .before .before .before .before .before .before .before .before .before .mark .ensures) in
+    let n = length-take-le (l .n) (l .keys) (l .inv .1) in
+    let r : length (now (a .s)) < a .at + 4 * length (l .keys) = omega (arith, c .before .before .before .before .before .before .before .before .before .before .before .before .before .before .before .before .before .before .before .before .before .before .before .before .before .before .before .before .before .before .before .before .before .before .before .pre .1 .1, l .inv .2) in
+    let h : l .n < length (l .keys) = omega (arith, n, objects.key-room (now (a .s)) (a .at) (a .depth) (l .i) (take (l .n) (l .keys)) (l .sum) p _ _ _ q (length (l .keys)) r) in
+    length-front _ (c .before .before .before .before .closed .last .1 .1 .1 .0) (l .n + 1) (c .before .before .before .before .closed .kept .1 .1 .1 .0) ∙ objects.stored-length (l .keys) (l .n) (l .i) h (c .before .before .before .before .before .before .before .before .before .before .before .before .before .before .before .before .before .before .before .before .value .last .1 .1 .1 .0) (c .before .before .before .before .before .before .before .before .before .before .before .before .before .before .before .before .before .before .before .before .value .kept .1 .1 .1 .0) ∙ l .inv .2
+
+-- src/lib.rt:333:32
+object-same-length-6 : (t : ℕ) → object-lts.Need-same-length-6 (
+  skip-spaces-reads.Asked,
+  skip-spaces-reads.Learnt,
+  stands-reads.Asked,
+  stands-reads.Learnt,
+  plain-reads.Asked,
+  plain-reads.Learnt,
+  key-reads.Asked,
+  key-reads.Learnt,
+  mark-reads.Asked,
+  mark-reads.Learnt,
+  value-below t,
+  value.Post,
+  member-reads.Asked,
+  member-reads.Learnt,
+  added-reads.Asked,
+  added-reads.Learnt,
+  after-item-reads.Asked,
+  after-item-reads.Learnt,
+  closed-reads.Asked,
+  closed-reads.Learnt,
+) (object-at t) object.Post object-Inv-loop object-μ-loop
+object-same-length-6 t c =
+    let a = c .before .before .before .before .before .before .before .before .before .before .before .before .before .before .before .before .before .before .before .before .before .before .before .before .before .before .before .before .before .before .before .before .before .before .before .args in
+    let l = c .before .before .before .before .before .before .before .before .before .before .before .before .before .before .before .before .before .before .before .before .before .before .before .before .before .before .before .before .loop in
+    let p = l .inv .0 in
+    let k = rw (c .before .before .before .before .before .before .before .before .before .before .before .before .before .before .before .before .before .before .before .before .before .before .before .before .before .end .given .1) at (c .before .before .before .before .before .before .before .before .before .before .before .before .before .before .before .before .before .before .before .before .before .before .before .before .before .before .before .key .ensures) in
+    let q = objects.token-name (now (a .s)) (l .i) _ _ _ _ (k .0) (k .1) (c .before .before .before .before .before .before .before .before .before .before .before .before .before .before .before .before .before .before .before .before .before .before .before .mark .ensures) in
+    let n = length-take-le (l .n) (l .keys) (l .inv .1) in
+    let r : length (now (a .s)) < a .at + 4 * length (l .keys) = omega (arith, c .before .before .before .before .before .before .before .before .before .before .before .before .before .before .before .before .before .before .before .before .before .before .before .before .before .before .before .before .before .before .before .before .before .before .before .pre .1 .1, l .inv .2) in
+    let h : l .n < length (l .keys) = omega (arith, n, objects.key-room (now (a .s)) (a .at) (a .depth) (l .i) (take (l .n) (l .keys)) (l .sum) p _ _ _ q (length (l .keys)) r) in
+    c .before .before .before .before .closed .kept .1 .1 .1 .1 .0 ∙ c .before .before .before .before .before .before .before .before .before .before .before .before .before .before .before .before .before .before .before .before .value .kept .1 .1 .1 .1 .0 ∙ l .inv .3
+
+-- src/lib.rt:333:32
+object-returns-4 : (t : ℕ) → object-lts.Need-returns-4 (
+  skip-spaces-reads.Asked,
+  skip-spaces-reads.Learnt,
+  stands-reads.Asked,
+  stands-reads.Learnt,
+  plain-reads.Asked,
+  plain-reads.Learnt,
+  key-reads.Asked,
+  key-reads.Learnt,
+  mark-reads.Asked,
+  mark-reads.Learnt,
+  value-below t,
+  value.Post,
+  member-reads.Asked,
+  member-reads.Learnt,
+  added-reads.Asked,
+  added-reads.Learnt,
+  after-item-reads.Asked,
+  after-item-reads.Learnt,
+  closed-reads.Asked,
+  closed-reads.Learnt,
+) (object-at t) object.Post object-Inv-loop object-μ-loop
+object-returns-4 t c =
+    let a = c .before .before .before .before .before .before .before .before .before .before .before .before .before .before .before .before .before .before .before .before .before .before .before .before .before .before .before .before .before .before .before .before .before .before .before .args in
+    let l = c .before .before .before .before .before .before .before .before .before .before .before .before .before .before .before .before .before .before .before .before .before .before .before .before .before .before .before .before .loop in
+    let p = l .inv .0 in
+    let k = rw (c .before .before .before .before .before .before .before .before .before .before .before .before .before .before .before .before .before .before .before .before .before .before .before .before .before .end .given .1) at (c .before .before .before .before .before .before .before .before .before .before .before .before .before .before .before .before .before .before .before .before .before .before .before .before .before .before .before .key .ensures) in
+    let q = objects.token-name (now (a .s)) (l .i) _ _ _ _ (k .0) (k .1) (c .before .before .before .before .before .before .before .before .before .before .before .before .before .before .before .before .before .before .before .before .before .before .before .mark .ensures) in
+    let n = length-take-le (l .n) (l .keys) (l .inv .1) in
+    let r : length (now (a .s)) < a .at + 4 * length (l .keys) = omega (arith, c .before .before .before .before .before .before .before .before .before .before .before .before .before .before .before .before .before .before .before .before .before .before .before .before .before .before .before .before .before .before .before .before .before .before .before .pre .1 .1, l .inv .2) in
+    let h : l .n < length (l .keys) = omega (arith, n, objects.key-room (now (a .s)) (a .at) (a .depth) (l .i) (take (l .n) (l .keys)) (l .sum) p _ _ _ q (length (l .keys)) r) in
+    let f = c .before .before .before .before .before .before .before .before .before .before .before .before .before .before .f .given .0 .0 in
+    let z = scans-value (now (a .s)) (read (a .depth) (drop (c .before .before .before .before .before .before .before .before .before .before .before .before .before .before .before .before .before .before .before .before .before .before .before .before .before .end .given .0 .0) (now (a .s)))) f (rw (c .before .before .before .before .before .before .before .before .before .before .before .before .before .before .f .given .1) at (c .before .before .before .before .before .before .before .before .before .before .before .before .before .before .before .before .before .before .before .before .value .ensures)) in
+    objects.closed-same (now (a .s)) (readObject (a .depth) (drop (a .at) (now (a .s)))) _ _ _ _ (l .sum) _ _ (c .before .before .before .before .closed .result) (c .before .before .before .before .closed .ensures) (c .before .before .before .before .before .before .before .before .before .before .before .added .ensures) (c .before .before .before .before .before .before .before .before .before .before .before .before .member .ensures) (objects.stored-keys (l .keys) (l .n) (l .i) h (c .before .before .before .before .before .before .before .before .before .before .before .before .before .before .before .before .before .before .before .before .value .last .1 .1 .1 .0) (c .before .before .before .before .before .before .before .before .before .before .before .before .before .before .before .before .before .before .before .before .value .kept .1 .1 .1 .0))
+    (objects.ends (now (a .s)) (a .at) (a .depth) (l .i) (take (l .n) (l .keys)) (l .sum) p _ _ _ q f z _ (rw (c .before .before .before .before .before .before .before .before .end2 .given .1) at (c .before .before .before .before .before .before .before .before .before .before .after-item .ensures)))
+
+-- src/lib.rt:334:25
+object-enum-known-j : (t : ℕ) → object-lts.Need-enum-known-j (
+  skip-spaces-reads.Asked,
+  skip-spaces-reads.Learnt,
+  stands-reads.Asked,
+  stands-reads.Learnt,
+  plain-reads.Asked,
+  plain-reads.Learnt,
+  key-reads.Asked,
+  key-reads.Learnt,
+  mark-reads.Asked,
+  mark-reads.Learnt,
+  value-below t,
+  value.Post,
+  member-reads.Asked,
+  member-reads.Learnt,
+  added-reads.Asked,
+  added-reads.Learnt,
+  after-item-reads.Asked,
+  after-item-reads.Learnt,
+  closed-reads.Asked,
+  closed-reads.Learnt,
+) (object-at t) object.Post object-Inv-loop object-μ-loop
+object-enum-known-j t c = search needs
+
+-- src/lib.rt:316:5
+object-loop-less : (t : ℕ) → object-lts.Need-loop-less (
+  skip-spaces-reads.Asked,
+  skip-spaces-reads.Learnt,
+  stands-reads.Asked,
+  stands-reads.Learnt,
+  plain-reads.Asked,
+  plain-reads.Learnt,
+  key-reads.Asked,
+  key-reads.Learnt,
+  mark-reads.Asked,
+  mark-reads.Learnt,
+  value-below t,
+  value.Post,
+  member-reads.Asked,
+  member-reads.Learnt,
+  added-reads.Asked,
+  added-reads.Learnt,
+  after-item-reads.Asked,
+  after-item-reads.Learnt,
+  closed-reads.Asked,
+  closed-reads.Learnt,
+) (object-at t) object.Post object-Inv-loop object-μ-loop
+object-loop-less t c =
+    let a = c .before .before .before .before .before .before .before .before .before .before .before .before .before .before .before .before .before .before .before .before .before .before .before .before .before .before .before .before .args in
+    let l = c .before .before .before .before .before .before .before .before .before .before .before .before .before .before .before .before .before .before .before .before .before .loop in
+    let p = l .inv .0 in
+    let k = rw (c .before .before .before .before .before .before .before .before .before .before .before .before .before .before .before .before .before .before .end .given .1) at (c .before .before .before .before .before .before .before .before .before .before .before .before .before .before .before .before .before .before .before .before .key .ensures) in
+    let q = objects.token-name (now (a .s)) (l .i) _ _ _ _ (k .0) (k .1) (c .before .before .before .before .before .before .before .before .before .before .before .before .before .before .before .before .mark .ensures) in
+    let n = length-take-le (l .n) (l .keys) (l .inv .1) in
+    let r : length (now (a .s)) < a .at + 4 * length (l .keys) = omega (arith, c .before .before .before .before .before .before .before .before .before .before .before .before .before .before .before .before .before .before .before .before .before .before .before .before .before .before .before .before .pre .1 .1, l .inv .2) in
+    let h : l .n < length (l .keys) = omega (arith, n, objects.key-room (now (a .s)) (a .at) (a .depth) (l .i) (take (l .n) (l .keys)) (l .sum) p _ _ _ q (length (l .keys)) r) in
+    let f = c .before .before .before .before .before .before .before .f .given .0 .0 in
+    let z = scans-value (now (a .s)) (read (a .depth) (drop (c .before .before .before .before .before .before .before .before .before .before .before .before .before .before .before .before .before .before .end .given .0 .0) (now (a .s)))) f (rw (c .before .before .before .before .before .before .before .f .given .1) at (c .before .before .before .before .before .before .before .before .before .before .before .before .before .value .ensures)) in
+    let w = rw (c .before .j .given .1) at (c .before .before .before .after-item .ensures) in
+    omega (arith, objects.later (now (a .s)) (a .at) (a .depth) (l .i) (take (l .n) (l .keys)) (l .sum) p _ _ _ q f z, q .later, w .0, w .1)
+
+-- src/lib.rt:316:5
+object-loop-again : (t : ℕ) → object-lts.Need-loop-again (
+  skip-spaces-reads.Asked,
+  skip-spaces-reads.Learnt,
+  stands-reads.Asked,
+  stands-reads.Learnt,
+  plain-reads.Asked,
+  plain-reads.Learnt,
+  key-reads.Asked,
+  key-reads.Learnt,
+  mark-reads.Asked,
+  mark-reads.Learnt,
+  value-below t,
+  value.Post,
+  member-reads.Asked,
+  member-reads.Learnt,
+  added-reads.Asked,
+  added-reads.Learnt,
+  after-item-reads.Asked,
+  after-item-reads.Learnt,
+  closed-reads.Asked,
+  closed-reads.Learnt,
+) (object-at t) object.Post object-Inv-loop object-μ-loop
+object-loop-again t c =
+    let a = c .before .before .before .before .before .before .before .before .before .before .before .before .before .before .before .before .before .before .before .before .before .before .before .before .before .before .before .before .args in
+    let l = c .before .before .before .before .before .before .before .before .before .before .before .before .before .before .before .before .before .before .before .before .before .loop in
+    let p = l .inv .0 in
+    let k = rw (c .before .before .before .before .before .before .before .before .before .before .before .before .before .before .before .before .before .before .end .given .1) at (c .before .before .before .before .before .before .before .before .before .before .before .before .before .before .before .before .before .before .before .before .key .ensures) in
+    let q = objects.token-name (now (a .s)) (l .i) _ _ _ _ (k .0) (k .1) (c .before .before .before .before .before .before .before .before .before .before .before .before .before .before .before .before .mark .ensures) in
+    let n = length-take-le (l .n) (l .keys) (l .inv .1) in
+    let r : length (now (a .s)) < a .at + 4 * length (l .keys) = omega (arith, c .before .before .before .before .before .before .before .before .before .before .before .before .before .before .before .before .before .before .before .before .before .before .before .before .before .before .before .before .pre .1 .1, l .inv .2) in
+    let h : l .n < length (l .keys) = omega (arith, n, objects.key-room (now (a .s)) (a .at) (a .depth) (l .i) (take (l .n) (l .keys)) (l .sum) p _ _ _ q (length (l .keys)) r) in
+    let f = c .before .before .before .before .before .before .before .f .given .0 .0 in
+    let z = scans-value (now (a .s)) (read (a .depth) (drop (c .before .before .before .before .before .before .before .before .before .before .before .before .before .before .before .before .before .before .end .given .0 .0) (now (a .s)))) f (rw (c .before .before .before .before .before .before .before .f .given .1) at (c .before .before .before .before .before .before .before .before .before .before .before .before .before .value .ensures)) in
+    let w = rw (c .before .j .given .1) at (c .before .before .before .after-item .ensures) in (
+      subst₂ (objects.Progress (now (a .s)) (a .at) (a .depth) _) (sym (objects.stored-keys (l .keys) (l .n) (l .i) h (c .before .before .before .before .before .before .before .before .before .before .before .before .before .value .last .1 .1 .1 .0) (c .before .before .before .before .before .before .before .before .before .before .before .before .before .value .kept .1 .1 .1 .0))) (sym (c .before .before .before .before .added .ensures ∙ ap (plus (l .sum)) (c .before .before .before .before .before .member .ensures))) (objects.goes-on (now (a .s)) (a .at) (a .depth) (l .i) (take (l .n) (l .keys)) (l .sum) p _ _ _ q f z _ w),
+      omega (arith, h, objects.stored-length (l .keys) (l .n) (l .i) h (c .before .before .before .before .before .before .before .before .before .before .before .before .before .value .last .1 .1 .1 .0) (c .before .before .before .before .before .before .before .before .before .before .before .before .before .value .kept .1 .1 .1 .0)),
+      objects.stored-length (l .keys) (l .n) (l .i) h (c .before .before .before .before .before .before .before .before .before .before .before .before .before .value .last .1 .1 .1 .0) (c .before .before .before .before .before .before .before .before .before .before .before .before .before .value .kept .1 .1 .1 .0) ∙ l .inv .2,
+      c .before .before .before .before .before .before .before .before .before .before .before .before .before .value .kept .1 .1 .1 .1 .0 ∙ l .inv .3,
+    )
+
+-- src/lib.rt:335:26
+object-enum-known-e-3 : (t : ℕ) → object-lts.Need-enum-known-e-3 (
+  skip-spaces-reads.Asked,
+  skip-spaces-reads.Learnt,
+  stands-reads.Asked,
+  stands-reads.Learnt,
+  plain-reads.Asked,
+  plain-reads.Learnt,
+  key-reads.Asked,
+  key-reads.Learnt,
+  mark-reads.Asked,
+  mark-reads.Learnt,
+  value-below t,
+  value.Post,
+  member-reads.Asked,
+  member-reads.Learnt,
+  added-reads.Asked,
+  added-reads.Learnt,
+  after-item-reads.Asked,
+  after-item-reads.Learnt,
+  closed-reads.Asked,
+  closed-reads.Learnt,
+) (object-at t) object.Post object-Inv-loop object-μ-loop
+object-enum-known-e-3 t c = search needs
+
+-- src/lib.rt:335:32
+object-same-length-7 : (t : ℕ) → object-lts.Need-same-length-7 (
+  skip-spaces-reads.Asked,
+  skip-spaces-reads.Learnt,
+  stands-reads.Asked,
+  stands-reads.Learnt,
+  plain-reads.Asked,
+  plain-reads.Learnt,
+  key-reads.Asked,
+  key-reads.Learnt,
+  mark-reads.Asked,
+  mark-reads.Learnt,
+  value-below t,
+  value.Post,
+  member-reads.Asked,
+  member-reads.Learnt,
+  added-reads.Asked,
+  added-reads.Learnt,
+  after-item-reads.Asked,
+  after-item-reads.Learnt,
+  closed-reads.Asked,
+  closed-reads.Learnt,
+) (object-at t) object.Post object-Inv-loop object-μ-loop
+object-same-length-7 t c =
+    let a = c .before .before .before .before .before .before .before .before .before .before .before .before .before .before .before .before .before .before .before .before .before .before .before .before .before .before .before .before .args in
+    let l = c .before .before .before .before .before .before .before .before .before .before .before .before .before .before .before .before .before .before .before .before .before .loop in
+    let p = l .inv .0 in
+    let k = rw (c .before .before .before .before .before .before .before .before .before .before .before .before .before .before .before .before .before .before .end .given .1) at (c .before .before .before .before .before .before .before .before .before .before .before .before .before .before .before .before .before .before .before .before .key .ensures) in
+    let q = objects.token-name (now (a .s)) (l .i) _ _ _ _ (k .0) (k .1) (c .before .before .before .before .before .before .before .before .before .before .before .before .before .before .before .before .mark .ensures) in
+    let n = length-take-le (l .n) (l .keys) (l .inv .1) in
+    let r : length (now (a .s)) < a .at + 4 * length (l .keys) = omega (arith, c .before .before .before .before .before .before .before .before .before .before .before .before .before .before .before .before .before .before .before .before .before .before .before .before .before .before .before .before .pre .1 .1, l .inv .2) in
+    let h : l .n < length (l .keys) = omega (arith, n, objects.key-room (now (a .s)) (a .at) (a .depth) (l .i) (take (l .n) (l .keys)) (l .sum) p _ _ _ q (length (l .keys)) r) in
+    objects.stored-length (l .keys) (l .n) (l .i) h (c .before .before .before .before .before .before .before .before .before .before .before .before .before .value .last .1 .1 .1 .0) (c .before .before .before .before .before .before .before .before .before .before .before .before .before .value .kept .1 .1 .1 .0) ∙ l .inv .2
+
+-- src/lib.rt:335:32
+object-same-length-8 : (t : ℕ) → object-lts.Need-same-length-8 (
+  skip-spaces-reads.Asked,
+  skip-spaces-reads.Learnt,
+  stands-reads.Asked,
+  stands-reads.Learnt,
+  plain-reads.Asked,
+  plain-reads.Learnt,
+  key-reads.Asked,
+  key-reads.Learnt,
+  mark-reads.Asked,
+  mark-reads.Learnt,
+  value-below t,
+  value.Post,
+  member-reads.Asked,
+  member-reads.Learnt,
+  added-reads.Asked,
+  added-reads.Learnt,
+  after-item-reads.Asked,
+  after-item-reads.Learnt,
+  closed-reads.Asked,
+  closed-reads.Learnt,
+) (object-at t) object.Post object-Inv-loop object-μ-loop
+object-same-length-8 t c =
+    let a = c .before .before .before .before .before .before .before .before .before .before .before .before .before .before .before .before .before .before .before .before .before .before .before .before .before .before .before .before .args in
+    let l = c .before .before .before .before .before .before .before .before .before .before .before .before .before .before .before .before .before .before .before .before .before .loop in
+    let p = l .inv .0 in
+    let k = rw (c .before .before .before .before .before .before .before .before .before .before .before .before .before .before .before .before .before .before .end .given .1) at (c .before .before .before .before .before .before .before .before .before .before .before .before .before .before .before .before .before .before .before .before .key .ensures) in
+    let q = objects.token-name (now (a .s)) (l .i) _ _ _ _ (k .0) (k .1) (c .before .before .before .before .before .before .before .before .before .before .before .before .before .before .before .before .mark .ensures) in
+    let n = length-take-le (l .n) (l .keys) (l .inv .1) in
+    let r : length (now (a .s)) < a .at + 4 * length (l .keys) = omega (arith, c .before .before .before .before .before .before .before .before .before .before .before .before .before .before .before .before .before .before .before .before .before .before .before .before .before .before .before .before .pre .1 .1, l .inv .2) in
+    let h : l .n < length (l .keys) = omega (arith, n, objects.key-room (now (a .s)) (a .at) (a .depth) (l .i) (take (l .n) (l .keys)) (l .sum) p _ _ _ q (length (l .keys)) r) in
+    c .before .before .before .before .before .before .before .before .before .before .before .before .before .value .kept .1 .1 .1 .1 .0 ∙ l .inv .3
+
+-- src/lib.rt:335:32
+object-returns-5 : (t : ℕ) → object-lts.Need-returns-5 (
+  skip-spaces-reads.Asked,
+  skip-spaces-reads.Learnt,
+  stands-reads.Asked,
+  stands-reads.Learnt,
+  plain-reads.Asked,
+  plain-reads.Learnt,
+  key-reads.Asked,
+  key-reads.Learnt,
+  mark-reads.Asked,
+  mark-reads.Learnt,
+  value-below t,
+  value.Post,
+  member-reads.Asked,
+  member-reads.Learnt,
+  added-reads.Asked,
+  added-reads.Learnt,
+  after-item-reads.Asked,
+  after-item-reads.Learnt,
+  closed-reads.Asked,
+  closed-reads.Learnt,
+) (object-at t) object.Post object-Inv-loop object-μ-loop
+object-returns-5 t c =
+    let a = c .before .before .before .before .before .before .before .before .before .before .before .before .before .before .before .before .before .before .before .before .before .before .before .before .before .before .before .before .args in
+    let l = c .before .before .before .before .before .before .before .before .before .before .before .before .before .before .before .before .before .before .before .before .before .loop in
+    let p = l .inv .0 in
+    let k = rw (c .before .before .before .before .before .before .before .before .before .before .before .before .before .before .before .before .before .before .end .given .1) at (c .before .before .before .before .before .before .before .before .before .before .before .before .before .before .before .before .before .before .before .before .key .ensures) in
+    let q = objects.token-name (now (a .s)) (l .i) _ _ _ _ (k .0) (k .1) (c .before .before .before .before .before .before .before .before .before .before .before .before .before .before .before .before .mark .ensures) in
+    let n = length-take-le (l .n) (l .keys) (l .inv .1) in
+    let r : length (now (a .s)) < a .at + 4 * length (l .keys) = omega (arith, c .before .before .before .before .before .before .before .before .before .before .before .before .before .before .before .before .before .before .before .before .before .before .before .before .before .before .before .before .pre .1 .1, l .inv .2) in
+    let h : l .n < length (l .keys) = omega (arith, n, objects.key-room (now (a .s)) (a .at) (a .depth) (l .i) (take (l .n) (l .keys)) (l .sum) p _ _ _ q (length (l .keys)) r) in
+    let f = c .before .before .before .before .before .before .before .f .given .0 .0 in
+    let z = scans-value (now (a .s)) (read (a .depth) (drop (c .before .before .before .before .before .before .before .before .before .before .before .before .before .before .before .before .before .before .end .given .0 .0) (now (a .s)))) f (rw (c .before .before .before .before .before .before .before .f .given .1) at (c .before .before .before .before .before .before .before .before .before .before .before .before .before .value .ensures)) in
+    objects.sticks (now (a .s)) (a .at) (a .depth) (l .i) (take (l .n) (l .keys)) (l .sum) p _ _ _ q f z _ (rw (c .before .e3 .given .1) at (c .before .before .before .after-item .ensures))
+
+-- src/lib.rt:212:21
+value-shared-slice-read-b : (t : ℕ) → value-lts.Need-shared-slice-read-b (
+  array-below t,
+  array.Post,
+  object-below t,
+  object.Post,
+  scalar-reads.Asked,
+  scalar-reads.Learnt,
+) (value-at t) value.Post
+value-shared-slice-read-b t c = c .before .before .if1 .taken
+
+-- src/lib.rt:214:33
+value-add-array : (t : ℕ) → value-lts.Need-add-array (
+  array-below t,
+  array.Post,
+  object-below t,
+  object.Post,
+  scalar-reads.Asked,
+  scalar-reads.Learnt,
+) (value-at t) value.Post
+value-add-array t c = omega (arith, c .before .before .before .if1 .taken)
+
+-- src/lib.rt:214:41
+value-sub-array : (t : ℕ) → value-lts.Need-sub-array (
+  array-below t,
+  array.Post,
+  object-below t,
+  object.Post,
+  scalar-reads.Asked,
+  scalar-reads.Learnt,
+) (value-at t) value.Post
+value-sub-array t c = omega (arith, c .before .before .if2 .taken)
+
+-- src/lib.rt:214:17
+value-array-requires : (t : ℕ) → value-lts.Need-array-requires (
+  array-below t,
+  array.Post,
+  object-below t,
+  object.Post,
+  scalar-reads.Asked,
+  scalar-reads.Learnt,
+) (value-at t) value.Post
+value-array-requires t c κs =
+    let b = c .before .before .before .before .before .before .before .before .before .pre in
+    (omega (arith, b .0, c .before .before .before .before .if2 .taken), record { within = omega (arith, c .before .before .before .before .before .if1 .taken); short = b .1 .short; enough = omega (arith, b .1 .enough); sorting = b .1 .sorting })
+
+-- src/lib.rt:214:17
+value-same-length : (t : ℕ) → value-lts.Need-same-length (
+  array-below t,
+  array.Post,
+  object-below t,
+  object.Post,
+  scalar-reads.Asked,
+  scalar-reads.Learnt,
+) (value-at t) value.Post
+value-same-length t c = c .before .before .before .before .array .kept .1 .1 .1 .0
+
+-- src/lib.rt:214:17
+value-same-length-2 : (t : ℕ) → value-lts.Need-same-length-2 (
+  array-below t,
+  array.Post,
+  object-below t,
+  object.Post,
+  scalar-reads.Asked,
+  scalar-reads.Learnt,
+) (value-at t) value.Post
+value-same-length-2 t c = c .before .before .before .before .array .kept .1 .1 .1 .1 .0
+
+-- src/lib.rt:214:17
+value-returns : (t : ℕ) → value-lts.Need-returns (
+  array-below t,
+  array.Post,
+  object-below t,
+  object.Post,
+  scalar-reads.Asked,
+  scalar-reads.Learnt,
+) (value-at t) value.Post
+value-returns t c = is-array _ _ _ _ (c .before .before .before .before .before .before .before .before .before .before .if1 .taken) (c .before .before .before .before .before .before .before .before .before .if2 .taken) (c .before .before .before .before .before .before .before .if3 .taken) (c .before .before .before .before .array .ensures)
+
+-- src/lib.rt:217:34
+value-add-object : (t : ℕ) → value-lts.Need-add-object (
+  array-below t,
+  array.Post,
+  object-below t,
+  object.Post,
+  scalar-reads.Asked,
+  scalar-reads.Learnt,
+) (value-at t) value.Post
+value-add-object t c = omega (arith, c .before .before .before .before .if1 .taken)
+
+-- src/lib.rt:217:42
+value-sub-object : (t : ℕ) → value-lts.Need-sub-object (
+  array-below t,
+  array.Post,
+  object-below t,
+  object.Post,
+  scalar-reads.Asked,
+  scalar-reads.Learnt,
+) (value-at t) value.Post
+value-sub-object t c = omega (arith, c .before .before .before .if2 .taken)
+
+-- src/lib.rt:217:17
+value-object-requires : (t : ℕ) → value-lts.Need-object-requires (
+  array-below t,
+  array.Post,
+  object-below t,
+  object.Post,
+  scalar-reads.Asked,
+  scalar-reads.Learnt,
+) (value-at t) value.Post
+value-object-requires t c κs =
+    let b = c .before .before .before .before .before .before .before .before .before .before .pre in
+    (omega (arith, b .0, c .before .before .before .before .before .if2 .taken), (record { within = omega (arith, c .before .before .before .before .before .before .if1 .taken); short = b .1 .short; enough = omega (arith, b .1 .enough); sorting = b .1 .sorting }, omega (arith, b .1 .enough)))
+
+-- src/lib.rt:217:17
+value-same-length-3 : (t : ℕ) → value-lts.Need-same-length-3 (
+  array-below t,
+  array.Post,
+  object-below t,
+  object.Post,
+  scalar-reads.Asked,
+  scalar-reads.Learnt,
+) (value-at t) value.Post
+value-same-length-3 t c = c .before .before .before .before .object .kept .1 .1 .1 .0
+
+-- src/lib.rt:217:17
+value-same-length-4 : (t : ℕ) → value-lts.Need-same-length-4 (
+  array-below t,
+  array.Post,
+  object-below t,
+  object.Post,
+  scalar-reads.Asked,
+  scalar-reads.Learnt,
+) (value-at t) value.Post
+value-same-length-4 t c = c .before .before .before .before .object .kept .1 .1 .1 .1 .0
+
+-- src/lib.rt:217:17
+value-returns-2 : (t : ℕ) → value-lts.Need-returns-2 (
+  array-below t,
+  array.Post,
+  object-below t,
+  object.Post,
+  scalar-reads.Asked,
+  scalar-reads.Learnt,
+) (value-at t) value.Post
+value-returns-2 t c = is-object _ _ _ _ (c .before .before .before .before .before .before .before .before .before .before .before .if1 .taken) (c .before .before .before .before .before .before .before .before .before .before .if2 .taken) (c .before .before .before .before .before .before .before .if4 .taken) (c .before .before .before .before .object .ensures)
+
+-- src/lib.rt:221:5
+value-scalar-requires : (t : ℕ) → value-lts.Need-scalar-requires (
+  array-below t,
+  array.Post,
+  object-below t,
+  object.Post,
+  scalar-reads.Asked,
+  scalar-reads.Learnt,
+) (value-at t) value.Post
+value-scalar-requires t c κs = c .before .before .before .before .pre .1 .within
+
+-- src/lib.rt:206:1
+value-returns-3 : (t : ℕ) → value-lts.Need-returns-3 (
+  array-below t,
+  array.Post,
+  object-below t,
+  object.Post,
+  scalar-reads.Asked,
+  scalar-reads.Learnt,
+) (value-at t) value.Post
+value-returns-3 t c = ⊎-elim (λ w. is-scalar (now (c .before .before .before .before .before .args .s)) (c .before .before .before .before .before .args .at) (c .before .before .before .before .before .args .depth) (c .scalar .result) (c .scalar .ensures) (w .0 .taken) (w .3 .left) (w .4 .left)) (⊎-elim (λ w. at-bottom (now (c .before .before .before .before .before .args .s)) (c .before .before .before .before .before .args .at) (c .before .before .before .before .before .args .depth) (c .scalar .result) (c .scalar .ensures) (w .1 .left)) (λ w. at-end (now (c .before .before .before .before .before .args .s)) (c .before .before .before .before .before .args .at) (c .before .before .before .before .before .args .depth) (c .scalar .result) (c .scalar .ensures) (w .left))) (c .before .if1 .came)
+
+pub +array+object+value-spec : {M : Type 1} → statement M
++array+object+value-spec = close μ-array μ-object μ-value (λ t. array-lts.spec (
+  skip-spaces-reads.Asked,
+  skip-spaces-reads.Learnt,
+  stands-reads.Asked,
+  stands-reads.Learnt,
+  plain-reads.Asked,
+  plain-reads.Learnt,
+  value-below t,
+  value.Post,
+  added-reads.Asked,
+  added-reads.Learnt,
+  after-item-reads.Asked,
+  after-item-reads.Learnt,
+)
+    (array-at t)
+    array.Post
+    array-Inv-loop
+    array-μ-loop
+    (array-skip-spaces-requires t)
+    (array-stands-requires t)
+    (array-add-plain t)
+    (array-plain-requires t)
+    (array-returns t)
+    (array-loop-holds t)
+    (array-value-requires t)
+    (array-enum-known-f t)
+    (array-enum-known-e t)
+    (array-same-length t)
+    (array-same-length-2 t)
+    (array-returns-2 t)
+    (array-added-requires t)
+    (array-after-item-requires t)
+    (array-enum-known-end t)
+    (array-same-length-3 t)
+    (array-same-length-4 t)
+    (array-returns-3 t)
+    (array-enum-known-j t)
+    (array-loop-less t)
+    (array-loop-again t)
+    (array-enum-known-e-2 t)
+    (array-same-length-5 t)
+    (array-same-length-6 t)
+    (array-returns-4 t))
+    (λ t. object-lts.spec (
+      skip-spaces-reads.Asked,
+      skip-spaces-reads.Learnt,
+      stands-reads.Asked,
+      stands-reads.Learnt,
+      plain-reads.Asked,
+      plain-reads.Learnt,
+      key-reads.Asked,
+      key-reads.Learnt,
+      mark-reads.Asked,
+      mark-reads.Learnt,
+      value-below t,
+      value.Post,
+      member-reads.Asked,
+      member-reads.Learnt,
+      added-reads.Asked,
+      added-reads.Learnt,
+      after-item-reads.Asked,
+      after-item-reads.Learnt,
+      closed-reads.Asked,
+      closed-reads.Learnt,
+    )
+    (object-at t)
+    object.Post
+    object-Inv-loop
+    object-μ-loop
+    (object-skip-spaces-requires t)
+    (object-stands-requires t)
+    (object-add-plain t)
+    (object-plain-requires t)
+    (object-returns t)
+    (object-loop-holds t)
+    (object-key-requires t)
+    (object-enum-known-end t)
+    (object-mark-requires t)
+    (object-enum-known-e t)
+    (object-same-length t)
+    (object-same-length-2 t)
+    (object-returns-2 t)
+    (object-cast-keys t)
+    (object-mul-keys t)
+    (object-slice-write-keys t)
+    (object-add-n t)
+    (object-mul-value t)
+    (object-sub-value t)
+    (object-part-value-start t)
+    (object-part-value-end t)
+    (object-value-requires t)
+    (object-enum-known-f t)
+    (object-enum-known-e-2 t)
+    (object-same-length-3 t)
+    (object-same-length-4 t)
+    (object-returns-3 t)
+    (object-member-requires t)
+    (object-added-requires t)
+    (object-after-item-requires t)
+    (object-enum-known-end-2 t)
+    (object-slice-relend-prefix-closed t)
+    (object-slice-aggregate-closed t)
+    (object-closed-requires t)
+    (object-same-length-5 t)
+    (object-same-length-6 t)
+    (object-returns-4 t)
+    (object-enum-known-j t)
+    (object-loop-less t)
+    (object-loop-again t)
+    (object-enum-known-e-3 t)
+    (object-same-length-7 t)
+    (object-same-length-8 t)
+    (object-returns-5 t))
+    λ t. value-lts.spec (
+      array-below t,
+      array.Post,
+      object-below t,
+      object.Post,
+      scalar-reads.Asked,
+      scalar-reads.Learnt,
+    )
+    (value-at t)
+    value.Post
+    (value-shared-slice-read-b t)
+    (value-add-array t)
+    (value-sub-array t)
+    (value-array-requires t)
+    (value-same-length t)
+    (value-same-length-2 t)
+    (value-returns t)
+    (value-add-object t)
+    (value-sub-object t)
+    (value-object-requires t)
+    (value-same-length-3 t)
+    (value-same-length-4 t)
+    (value-returns-2 t)
+    (value-scalar-requires t)
+    (value-returns-3 t)

@@ -1,0 +1,6 @@
+pub mod Arrays
+pub mod Follow
+pub mod Objects
+pub mod Progress
+pub mod Tokens
+pub mod Values

@@ -1,0 +1,31 @@
+use Prim.Native.Nat.{ℕ, max}
+use mathlib.Core.Path.{ap, _∙_}
+use Rattle.scan.specs.declared.Scanned.the-variants.{Value}
+use borrow.Author.Needs.{needs}
+use Rattle.scan.proofs.closed.Statement.{statement}
+use Rattle.scan.proofs.closed.Tie as tie
+use Rattle.scan.proofs.closed.Reads as reads
+use Rattle.scan.proofs.closed.Lts as lts
+use Rattle.keys.proofs.order_keys.Reads as order-keys-reads
+use Rattle.scan.proofs.larger.Reads as larger-reads
+
+order-keys-requires : tie.Need-order-keys-requires
+order-keys-requires c κs = search needs
+
+larger-requires : tie.Need-larger-requires
+larger-requires c κs = search needs
+
+same-length : tie.Need-same-length
+same-length c = search needs
+
+same-length-2 : tie.Need-same-length-2
+same-length-2 c = search needs
+
+returns : tie.Need-returns
+returns c =
+    let a = c .before .before .before .before .before .before .before .before .before .before .before .args in
+    ap (λ (k : ℕ). Value (record { end = a .end; sum = record { string = a .sum .string; number = a .sum .number; key = k; size = a .sum .size } })) (c .larger .ensures ∙ ap (λ (k : ℕ). max k (a .sum .key)) (c .before .before .before .before .before .order-keys .ensures .1))
+
+pub closed-spec : {M : Type 1} → statement M
+closed-spec =
+    tie.close (tie.spec order-keys-requires larger-requires same-length same-length-2 returns)

@@ -1,0 +1,7 @@
+pub mod Contents
+pub mod Cursors
+pub mod Escapes
+pub mod Names
+pub mod Orders
+pub mod Positions
+pub mod Views

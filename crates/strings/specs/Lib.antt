@@ -1,0 +1,3 @@
+pub mod InString
+pub mod Cursor
+pub mod Compare

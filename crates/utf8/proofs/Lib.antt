@@ -1,0 +1,10 @@
+-- The laws of the crate, and what its proofs cite.
+pub mod Append
+pub mod Ascii
+pub mod Chars
+pub mod Encodings
+pub mod Examples
+pub mod Forms
+pub mod Place
+pub mod Ranges
+pub mod Steps

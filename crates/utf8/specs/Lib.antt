@@ -1,0 +1,3 @@
+pub mod Char
+pub mod Scalar
+pub mod Utf8

@@ -1,0 +1,79 @@
+/* Host interface of the ACON library. Link target/staticlib/libacon.a.
+ *
+ * Every function answers one 64-bit number:
+ *
+ *   bits  0 to  7   the number below: 0 done, anything else a refusal
+ *   bits  8 to 31   the first value of the answer
+ *   bits 32 to 63   the second value of the answer, 0 where there is none
+ *
+ * Each number is a question over the whole input. The lowest one that applies
+ * is given. In a refusal both values are 0 unless said otherwise, and no lent
+ * byte has changed.
+ *
+ * Pointers are never null, also where their length is 0. What a function may
+ * write must share no byte with anything else that is lent to it; nothing in
+ * the library can check that.
+ */
+#ifndef ACON_H
+#define ACON_H
+
+#include <stddef.h>
+#include <stdint.h>
+
+#ifdef __cplusplus
+extern "C" {
+#endif
+
+enum {
+    ACON_DONE = 0,       /* done */
+    ACON_TOO_LONG = 1,   /* text over 16,384 bytes */
+    ACON_NOT_UTF8 = 2,   /* text is not UTF-8 (RFC 3629) */
+    ACON_NOT_JSON = 3,   /* not a JSON text (RFC 8259) of nesting at most 8; empty text too */
+    ACON_BAD_STRING = 4, /* a string or key with a lone surrogate escape, or which
+                            after unescaping holds U+0000 to U+001F or U+007F */
+    ACON_BAD_NUMBER = 5, /* a number with fraction or exponent, -0, or outside
+                            -2,147,483,648 to 2,147,483,647 */
+    ACON_EQUAL_KEYS = 6, /* an object with two keys that are equal after unescaping */
+    ACON_NO_SPACE = 20   /* the output is longer than the buffer */
+};
+
+/* Longest text, in bytes, and deepest nesting of arrays and objects, the
+ * outermost counting 1. */
+enum { ACON_TEXT_MAX = 16384, ACON_NESTING_MAX = 8 };
+
+/* The number of an answer. */
+static inline unsigned acon_number(uint64_t answer)
+{
+    return (unsigned)(answer & 0xff);
+}
+
+/* The first value of an answer. */
+static inline uint32_t acon_first(uint64_t answer)
+{
+    return (uint32_t)(answer >> 8) & 0xffffff;
+}
+
+/* The second value of an answer. */
+static inline uint32_t acon_second(uint64_t answer)
+{
+    return (uint32_t)(answer >> 32);
+}
+
+/* Writes the canonical form of a JSON text into out.
+ *
+ * Keys stand in rising order of their unescaped UTF-8 bytes at every level, a
+ * key before those that it begins. There is no space outside strings. Strings
+ * are raw UTF-8 in which only the quotation mark and the backslash are escaped,
+ * each by one backslash. Arrays keep their order. The form is never longer than
+ * the text, so a buffer of text_len bytes is always enough.
+ *
+ * Number: 0 to 6 or 20. First value: the length of the form. Second value: 0.
+ * On success the bytes of out past the form stay as they were.
+ */
+uint64_t acon_canonical(const uint8_t *text, size_t text_len, uint8_t *out, size_t out_len);
+
+#ifdef __cplusplus
+}
+#endif
+
+#endif

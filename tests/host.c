@@ -1,0 +1,408 @@
+/* A C host that calls acon_canonical on single cases, each written out with
+ * what must come back. Every case is run with a buffer that is longer than the
+ * output, one that fits exactly and, where there is an output, one that is a
+ * byte short. */
+#include "acon.h"
+
+#include <stdio.h>
+#include <stdlib.h>
+#include <string.h>
+
+enum { MARGIN = 64 };
+enum { BUFFER = 2 * ACON_TEXT_MAX };
+
+static uint8_t buffer[BUFFER + MARGIN];
+static unsigned long checks;
+
+static uint8_t pattern(size_t i)
+{
+    return (uint8_t)(0xa5 ^ i * 29);
+}
+
+static void fail(const char *what, const uint8_t *text, size_t n, uint64_t answer)
+{
+    fprintf(stderr, "host: %s: number %u, values %u and %u, for a text of %zu bytes: ", what,
+            acon_number(answer), acon_first(answer), acon_second(answer), n);
+    for (size_t i = 0; i < n && i < 200; i++)
+        fprintf(stderr, text[i] >= 0x20 && text[i] < 0x7f ? "%c" : "\\x%02x", text[i]);
+    fprintf(stderr, "\n");
+    exit(1);
+}
+
+/* One call with a buffer of `size` bytes: the packed answer, the form and every
+ * byte around it. */
+static void call(const uint8_t *text, size_t n, size_t size, unsigned number, const uint8_t *form,
+                 size_t form_len)
+{
+    for (size_t i = 0; i < sizeof buffer; i++)
+        buffer[i] = pattern(i);
+    uint64_t answer = acon_canonical(text, n, buffer, size);
+    if (answer != ((uint64_t)form_len << 8 | number))
+        fail("wrong answer", text, n, answer);
+    if (acon_number(answer) != number || acon_first(answer) != form_len || acon_second(answer) != 0)
+        fail("wrong unpacking", text, n, answer);
+    if (memcmp(buffer, form, form_len) != 0)
+        fail("wrong form", text, n, answer);
+    for (size_t i = form_len; i < sizeof buffer; i++)
+        if (buffer[i] != pattern(i))
+            fail(number ? "a refusal changed a byte" : "a byte past the form changed", text, n, answer);
+    checks++;
+}
+
+static void accepted(const uint8_t *text, size_t n, const uint8_t *form, size_t form_len)
+{
+    call(text, n, BUFFER, 0, form, form_len);
+    call(text, n, form_len, 0, form, form_len);
+    call(text, n, form_len - 1, ACON_NO_SPACE, form, 0);
+    call(text, n, 0, ACON_NO_SPACE, form, 0);
+    /* The form is its own form. */
+    call(form, form_len, form_len, 0, form, form_len);
+}
+
+static void refused(const uint8_t *text, size_t n, unsigned number)
+{
+    call(text, n, BUFFER, number, text, 0);
+    call(text, n, n < BUFFER ? n : BUFFER, number, text, 0);
+    call(text, n, 1, number, text, 0);
+    call(text, n, 0, number, text, 0);
+}
+
+struct good {
+    const char *text, *form;
+};
+
+struct bad {
+    unsigned number;
+    size_t len; /* 0: as long as the C string */
+    const char *text;
+};
+
+static const struct good goods[] = {
+    /* keys, spaces and escapes */
+    {"{\"b\":1, \"a\":\"\\u0041\"}", "{\"a\":\"A\",\"b\":1}"},
+    {" \t\r\n{ \"b\" : [ 1 , 2 ] , \"a\" : { } } \n", "{\"a\":{},\"b\":[1,2]}"},
+    {"{\"z\":{\"y\":1,\"x\":{\"w\":2,\"v\":3}},\"a\":[{\"c\":4,\"b\":5}]}",
+     "{\"a\":[{\"b\":5,\"c\":4}],\"z\":{\"x\":{\"v\":3,\"w\":2},\"y\":1}}"},
+    {"[3,1,2]", "[3,1,2]"},
+    {"[ ]", "[]"},
+    {"{ }", "{}"},
+    {"[[],{},\"\"]", "[[],{},\"\"]"},
+    /* a key before those that it begins, the empty key first */
+    {"{\"ab\":1,\"b\":2,\"a\":3,\"\":4,\"aa\":5}", "{\"\":4,\"a\":3,\"aa\":5,\"ab\":1,\"b\":2}"},
+    /* keys are ordered by what they hold, not by how they are written */
+    {"{\"\\u0062\":1,\"a\":2}", "{\"a\":2,\"b\":1}"},
+    {"{\"b\":1,\"\\u0061\":2,\"\\/\":3}", "{\"/\":3,\"a\":2,\"b\":1}"},
+    {"{\"a\":1,\"\\\\\":2,\"\\\"\":3,\"Z\":4}", "{\"\\\"\":3,\"Z\":4,\"\\\\\":2,\"a\":1}"},
+    /* by UTF-8 bytes U+10000 stands after U+E000 and U+FFFF; by UTF-16 it would not */
+    {"{\"\xf0\x90\x80\x80\":1,\"\xee\x80\x80\":2,\"\xef\xbf\xbf\":3,\"\x7e\":4,\"\xc2\x80\":5}",
+     "{\"\x7e\":4,\"\xc2\x80\":5,\"\xee\x80\x80\":2,\"\xef\xbf\xbf\":3,\"\xf0\x90\x80\x80\":1}"},
+    /* two spellings of one letter are two keys: nothing is normalized */
+    {"{\"\xe0\xa4\x95\xe0\xa4\xbc\":1,\"\xe0\xa5\x98\":2}",
+     "{\"\xe0\xa4\x95\xe0\xa4\xbc\":1,\"\xe0\xa5\x98\":2}"},
+    /* one key in two objects is no fault */
+    {"{\"a\":{\"a\":1},\"b\":{\"a\":2}}", "{\"a\":{\"a\":1},\"b\":{\"a\":2}}"},
+    {"{\"A\":1,\"a\":2}", "{\"A\":1,\"a\":2}"},
+    /* strings */
+    {"\"\\u0041\\u00e9\\u0915\\ud83d\\ude00\"", "\"A\xc3\xa9\xe0\xa4\x95\xf0\x9f\x98\x80\""},
+    {"\"\\uD800\\uDC00\\uDBFF\\uDFFF\"", "\"\xf0\x90\x80\x80\xf4\x8f\xbf\xbf\""},
+    {"\"\\ud800\\uDC00\"", "\"\xf0\x90\x80\x80\""},
+    {"\"\\u0022\\u005c\\u005C\\u002f\\/\\\"\\\\\"", "\"\\\"\\\\\\\\//\\\"\\\\\""},
+    {"\"\\u0020\\u007e\\u0080\\u07ff\\u0800\\ud7ff\\ue000\\uffff\"",
+     "\"\x20\x7e\xc2\x80\xdf\xbf\xe0\xa0\x80\xed\x9f\xbf\xee\x80\x80\xef\xbf\xbf\""},
+    {"\"\xef\xbb\xbf\"", "\"\xef\xbb\xbf\""},                     /* U+FEFF inside a string */
+    {"\"\xc2\x80\xc2\x9f\xe2\x80\xa8\"", "\"\xc2\x80\xc2\x9f\xe2\x80\xa8\""}, /* C1 controls, U+2028 */
+    {"\"\\\\u0000\"", "\"\\\\u0000\""},                           /* an escaped backslash, then letters */
+    {"\"\\\\n\"", "\"\\\\n\""},
+    {"\" a  b \"", "\" a  b \""},
+    {"\"[{,:}]\"", "\"[{,:}]\""},
+    /* top-level scalars; a string keeps its quotes */
+    {"\"\"", "\"\""},
+    {" \"a\" ", "\"a\""},
+    {"true", "true"},
+    {"\tfalse", "false"},
+    {"null\r\n", "null"},
+    {"0", "0"},
+    {" -1 ", "-1"},
+    /* numbers */
+    {"[2147483647,-2147483648,0,-1,10,1000000000,-9]", "[2147483647,-2147483648,0,-1,10,1000000000,-9]"},
+    /* nesting of 8 */
+    {"[[[[[[[[]]]]]]]]", "[[[[[[[[]]]]]]]]"},
+    {"[[[[[[[[1,\"a\"],[]]]]]]]]", "[[[[[[[[1,\"a\"],[]]]]]]]]"},
+    {"{\"a\":{\"a\":{\"a\":{\"a\":{\"a\":{\"a\":{\"a\":{ }}}}}}}}",
+     "{\"a\":{\"a\":{\"a\":{\"a\":{\"a\":{\"a\":{\"a\":{}}}}}}}}"},
+    {"[{\"a\":[{\"a\":[{\"a\":[{\"b\":2,\"a\":1}]}]}]}]", "[{\"a\":[{\"a\":[{\"a\":[{\"a\":1,\"b\":2}]}]}]}]"},
+    {"{\"aconSpecVersion\":[1,0]}", "{\"aconSpecVersion\":[1,0]}"},
+};
+
+static const struct bad bads[] = {
+    /* 2: not UTF-8, wherever it stands */
+    {2, 0, "\"\x80\""},
+    {2, 0, "\"\xbf\""},
+    {2, 0, "\"\xc0\x80\""},
+    {2, 0, "\"\xc1\xbf\""},
+    {2, 0, "\"\xc3\""},
+    {2, 0, "\"\xc3"},
+    {2, 0, "\"\xe0\x80\x80\""},
+    {2, 0, "\"\xe0\x9f\xbf\""},
+    {2, 0, "\"\xed\xa0\x80\""},
+    {2, 0, "\"\xed\xbf\xbf\""},
+    {2, 0, "\"\xed\xa0\x80\xed\xb0\x80\""},
+    {2, 0, "\"\xf0\x80\x80\x80\""},
+    {2, 0, "\"\xf0\x8f\xbf\xbf\""},
+    {2, 0, "\"\xf4\x90\x80\x80\""},
+    {2, 0, "\"\xf5\x80\x80\x80\""},
+    {2, 0, "\"\xe0\xa4\""},
+    {2, 0, "\"\xf0\x9f\x98\""},
+    {2, 0, "\"\xff\""},
+    {2, 0, "\xfe\xff"},
+    {2, 0, "\xff\xfe"},
+    {2, 0, "[1]\x80"},
+    {2, 0, "junk\xff"},
+    /* 3: not a JSON text */
+    {3, 0, ""},
+    {3, 0, " "},
+    {3, 0, "\t\r\n "},
+    {3, 0, "\xef\xbb\xbf[]"},
+    {3, 0, "[\xef\xbb\xbf]"},
+    {3, 0, "[]\xef\xbb\xbf"},
+    {3, 0, "\xc2\xa0[]"},
+    {3, 0, "\x0b[]"},
+    {3, 0, "\x0c[]"},
+    {3, 3, "[]\0"},
+    {3, 1, "\0"},
+    {3, 0, "["},
+    {3, 0, "]"},
+    {3, 0, "{"},
+    {3, 0, "}"},
+    {3, 0, "[}"},
+    {3, 0, "{]"},
+    {3, 0, "[1"},
+    {3, 0, "[1,"},
+    {3, 0, "[1,]"},
+    {3, 0, "[,1]"},
+    {3, 0, "[1 2]"},
+    {3, 0, "[1,,2]"},
+    {3, 0, "[1]]"},
+    {3, 0, "[] []"},
+    {3, 0, "1 1"},
+    {3, 0, "{\"a\"}"},
+    {3, 0, "{\"a\":}"},
+    {3, 0, "{\"a\":1,}"},
+    {3, 0, "{,}"},
+    {3, 0, "{\"a\" 1}"},
+    {3, 0, "{\"a\"::1}"},
+    {3, 0, "{\"a\":1 \"b\":2}"},
+    {3, 0, "{a:1}"},
+    {3, 0, "{1:1}"},
+    {3, 0, "{\"a\":1"},
+    {3, 0, "{\"a\":1,\"b\""},
+    {3, 0, "[\"a\":1]"},
+    {3, 0, "'a'"},
+    {3, 0, "tru"},
+    {3, 0, "truee"},
+    {3, 0, "True"},
+    {3, 0, "nul"},
+    {3, 0, "falsey"},
+    {3, 0, "NaN"},
+    {3, 0, "Infinity"},
+    {3, 0, "-Infinity"},
+    {3, 0, "[1]//"},
+    {3, 0, "/**/1"},
+    {3, 0, "01"},
+    {3, 0, "-01"},
+    {3, 0, "00"},
+    {3, 0, "+1"},
+    {3, 0, ".5"},
+    {3, 0, "1."},
+    {3, 0, "1.e1"},
+    {3, 0, "-"},
+    {3, 0, "--1"},
+    {3, 0, "1e"},
+    {3, 0, "1e+"},
+    {3, 0, "1.5e-"},
+    {3, 0, "0x10"},
+    {3, 0, "1_000"},
+    {3, 0, "\""},
+    {3, 0, "\"a"},
+    {3, 0, "\"\\\""},
+    {3, 0, "\"\\"},
+    {3, 0, "\"\\x41\""},
+    {3, 0, "\"\\U0041\""},
+    {3, 0, "\"\\a\""},
+    {3, 0, "\"\\'\""},
+    {3, 0, "\"\\u\""},
+    {3, 0, "\"\\u004\""},
+    {3, 0, "\"\\u004g\""},
+    {3, 0, "\"\\u00 41\""},
+    {3, 0, "\"\\u+041\""},
+    {3, 0, "\"\\ud83d\\u\""},
+    {3, 0, "\"\\u004"},
+    /* a raw control character is no JSON string: 3 and not 4 */
+    {3, 0, "\"\t\""},
+    {3, 0, "\"\n\""},
+    {3, 0, "\"\x01\""},
+    {3, 0, "\"\x1f\""},
+    {3, 3, "\"\0\""},
+    {3, 0, "\"\\\n\""},
+    /* nesting of 9, also where the innermost is empty */
+    {3, 0, "[[[[[[[[[]]]]]]]]]"},
+    {3, 0, "[[[[[[[[{}]]]]]]]]"},
+    {3, 0, "{\"a\":{\"a\":{\"a\":{\"a\":{\"a\":{\"a\":{\"a\":{\"a\":{}}}}}}}}}"},
+    {3, 0, "[1,[[[[[[[2,[]]]]]]]]]"},
+    {3, 0, "[[[[[[[["},
+    /* 4: strings and keys */
+    {4, 0, "\"\\u0000\""},
+    {4, 0, "\"\\u001f\""},
+    {4, 0, "\"\\u007f\""},
+    {4, 0, "\"\\u007F\""},
+    {4, 0, "\"\x7f\""},
+    {4, 0, "\"\\b\""},
+    {4, 0, "\"\\f\""},
+    {4, 0, "\"\\n\""},
+    {4, 0, "\"\\r\""},
+    {4, 0, "\"\\t\""},
+    {4, 0, "{\"\\n\":1}"},
+    {4, 0, "{\"a\x7f\":1}"},
+    {4, 0, "\"\\ud800\""},
+    {4, 0, "\"\\udbff\""},
+    {4, 0, "\"\\udc00\""},
+    {4, 0, "\"\\uDFFF\""},
+    {4, 0, "\"\\ud800a\""},
+    {4, 0, "\"\\ud800\\n\""},
+    {4, 0, "\"\\ud800\\u0041\""},
+    {4, 0, "\"\\ud800\\ud800\""},
+    {4, 0, "\"\\ud800\\ud800\\udc00\""},
+    {4, 0, "\"\\ud800\\udc00\\udc00\""},
+    {4, 0, "\"\\udc00\\ud800\""},
+    {4, 0, "\"\\ud800 \\udc00\""},
+    {4, 0, "\"\\ud800\\\\udc00\""},
+    {4, 0, "{\"\\ud800\":1}"},
+    {4, 0, "[1,{\"a\":[\"\\udc00\"]}]"},
+    /* 5: numbers */
+    {5, 0, "-0"},
+    {5, 0, "1e0"},
+    {5, 0, "1E0"},
+    {5, 0, "1.0"},
+    {5, 0, "0.0"},
+    {5, 0, "-0.0"},
+    {5, 0, "-0e0"},
+    {5, 0, "0e0"},
+    {5, 0, "1e+2"},
+    {5, 0, "1.5e-3"},
+    {5, 0, "1E400"},
+    {5, 0, "2147483648"},
+    {5, 0, "-2147483649"},
+    {5, 0, "3000000000"},
+    {5, 0, "10000000000"},
+    {5, 0, "4294967296"},
+    {5, 0, "-4294967297"},
+    {5, 0, "18446744073709551616"},
+    {5, 0, "18446744073709551617"},
+    {5, 0, "-18446744073709551615"},
+    {5, 0, "340282366920938463463374607431768211457"},
+    {5, 0, "[{\"a\":[-0]}]"},
+    /* 6: equal keys */
+    {6, 0, "{\"a\":1,\"a\":1}"},
+    {6, 0, "{\"a\":1,\"\\u0061\":2}"},
+    {6, 0, "{\"\":1,\"\":2}"},
+    {6, 0, "{\"/\":1,\"b\":2,\"\\/\":3}"},
+    {6, 0, "{\"\\\"\":1,\"\\u0022\":2}"},
+    {6, 0, "{\"\\\\\":1,\"\\u005C\":2}"},
+    {6, 0, "{\"\xf0\x9f\x98\x80\":1,\"\\ud83d\\uDE00\":2}"},
+    {6, 0, "{\"\xe0\xa4\x95\":1,\"x\":0,\"\\u0915\":2}"},
+    {6, 0, "[{\"x\":{\"b\":1,\"a\":2,\"b\":3}}]"},
+    {6, 0, "{\"c\":0,\"a\":{\"k\":1},\"b\":0,\"a\":[]}"},
+    /* the lowest number counts, wherever it stands */
+    {2, 0, "[1,\xff"},
+    {2, 0, "[\"\\ud800\",-0,{\"a\":1,\"a\":2}]\xff"},
+    {3, 0, "[\"\\ud800\",-0,{\"a\":1,\"a\":2}"},
+    {3, 0, "{\"a\":1,\"a\":2,}"},
+    {3, 0, "-0 1"},
+    {4, 0, "[-0,\"\\ud800\"]"},
+    {4, 0, "[{\"a\":1,\"a\":2},\"\\n\"]"},
+    {4, 0, "{\"\\t\":1,\"\\t\":-0}"},
+    {5, 0, "[{\"a\":1,\"a\":2},-0]"},
+    {5, 0, "{\"a\":1.5,\"a\":2}"},
+};
+
+/* A text of n bytes: `open`, as many `fill` as are needed, `close`. */
+static uint8_t *filled(const char *open, char fill, const char *close, size_t n)
+{
+    uint8_t *text = malloc(n);
+    if (!text)
+        abort();
+    memset(text, fill, n);
+    memcpy(text, open, strlen(open));
+    memcpy(text + n - strlen(close), close, strlen(close));
+    return text;
+}
+
+static void long_texts(void)
+{
+    /* the limit, with the space counted */
+    uint8_t *t = filled("\"", 'a', "\"", 16384);
+    accepted(t, 16384, t, 16384);
+    free(t);
+    t = filled("\"", 'a', "\"", 16385);
+    refused(t, 16385, 1);
+    free(t);
+    t = filled("[", ' ', "]", 16384);
+    accepted(t, 16384, (const uint8_t *)"[]", 2);
+    free(t);
+    t = filled("[", ' ', "]", 16385);
+    refused(t, 16385, 1);
+    free(t);
+    t = filled("[", ' ', "", 16384);
+    refused(t, 16384, 3);
+    free(t);
+    /* 1 comes before everything else */
+    t = filled("\xff", 'x', "\"", 16385);
+    refused(t, 16385, 1);
+    free(t);
+    t = filled("", 'x', "", 1000000);
+    refused(t, 1000000, 1);
+    free(t);
+    /* numbers of many digits */
+    t = filled("", '9', "", 5000);
+    refused(t, 5000, 5);
+    free(t);
+    t = filled("1", '0', "", 16384);
+    refused(t, 16384, 5);
+    free(t);
+    t = filled("0", '0', "", 16384);
+    refused(t, 16384, 3);
+    free(t);
+    t = filled("0.", '0', "", 16384);
+    refused(t, 16384, 5);
+    free(t);
+
+    /* many keys in falling order, then the form with its last key made equal to its first */
+    char *many = malloc(ACON_TEXT_MAX), *form = malloc(ACON_TEXT_MAX);
+    if (!many || !form)
+        abort();
+    size_t n = 0, m = 0;
+    for (int i = 0; i < 1600; i++) {
+        n += (size_t)sprintf(many + n, "%c\"%04d\":0", i == 0 ? '{' : ',', 1599 - i);
+        m += (size_t)sprintf(form + m, "%c\"%04d\":0", i == 0 ? '{' : ',', i);
+    }
+    many[n++] = '}';
+    form[m++] = '}';
+    accepted((uint8_t *)many, n, (uint8_t *)form, m);
+    memcpy(form + m - 8, "0000", 4);
+    refused((uint8_t *)form, m, 6);
+    free(many);
+    free(form);
+}
+
+int main(void)
+{
+    for (size_t i = 0; i < sizeof goods / sizeof goods[0]; i++)
+        accepted((const uint8_t *)goods[i].text, strlen(goods[i].text),
+                 (const uint8_t *)goods[i].form, strlen(goods[i].form));
+    for (size_t i = 0; i < sizeof bads / sizeof bads[0]; i++)
+        refused((const uint8_t *)bads[i].text, bads[i].len ? bads[i].len : strlen(bads[i].text),
+                bads[i].number);
+    long_texts();
+    printf("host: %lu calls answered as written down\n", checks);
+    return 0;
+}
