@@ -2,9 +2,12 @@
 use scan::Scanned;
 use utf8::Verdict;
 ghost use mathlib.Core.Path.{_≡_};
-ghost use Rattle.text.specs.Answer.{checked, byTree, byFaults};
+ghost use mathlib.Core.List.{_++_};
+ghost use Rattle.text.specs.Question.{textNumber};
+ghost use Rattle.text.specs.Answer.{checked, byTree, byFaults, form, canonicalNumber, canonicalLength, canonicalBytes, isCanonical};
+ghost use Rattle.laws.specs.Order.{same};
 ghost use Prim.Native.Nat.{_-_, _≤_};
-ghost use lib.ListN.{length};
+ghost use lib.ListN.{length, drop};
 ghost use Rattle.json.specs.Read.{readText};
 
 // A text that is taken, with the length of its canonical form; or document 01's number and the offset of the fault.
@@ -51,4 +54,79 @@ fn offset(len: usize, left: usize) -> usize
     ensures { λ r. ⌜ r ≡ len - left ⌝ }
 {
     if left <= len { len - left } else { 0 }
+}
+
+// The number of document 01's table, and the length of the output, which is 0 in a refusal.
+pub struct Answer {
+    pub number: usize,
+    pub length: usize,
+}
+
+// Writes the canonical form of a text at the start of `out`. Where it refuses, and past the form, `out` stays as it was.
+pub fn canonical(text: &[u8], out: &mut [u8]) -> Answer
+    ensures { λ r. ⌜ r .number ≡ canonicalNumber (now (text .entry)) (length (now (out .entry))) ⌝ }
+    ensures { λ r. ⌜ r .length ≡ canonicalLength (now (text .entry)) (length (now (out .entry))) ⌝ }
+    ensures { λ _. ⌜ now (out .exit) ≡ canonicalBytes (now (text .entry)) (now (out .entry)) ⌝ }
+{
+    match check(text) {
+        Checked::Refused(number, _) => refused(out, number),
+        Checked::Accepted(size) => {
+            if out.len() < size {
+                return refused(out, 20);
+            }
+            write_form(text, out)
+        }
+    }
+}
+
+// A refusal: its number, and `out` as it was.
+fn refused(out: &mut [u8], number: usize) -> Answer
+    ensures { λ r. ⌜ (r .number ≡ number) × (r .length ≡ 0) ⌝ }
+    ensures { λ _. ⌜ now (out .exit) ≡ now (out .entry) ⌝ }
+{
+    Answer { number, length: 0 }
+}
+
+// Writes the form of a text that is taken.
+fn write_form(text: &[u8], out: &mut [u8]) -> Answer
+    requires { ⌜ (textNumber (now text) ≡ 0) × (length (form (now text)) ≤ length (now out)) ⌝ }
+    ensures { λ r. ⌜ (r .number ≡ 0) × (r .length ≡ length (form (now (text .entry)))) ⌝ }
+    ensures { λ _. ⌜ now (out .exit) ≡ form (now (text .entry)) ++ drop (length (form (now (text .entry)))) (now (out .entry)) ⌝ }
+{
+    let mut keys = [0u16; 4096];
+    let mut spare = [0u16; 4096];
+    let at = view::value::root(text);
+    let length = canonical::write_value(text, at, 8, out, &mut keys, &mut spare);
+    Answer { number: 0, length }
+}
+
+// The text is taken and is its own canonical form.
+pub fn is_canonical(text: &[u8]) -> bool
+    ensures { λ r. ⌜ r ≡ isCanonical (now (text .entry)) ⌝ }
+{
+    let mut buffer = [0u8; 16384];
+    let a = canonical(text, &mut buffer);
+    let n = a.length;
+    if a.number == 0 {
+        if n <= 16384 {
+            return equal_bytes(&buffer[..n], text);
+        }
+    }
+    false
+}
+
+fn equal_bytes(a: &[u8], b: &[u8]) -> bool
+    ensures { λ r. ⌜ r ≡ same (now (a .entry)) (now (b .entry)) ⌝ }
+{
+    if a.len() != b.len() {
+        return false;
+    }
+    let mut i = 0;
+    while i < a.len() {
+        if a[i] != b[i] {
+            return false;
+        }
+        i += 1;
+    }
+    true
 }

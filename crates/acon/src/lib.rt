@@ -1,0 +1,23 @@
+// The calls that the host, written in C, makes. They only pack the numbers of an answer; include/acon.h declares them.
+ghost use mathlib.Core.Path.{_≡_};
+ghost use Prim.Native.Nat.{_<_};
+ghost use lib.ListN.{length};
+ghost use Rattle.text.specs.Answer.{canonicalNumber, canonicalLength, canonicalBytes};
+ghost use Rattle.acon.specs.Packed.{packed};
+
+// The canonical form of a JSON text, written at the start of `out`; the first value is its length.
+#[no_mangle]
+pub extern "C" fn acon_canonical(text: &[u8], out: &mut [u8]) -> u64
+    ensures { λ r. ⌜ r ≡ packed (canonicalNumber (now (text .entry)) (length (now (out .entry)))) (canonicalLength (now (text .entry)) (length (now (out .entry)))) 0 ⌝ }
+    ensures { λ _. ⌜ now (out .exit) ≡ canonicalBytes (now (text .entry)) (now (out .entry)) ⌝ }
+{
+    let a = text::canonical(text, out);
+    pack(a.number, a.length, 0)
+}
+
+fn pack(number: usize, first: usize, second: usize) -> u64
+    requires { ⌜ (number < 0x100) × (first < 0x1000000) × (second < 0x100000000) ⌝ }
+    ensures { λ r. ⌜ r ≡ packed number first second ⌝ }
+{
+    number as u64 + first as u64 * 0x100 + second as u64 * 0x100000000
+}

@@ -1,0 +1,669 @@
+-- The cycle of `write_value`, `write_array`, `write_object` and `write_member`: each meets its contract. The measure goes by the depth.
+-- Both loops keep that what is written, with what is left, is the canonical form of the whole. Assumes nothing.
+use borrow.Author.Needs.{needs}
+use Prim.Native.Nat.{_+_, _-_, _*_, _≤_}
+use mathlib.Core.Path.{_≡_, refl, sym, ap, subst, _∙_}
+use mathlib.Core.Bool.{Bool, true, false}
+use native.Mathlib.Omega.{arith}
+use denote.Ref.{now}
+use lib.Dec.{eqb}
+use lib.ListN.{length, getD, set, length-set}
+use borrow.Rule.Slice.PartMut.{midOf, putMid}
+use Rattle.content.specs.Value.{Value}
+use Rattle.content.specs.Canonical.{comma}
+use Rattle.printer.specs.Writes.{Writes}
+use Rattle.printer.proofs.Written
+use Rattle.view.specs.Listed.{Gives}
+use Rattle.view.specs.declared.value.Item.the-variants.{At, End}
+use Rattle.view.proofs.Values.{within}
+use Rattle.canonical.specs.Room.{Room}
+use Rattle.canonical.proofs.Values.{array-value, object-value, no-branch}
+use Rattle.canonical.proofs.Marks.{from-mark}
+use Rattle.canonical.proofs.Arrays
+use Rattle.canonical.proofs.Objects
+use Rattle.canonical.proofs.MemberParts
+use Prim.Native.Nat.{ℕ, _<_}
+use borrow.Fn.Kinds.{In, Out}
+use borrow.Fn.PlainCycle.{Measures, is, falls, and}
+use Rattle.canonical.proofs.write_array.Reads as write-array
+use Rattle.canonical.proofs.write_array.Kinds as write-array-kinds
+use Rattle.canonical.proofs.+write_array+write_member+write_object+write_value.Lts-write_array as write-array-lts
+use Rattle.canonical.proofs.write_member.Reads as write-member
+use Rattle.canonical.proofs.write_member.Kinds as write-member-kinds
+use Rattle.canonical.proofs.+write_array+write_member+write_object+write_value.Lts-write_member as write-member-lts
+use Rattle.canonical.proofs.write_object.Reads as write-object
+use Rattle.canonical.proofs.write_object.Kinds as write-object-kinds
+use Rattle.canonical.proofs.+write_array+write_member+write_object+write_value.Lts-write_object as write-object-lts
+use Rattle.canonical.proofs.write_value.Reads as write-value
+use Rattle.canonical.proofs.write_value.Kinds as write-value-kinds
+use Rattle.canonical.proofs.+write_array+write_member+write_object+write_value.Lts-write_value as write-value-lts
+use Rattle.canonical.proofs.separate.Reads as separate-reads
+use Rattle.canonical.proofs.sorted_keys.Reads as sorted-keys-reads
+use Rattle.canonical.proofs.write_scalar.Reads as write-scalar-reads
+use Rattle.printer.proofs.write_string.Reads as write-string-reads
+use Rattle.view.proofs.value.item_value.Reads as item-value-reads
+use Rattle.view.proofs.value.kind.Reads as kind-reads
+use Rattle.view.proofs.value.read_item.Reads as read-item-reads
+use Rattle.canonical.proofs.+write_array+write_member+write_object+write_value.{statement}
+use Rattle.canonical.proofs.+write_array+write_member+write_object+write_value.Tie.{close}
+
+abbrev μ-write-array : Measures 4 write-array-kinds.ps ℕ
+μ-write-array κs a = 3 * (a .1 .1 .0) + 1
+
+abbrev μ-write-member : Measures 4 write-member-kinds.ps ℕ
+μ-write-member κs a = 3 * (a .1 .1 .0) + 3
+
+abbrev μ-write-object : Measures 4 write-object-kinds.ps ℕ
+μ-write-object κs a = 3 * (a .1 .1 .0) + 1
+
+abbrev μ-write-value : Measures 4 write-value-kinds.ps ℕ
+μ-write-value κs a = 3 * (a .1 .1 .0) + 2
+
+abbrev write-array-at : ℕ → In 4 write-array-kinds.ps
+write-array-at t =
+    and 4 write-array-kinds.ps (is 4 write-array-kinds.ps μ-write-array t) write-array.Pre
+
+abbrev write-array-below : ℕ → In 4 write-array-kinds.ps
+write-array-below t =
+    and 4 write-array-kinds.ps (falls 4 write-array-kinds.ps _<_ μ-write-array t) write-array.Pre
+
+abbrev write-member-at : ℕ → In 4 write-member-kinds.ps
+write-member-at t =
+    and 4 write-member-kinds.ps (is 4 write-member-kinds.ps μ-write-member t) write-member.Pre
+
+abbrev write-member-below : ℕ → In 4 write-member-kinds.ps
+write-member-below t =
+    and
+    4
+    write-member-kinds.ps
+    (falls 4 write-member-kinds.ps _<_ μ-write-member t)
+    write-member.Pre
+
+abbrev write-object-at : ℕ → In 4 write-object-kinds.ps
+write-object-at t =
+    and 4 write-object-kinds.ps (is 4 write-object-kinds.ps μ-write-object t) write-object.Pre
+
+abbrev write-object-below : ℕ → In 4 write-object-kinds.ps
+write-object-below t =
+    and
+    4
+    write-object-kinds.ps
+    (falls 4 write-object-kinds.ps _<_ μ-write-object t)
+    write-object.Pre
+
+abbrev write-value-at : ℕ → In 4 write-value-kinds.ps
+write-value-at t =
+    and 4 write-value-kinds.ps (is 4 write-value-kinds.ps μ-write-value t) write-value.Pre
+
+abbrev write-value-below : ℕ → In 4 write-value-kinds.ps
+write-value-below t =
+    and 4 write-value-kinds.ps (falls 4 write-value-kinds.ps _<_ μ-write-value t) write-value.Pre
+
+abbrev write-array-calls : ℕ → write-array-lts.Claims
+write-array-calls t = (
+  read-item-reads.Asked,
+  read-item-reads.Learnt,
+  separate-reads.Asked,
+  separate-reads.Learnt,
+  write-value-below t,
+  write-value.Post,
+)
+
+abbrev write-member-calls : ℕ → write-member-lts.Claims
+write-member-calls t = (
+  write-string-reads.Asked,
+  write-string-reads.Learnt,
+  item-value-reads.Asked,
+  item-value-reads.Learnt,
+  write-value-below t,
+  write-value.Post,
+)
+
+abbrev write-object-calls : ℕ → write-object-lts.Claims
+write-object-calls t = (
+  sorted-keys-reads.Asked,
+  sorted-keys-reads.Learnt,
+  separate-reads.Asked,
+  separate-reads.Learnt,
+  write-member-below t,
+  write-member.Post,
+)
+
+abbrev write-value-calls : ℕ → write-value-lts.Claims
+write-value-calls t = (
+  kind-reads.Asked,
+  kind-reads.Learnt,
+  write-array-below t,
+  write-array.Post,
+  write-object-below t,
+  write-object.Post,
+  write-scalar-reads.Asked,
+  write-scalar-reads.Learnt,
+)
+
+abbrev write-array-Inv-loop : write-array-lts.InvT-loop
+write-array-Inv-loop s at depth out₀ keys₀ spare₀ n₀ start₀ i₀ out keys spare n start i =
+    Arrays.Progress s at depth out₀ keys₀ spare₀ out n start i × (length keys ≡ length keys₀) × (length spare ≡ length spare₀)
+
+abbrev write-array-μ-loop : write-array-lts.MeasureT-loop
+write-array-μ-loop s at depth out₀ keys₀ spare₀ n₀ start₀ i₀ out keys spare n start i = length s - i
+
+-- a need or a place of `write_array`, at the measure t
+abbrev In-array : ℕ → (write-array-lts.Claims → In 4 write-array-kinds.ps → Out 4 write-array-kinds.ps write-array-kinds.r → write-array-lts.InvT-loop → write-array-lts.MeasureT-loop → Type 0) → Type 0
+In-array t F = F (write-array-calls t) (write-array-at t) write-array.Post write-array-Inv-loop write-array-μ-loop
+
+write-array-slice-write-out : (t : ℕ) → In-array t write-array-lts.Need-slice-write-out
+write-array-slice-write-out t c = Arrays.mark-fits (c .before .before .before .before .pre .1)
+
+write-array-add-i : (t : ℕ) → In-array t write-array-lts.Need-add-i
+write-array-add-i t c =
+    let b = c .before .before .before .before in
+    omega (arith, within _ _ _ _ (b .pre .1 .room .here), b .good)
+
+write-array-loop-holds : (t : ℕ) → In-array t write-array-lts.Need-loop-holds
+write-array-loop-holds t c = (Arrays.started (c .before .before .before .before .pre .1), refl, refl)
+
+write-array-sub-read-item : (t : ℕ) → In-array t write-array-lts.Need-sub-read-item
+write-array-sub-read-item t c = omega (arith, c .loop .inv .0 .some)
+
+write-array-read-item-requires : (t : ℕ) → In-array t write-array-lts.Need-read-item-requires
+write-array-read-item-requires t c κs = Arrays.items-left (c .loop .inv .0)
+
+write-array-enum-known-value : (t : ℕ) → In-array t write-array-lts.Need-enum-known-value
+write-array-enum-known-value t c = search needs
+
+-- what is left is an element and others
+element-given : (t : ℕ) (c : In-array t write-array-lts.After-known-told)
+    → let l = c .before .before .before .before in let a = l .before .before .before .before .before .args in let g = c .before .value .given .0 in
+    Gives (now (a .s)) (l .loop .i) (a .depth - 1) false (l .loop .inv .0 .trees) (l .loop .inv .0 .rest) (At (g .0) (g .1 .0) (g .1 .1 .0))
+element-given t c =
+    let d = c .before .before .before in
+    let p = d .before .loop .inv .0 in
+    let a = d .before .before .before .before .before .before .args in
+    subst (Gives (now (a .s)) (d .before .loop .i) (a .depth - 1) false (p .trees) (p .rest)) (c .before .value .given .1) (d .read-item .ensures (p .trees) (p .rest) (p .left))
+
+write-array-separate-requires : (t : ℕ) → In-array t write-array-lts.Need-separate-requires
+write-array-separate-requires t c κs =
+    let k = c .before in
+    Arrays.comma-fits (k .before .before .before .before .loop .inv .0) _ _ _ (element-given t k)
+
+write-array-sub-write-value : (t : ℕ) → In-array t write-array-lts.Need-sub-write-value
+write-array-sub-write-value t c = omega (arith, c .before .before .before .before .before .before .before .before .loop .inv .0 .some)
+
+write-array-sub-write-value-2 : (t : ℕ) → In-array t write-array-lts.Need-sub-write-value-2
+write-array-sub-write-value-2 t c =
+    let d = c .before .before in
+    let k = d .before .before in
+    let p = k .before .before .before .before .loop .inv .0 in
+    Arrays.part-fits p _ _ _ (element-given t k) _ _ (d .separate .ensures .0) (d .separate .ensures .1 _ _ (p .size) (p .written))
+
+write-array-part-write-value-start : (t : ℕ) → In-array t write-array-lts.Need-part-write-value-start
+write-array-part-write-value-start t c =
+    let d = c .before .before in
+    let k = d .before .before in
+    let p = k .before .before .before .before .loop .inv .0 in
+    Arrays.part-fits p _ _ _ (element-given t k) _ _ (d .separate .ensures .0) (d .separate .ensures .1 _ _ (p .size) (p .written))
+
+write-array-part-write-value-end : (t : ℕ) → In-array t write-array-lts.Need-part-write-value-end
+write-array-part-write-value-end t c = search needs
+
+write-array-write-value-requires : (t : ℕ) → In-array t write-array-lts.Need-write-value-requires
+write-array-write-value-requires t c κs =
+    let d = c .before .before .before .before .before in
+    let k = d .before .before in
+    let l = k .before .before .before .before in
+    let p = l .loop .inv .0 in
+    let e = Arrays.element p _ _ _ (element-given t k) _ _ (d .separate .ensures .0) (d .separate .ensures .1 _ _ (p .size) (p .written)) in
+    (omega (arith, l .before .before .before .before .before .pre .0, p .some), e _ _ (l .loop .inv .1) (l .loop .inv .2))
+
+write-array-add-n : (t : ℕ) → In-array t write-array-lts.Need-add-n
+write-array-add-n t c =
+    let e = c .before .before .before .before .before .before in
+    let d = e .before .before .before .before .before .before in
+    let k = d .before .before in
+    let l = k .before .before .before .before in
+    let p = l .loop .inv .0 in
+    let o = now (l .before .before .before .before .before .args .out) in
+    omega (arith, Arrays.next-fits p _ _ _ (element-given t k) _ _ (d .separate .ensures .0) (d .separate .ensures .1 _ _ (p .size) (p .written)) _ _ (e .write-value .ensures), length-set o 0 0x5B, l .before .before .before .before .before .good)
+
+write-array-loop-less : (t : ℕ) → In-array t write-array-lts.Need-loop-less
+write-array-loop-less t c =
+    let d = c .before .before .before .before .before .before .before .before .before .before .before .before in
+    let k = d .before .before in
+    omega (arith, Arrays.later (k .before .before .before .before .loop .inv .0) _ _ _ (element-given t k))
+
+write-array-loop-again : (t : ℕ) → In-array t write-array-lts.Need-loop-again
+write-array-loop-again t c =
+    let e = c .before .before .before .before .before .before in
+    let d = e .before .before .before .before .before .before in
+    let k = d .before .before in
+    let l = k .before .before .before .before in
+    let p = l .loop .inv .0 in
+    (Arrays.advanced p _ _ _ (element-given t k) _ _ (d .separate .ensures .0) (d .separate .ensures .1 _ _ (p .size) (p .written)) _ _ (e .write-value .ensures), e .write-value .kept .1 .1 .1 .1 .0 ∙ l .loop .inv .1, e .write-value .kept .1 .1 .1 .1 .1 .0 ∙ l .loop .inv .2)
+
+write-array-enum-told : (t : ℕ) → In-array t write-array-lts.Need-enum-told
+write-array-enum-told t c = search needs
+
+-- nothing is left
+elements-ended : (t : ℕ) (c : In-array t write-array-lts.After-enum-told)
+    → let l = c .before .before .before in let a = l .before .before .before .before .before .args in
+    Gives (now (a .s)) (l .loop .i) (a .depth - 1) false (l .loop .inv .0 .trees) (l .loop .inv .0 .rest) (End (c .enum-told .given .0 .0))
+elements-ended t c =
+    let d = c .before .before in
+    let p = d .before .loop .inv .0 in
+    let a = d .before .before .before .before .before .before .args in
+    subst (Gives (now (a .s)) (d .before .loop .i) (a .depth - 1) false (p .trees) (p .rest)) (c .enum-told .given .1) (d .read-item .ensures (p .trees) (p .rest) (p .left))
+
+write-array-slice-write-out-2 : (t : ℕ) → In-array t write-array-lts.Need-slice-write-out-2
+write-array-slice-write-out-2 t c = Arrays.end-fits (c .before .before .before .loop .inv .0) _ (elements-ended t c)
+
+write-array-add-result : (t : ℕ) → In-array t write-array-lts.Need-add-result
+write-array-add-result t c =
+    let l = c .before .before .before in
+    let p = l .loop .inv .0 in
+    let b = l .before .before .before .before .before in
+    omega (arith, Arrays.end-fits p _ (elements-ended t c), Written.same-length (p .written), length-set (now (b .args .out)) 0 0x5B, b .good)
+
+write-array-same-length : (t : ℕ) → In-array t write-array-lts.Need-same-length
+write-array-same-length t c =
+    let l = c .before .before .before in
+    simp length-set (Written.same-length (l .loop .inv .0 .written) ∙ length-set (now (l .before .before .before .before .before .args .out)) 0 0x5B)
+
+write-array-same-length-2 : (t : ℕ) → In-array t write-array-lts.Need-same-length-2
+write-array-same-length-2 t c = c .before .before .before .loop .inv .1
+
+write-array-same-length-3 : (t : ℕ) → In-array t write-array-lts.Need-same-length-3
+write-array-same-length-3 t c = c .before .before .before .loop .inv .2
+
+write-array-returns : (t : ℕ) → In-array t write-array-lts.Need-returns
+write-array-returns t c =
+    let l = c .before .before .before in
+    λ v h. from-mark _ 0x5B _ (Arrays.finished (l .loop .inv .0) _ (elements-ended t c) v h)
+
+-- a need or a place of `write_member`, at the measure t
+abbrev In-member : ℕ → (write-member-lts.Claims → In 4 write-member-kinds.ps → Out 4 write-member-kinds.ps write-member-kinds.r → Type 0) → Type 0
+In-member t F = F (write-member-calls t) (write-member-at t) write-member.Post
+
+write-member-write-string-requires : (t : ℕ) → In-member t write-member-lts.Need-write-string-requires
+write-member-write-string-requires t c κs =
+    let p = c .before .before .before .before .before .pre .1 in
+    (MemberParts.key-inside p, MemberParts.key-fits p)
+
+write-member-slice-write-out : (t : ℕ) → In-member t write-member-lts.Need-slice-write-out
+write-member-slice-write-out t c =
+    let d = c .before .before in
+    MemberParts.colon-fits (d .before .before .before .before .before .before .pre .1) _ _ (d .write-string .ensures)
+
+write-member-add-start : (t : ℕ) → In-member t write-member-lts.Need-add-start
+write-member-add-start t c =
+    let d = c .before .before in
+    let f = MemberParts.colon-fits (d .before .before .before .before .before .before .pre .1) _ _ (d .write-string .ensures) in
+    omega (arith, f, d .write-string .kept .1 .1 .0, d .before .before .before .before .before .before .good)
+
+write-member-item-value-requires : (t : ℕ) → In-member t write-member-lts.Need-item-value-requires
+write-member-item-value-requires t c κs = MemberParts.item (c .before .before .before .before .before .before .before .before .pre .1)
+
+write-member-sub-write-value : (t : ℕ) → In-member t write-member-lts.Need-sub-write-value
+write-member-sub-write-value t c =
+    let d = c .before .before .before in
+    MemberParts.part-fits (d .before .before .before .before .before .before .pre .1) _ _ (d .write-string .ensures)
+
+write-member-part-write-value-start : (t : ℕ) → In-member t write-member-lts.Need-part-write-value-start
+write-member-part-write-value-start t c =
+    let d = c .before .before .before in
+    MemberParts.part-fits (d .before .before .before .before .before .before .pre .1) _ _ (d .write-string .ensures)
+
+write-member-part-write-value-end : (t : ℕ) → In-member t write-member-lts.Need-part-write-value-end
+write-member-part-write-value-end t c = search needs
+
+write-member-write-value-requires : (t : ℕ) → In-member t write-member-lts.Need-write-value-requires
+write-member-write-value-requires t c κs =
+    let i = c .before .before .before in
+    let d = i .before .before .before in
+    let b = d .before .before .before .before .before .before in
+    (omega (arith, b .pre .0), MemberParts.value (b .pre .1) _ _ (d .write-string .ensures) _ (i .item-value .ensures))
+
+write-member-add-result : (t : ℕ) → In-member t write-member-lts.Need-add-result
+write-member-add-result t c =
+    let w = c .before .before .before .before .before .before in
+    let i = w .before .before .before .before in
+    let d = i .before .before .before in
+    let b = d .before .before .before .before .before .before in
+    omega (arith, MemberParts.result-fits (b .pre .1) _ _ (d .write-string .ensures) _ (i .item-value .ensures) _ _ (w .write-value .ensures), b .good)
+
+write-member-same-length : (t : ℕ) → In-member t write-member-lts.Need-same-length
+write-member-same-length t c =
+    let w = c .before .before .before .before .before .before in
+    let i = w .before .before .before .before in
+    let d = i .before .before .before in
+    let b = d .before .before .before .before .before .before in
+    let p = b .pre .1 in
+    Written.same-length (MemberParts.completed p _ _ (d .write-string .ensures) _ (i .item-value .ensures) _ _ (w .write-value .ensures) (p .key) (p .value) (p .here) .1)
+
+write-member-same-length-2 : (t : ℕ) → In-member t write-member-lts.Need-same-length-2
+write-member-same-length-2 t c = search needs
+
+write-member-same-length-3 : (t : ℕ) → In-member t write-member-lts.Need-same-length-3
+write-member-same-length-3 t c = search needs
+
+write-member-returns : (t : ℕ) → In-member t write-member-lts.Need-returns
+write-member-returns t c =
+    let w = c .before .before .before .before .before .before in
+    let i = w .before .before .before .before in
+    let d = i .before .before .before in
+    let b = d .before .before .before .before .before .before in
+    MemberParts.completed (b .pre .1) _ _ (d .write-string .ensures) _ (i .item-value .ensures) _ _ (w .write-value .ensures)
+
+abbrev write-object-Inv-loop : write-object-lts.InvT-loop
+write-object-Inv-loop s at depth out₀ keys₀ spare₀ count n₀ i₀ out keys spare n i =
+    Objects.Progress s at depth out₀ keys₀ spare₀ out keys count n i × (i ≤ count) × (length spare ≡ length spare₀)
+
+abbrev write-object-μ-loop : write-object-lts.MeasureT-loop
+write-object-μ-loop s at depth out₀ keys₀ spare₀ count n₀ i₀ out keys spare n i = count - i
+
+-- a need or a place of `write_object`, at the measure t
+abbrev In-object : ℕ → (write-object-lts.Claims → In 4 write-object-kinds.ps → Out 4 write-object-kinds.ps write-object-kinds.r → write-object-lts.InvT-loop → write-object-lts.MeasureT-loop → Type 0) → Type 0
+In-object t F = F (write-object-calls t) (write-object-at t) write-object.Post write-object-Inv-loop write-object-μ-loop
+
+write-object-sorted-keys-requires : (t : ℕ) → In-object t write-object-lts.Need-sorted-keys-requires
+write-object-sorted-keys-requires t c κs = Objects.keys-room (c .before .before .before .before .before .before .pre .1)
+
+write-object-slice-write-out : (t : ℕ) → In-object t write-object-lts.Need-slice-write-out
+write-object-slice-write-out t c = Objects.mark-fits (c .before .before .before .before .before .before .before .before .before .before .before .pre .1)
+
+write-object-loop-holds : (t : ℕ) → In-object t write-object-lts.Need-loop-holds
+write-object-loop-holds t c =
+    let k = c .before .before .before .before in
+    let f = k .sorted-keys in
+    (Objects.started (k .before .before .before .before .before .before .before .pre .1) _ _ _ (f .kept .1 .1 .1 .0) (f .kept .1 .1 .1 .1 .0) (f .ensures), omega arith, refl)
+
+-- the keys are as many as those that were lent
+keys-length : (t : ℕ) (l : In-object t write-object-lts.At-loop)
+    → length (l .loop .keys) ≡ length (now (l .before .before .before .before .before .before .before .before .before .before .before .before .args .keys))
+keys-length t l = l .loop .inv .0 .same ∙ l .before .before .before .before .before .sorted-keys .kept .1 .1 .1 .0
+
+write-object-mul-key : (t : ℕ) → In-object t write-object-lts.Need-mul-key
+write-object-mul-key t c =
+    let l = c .before in
+    omega (arith, l .loop .inv .0 .within, keys-length t l, l .before .before .before .before .before .before .before .before .before .before .before .before .good)
+
+write-object-slice-read-key : (t : ℕ) → In-object t write-object-lts.Need-slice-read-key
+write-object-slice-read-key t c = omega (arith, c .before .before .loop .inv .0 .within)
+
+write-object-cast-key : (t : ℕ) → In-object t write-object-lts.Need-cast-key
+write-object-cast-key t c = omega (arith, c .slice-known6 .given (c .before .before .loop .i))
+
+write-object-separate-requires : (t : ℕ) → In-object t write-object-lts.Need-separate-requires
+write-object-separate-requires t c κs =
+    let n = c .before .before in
+    Objects.comma-fits (n .before .loop .inv .0) (n .loop-test .taken)
+
+write-object-sub-write-member : (t : ℕ) → In-object t write-object-lts.Need-sub-write-member
+write-object-sub-write-member t c = omega (arith, c .before .before .before .before .before .before .loop .inv .0 .some)
+
+write-object-sub-write-member-2 : (t : ℕ) → In-object t write-object-lts.Need-sub-write-member-2
+write-object-sub-write-member-2 t c =
+    let d = c .before .before in
+    let n = d .before .before .before in
+    let l = n .before in
+    let p = l .loop .inv .0 in
+    Objects.part-fits p (n .loop-test .taken) _ _ (d .separate .ensures .0) (d .separate .ensures .1 _ _ (p .size) (p .written))
+
+write-object-part-write-member-start : (t : ℕ) → In-object t write-object-lts.Need-part-write-member-start
+write-object-part-write-member-start t c =
+    let d = c .before .before in
+    let n = d .before .before .before in
+    let l = n .before in
+    let p = l .loop .inv .0 in
+    Objects.part-fits p (n .loop-test .taken) _ _ (d .separate .ensures .0) (d .separate .ensures .1 _ _ (p .size) (p .written))
+
+write-object-part-write-member-end : (t : ℕ) → In-object t write-object-lts.Need-part-write-member-end
+write-object-part-write-member-end t c = search needs
+
+write-object-mul-write-member : (t : ℕ) → In-object t write-object-lts.Need-mul-write-member
+write-object-mul-write-member t c =
+    let l = c .before .before .before .before .before .before .before in
+    omega (arith, l .loop .inv .0 .within, keys-length t l, l .before .before .before .before .before .before .before .before .before .before .before .before .good)
+
+write-object-sub-write-member-3 : (t : ℕ) → In-object t write-object-lts.Need-sub-write-member-3
+write-object-sub-write-member-3 t c = c .before .before .before .before .before .before .before .loop .inv .0 .within
+
+write-object-part-write-member-start-2 : (t : ℕ) → In-object t write-object-lts.Need-part-write-member-start-2
+write-object-part-write-member-start-2 t c = c .before .before .before .before .before .before .before .loop .inv .0 .within
+
+write-object-part-write-member-end-2 : (t : ℕ) → In-object t write-object-lts.Need-part-write-member-end-2
+write-object-part-write-member-end-2 t c = search needs
+
+write-object-write-member-requires : (t : ℕ) → In-object t write-object-lts.Need-write-member-requires
+write-object-write-member-requires t c κs =
+    let d = c .before .before .before .before .before in
+    let n = d .before .before .before in
+    let l = n .before in
+    let p = l .loop .inv .0 in
+    let e = Objects.member p (n .loop-test .taken) _ _ (d .separate .ensures .0) (d .separate .ensures .1 _ _ (p .size) (p .written)) in
+    (omega (arith, l .before .before .before .before .before .before .before .before .before .before .before .before .pre .0, p .some), e _ (l .loop .inv .2))
+
+write-object-add-n : (t : ℕ) → In-object t write-object-lts.Need-add-n
+write-object-add-n t c =
+    let e = c .before .before .before .before .before .before in
+    let d = e .before .before .before .before .before .before in
+    let n = d .before .before .before in
+    let l = n .before in
+    let p = l .loop .inv .0 in
+    let b = l .before .before .before .before .before .before .before .before .before .before .before .before in
+    omega (arith, Objects.next-fits p (n .loop-test .taken) _ _ (d .separate .ensures .0) (d .separate .ensures .1 _ _ (p .size) (p .written)) _ _ (e .write-member .ensures), length-set (now (b .args .out)) 0 0x7B, b .good)
+
+write-object-add-i : (t : ℕ) → In-object t write-object-lts.Need-add-i
+write-object-add-i t c =
+    let l = c .before .before .before .before .before .before .before .before .before .before .before .before .before .before .before .before in
+    omega (arith, l .loop .inv .0 .within, keys-length t l, l .before .before .before .before .before .before .before .before .before .before .before .before .good)
+
+write-object-loop-less : (t : ℕ) → In-object t write-object-lts.Need-loop-less
+write-object-loop-less t c = omega (arith, c .before .before .before .before .before .before .before .before .before .before .before .before .before .before .before .loop-test .taken)
+
+write-object-loop-again : (t : ℕ) → In-object t write-object-lts.Need-loop-again
+write-object-loop-again t c =
+    let e = c .before .before .before .before .before .before in
+    let d = e .before .before .before .before .before .before in
+    let n = d .before .before .before in
+    let l = n .before in
+    let p = l .loop .inv .0 in
+    (Objects.advanced p (n .loop-test .taken) _ _ (d .separate .ensures .0) (d .separate .ensures .1 _ _ (p .size) (p .written)) _ _ (e .write-member .ensures) (e .write-member .last .1 .1 .1 .1 .0) (e .write-member .kept .1 .1 .1 .1 .0), omega (arith, n .loop-test .taken), e .write-member .kept .1 .1 .1 .1 .1 .0 ∙ l .loop .inv .2)
+
+write-object-slice-write-out-2 : (t : ℕ) → In-object t write-object-lts.Need-slice-write-out-2
+write-object-slice-write-out-2 t c = Objects.end-fits (c .before .loop .inv .0) (c .loop-test .left)
+
+write-object-add-result : (t : ℕ) → In-object t write-object-lts.Need-add-result
+write-object-add-result t c =
+    let p = c .before .loop .inv .0 in
+    let b = c .before .before .before .before .before .before .before .before .before .before .before .before .before in
+    omega (arith, Objects.end-fits p (c .loop-test .left), Written.same-length (p .written), length-set (now (b .args .out)) 0 0x7B, b .good)
+
+write-object-same-length : (t : ℕ) → In-object t write-object-lts.Need-same-length
+write-object-same-length t c =
+    let b = c .before .before .before .before .before .before .before .before .before .before .before .before .before in
+    simp length-set (Written.same-length (c .before .loop .inv .0 .written) ∙ length-set (now (b .args .out)) 0 0x7B)
+
+write-object-same-length-2 : (t : ℕ) → In-object t write-object-lts.Need-same-length-2
+write-object-same-length-2 t c = keys-length t (c .before)
+
+write-object-same-length-3 : (t : ℕ) → In-object t write-object-lts.Need-same-length-3
+write-object-same-length-3 t c = c .before .loop .inv .2 ∙ c .before .before .before .before .before .before .sorted-keys .kept .1 .1 .1 .1 .0
+
+write-object-returns : (t : ℕ) → In-object t write-object-lts.Need-returns
+write-object-returns t c = λ v h. from-mark _ 0x7B _ (Objects.finished (c .before .loop .inv .0) (c .loop-test .left) v h)
+
+-- a need or a place of `write_value`, at the measure t
+abbrev In-value : ℕ → (write-value-lts.Claims → In 4 write-value-kinds.ps → Out 4 write-value-kinds.ps write-value-kinds.r → Type 0) → Type 0
+In-value t F = F (write-value-calls t) (write-value-at t) write-value.Post
+
+write-value-kind-requires : (t : ℕ) → In-value t write-value-lts.Need-kind-requires
+write-value-kind-requires t c κs =
+    let b = c .before .before .before .before in
+    record { depth = b .args .depth; value = b .pre .1 .value; here = b .pre .1 .room .here }
+
+write-value-enum-told : (t : ℕ) → In-value t write-value-lts.Need-enum-told
+write-value-enum-told t c = search needs
+
+write-value-write-array-requires : (t : ℕ) → In-value t write-value-lts.Need-write-array-requires
+write-value-write-array-requires t c κs =
+    let d = c .before .before .before in
+    let b = d .before .before .before .before .before .before .before in
+    let p = b .pre .1 in
+    let k = sym (d .enum-told .given .1) ∙ d .before .before .kind .ensures (b .args .depth) (p .value) (p .room .here) in
+    let v = array-value (p .value) k in (
+      omega (arith, b .pre .0),
+      record { values = v .0; room = subst (λ (x : Value). Room (now (b .args .s)) (b .args .at) (b .args .depth) x (now (b .args .out)) (now (b .args .keys)) (now (b .args .spare))) (v .1) (p .room) },
+    )
+
+write-value-enum-told-2 : (t : ℕ) → In-value t write-value-lts.Need-enum-told-2
+write-value-enum-told-2 t c = search needs
+
+write-value-write-object-requires : (t : ℕ) → In-value t write-value-lts.Need-write-object-requires
+write-value-write-object-requires t c κs =
+    let d = c .before .before .before in
+    let b = d .before .before .before .before .before .before .before in
+    let p = b .pre .1 in
+    let k = sym (d .enum-told2 .given .1) ∙ d .before .before .kind .ensures (b .args .depth) (p .value) (p .room .here) in
+    let v = object-value (p .value) k in (
+      omega (arith, b .pre .0),
+      record { fields = v .0; room = subst (λ (x : Value). Room (now (b .args .s)) (b .args .at) (b .args .depth) x (now (b .args .out)) (now (b .args .keys)) (now (b .args .spare))) (v .1) (p .room) },
+    )
+
+write-value-write-scalar-requires : (t : ℕ) → In-value t write-value-lts.Need-write-scalar-requires
+write-value-write-scalar-requires t c κs =
+    let d = c .before in
+    let b = d .before .before .before .before .before .before in
+    let p = b .pre .1 in
+    let n = no-branch (d .before .kind .result) (d .match .keys3) in
+    record {
+      depth = b .args .depth;
+      value = p .value;
+      here = p .room .here;
+      tells = d .before .kind .ensures (b .args .depth) (p .value) (p .room .here);
+      no-array = n .0;
+      no-object = n .1;
+      form = p .room .form;
+    }
+
+write-value-same-length : (t : ℕ) → In-value t write-value-lts.Need-same-length
+write-value-same-length t c = search needs
+
+write-value-same-length-2 : (t : ℕ) → In-value t write-value-lts.Need-same-length-2
+write-value-same-length-2 t c = search needs
+
+write-value-same-length-3 : (t : ℕ) → In-value t write-value-lts.Need-same-length-3
+write-value-same-length-3 t c = search needs
+
+write-value-returns : (t : ℕ) → In-value t write-value-lts.Need-returns
+write-value-returns t c = c .before .before .before .before .before .before .write-array .ensures
+
+write-value-same-length-4 : (t : ℕ) → In-value t write-value-lts.Need-same-length-4
+write-value-same-length-4 t c = search needs
+
+write-value-same-length-5 : (t : ℕ) → In-value t write-value-lts.Need-same-length-5
+write-value-same-length-5 t c = search needs
+
+write-value-same-length-6 : (t : ℕ) → In-value t write-value-lts.Need-same-length-6
+write-value-same-length-6 t c = search needs
+
+write-value-returns-2 : (t : ℕ) → In-value t write-value-lts.Need-returns-2
+write-value-returns-2 t c = c .before .before .before .before .before .before .write-object .ensures
+
+write-value-same-length-7 : (t : ℕ) → In-value t write-value-lts.Need-same-length-7
+write-value-same-length-7 t c = search needs
+
+write-value-returns-3 : (t : ℕ) → In-value t write-value-lts.Need-returns-3
+write-value-returns-3 t c = c .before .before .write-scalar .ensures _
+
+pub +write-array+write-member+write-object+write-value-spec : {M : Type 1} → statement M
++write-array+write-member+write-object+write-value-spec =
+    close μ-write-array μ-write-member μ-write-object μ-write-value (λ t. write-array-lts.spec (write-array-calls t) (write-array-at t)
+    write-array.Post
+    write-array-Inv-loop
+    write-array-μ-loop
+    (write-array-slice-write-out t)
+    (write-array-add-i t)
+    (write-array-loop-holds t)
+    (write-array-sub-read-item t)
+    (write-array-read-item-requires t)
+    (write-array-enum-known-value t)
+    (write-array-separate-requires t)
+    (write-array-sub-write-value t)
+    (write-array-sub-write-value-2 t)
+    (write-array-part-write-value-start t)
+    (write-array-part-write-value-end t)
+    (write-array-write-value-requires t)
+    (write-array-add-n t)
+    (write-array-loop-less t)
+    (write-array-loop-again t)
+    (write-array-enum-told t)
+    (write-array-slice-write-out-2 t)
+    (write-array-add-result t)
+    (write-array-same-length t)
+    (write-array-same-length-2 t)
+    (write-array-same-length-3 t)
+    (write-array-returns t))
+    (λ t. write-member-lts.spec (write-member-calls t) (write-member-at t)
+    write-member.Post
+    (write-member-write-string-requires t)
+    (write-member-slice-write-out t)
+    (write-member-add-start t)
+    (write-member-item-value-requires t)
+    (write-member-sub-write-value t)
+    (write-member-part-write-value-start t)
+    (write-member-part-write-value-end t)
+    (write-member-write-value-requires t)
+    (write-member-add-result t)
+    (write-member-same-length t)
+    (write-member-same-length-2 t)
+    (write-member-same-length-3 t)
+    (write-member-returns t))
+    (λ t. write-object-lts.spec (write-object-calls t) (write-object-at t)
+    write-object.Post
+    write-object-Inv-loop
+    write-object-μ-loop
+    (write-object-sorted-keys-requires t)
+    (write-object-slice-write-out t)
+    (write-object-loop-holds t)
+    (write-object-mul-key t)
+    (write-object-slice-read-key t)
+    (write-object-cast-key t)
+    (write-object-separate-requires t)
+    (write-object-sub-write-member t)
+    (write-object-sub-write-member-2 t)
+    (write-object-part-write-member-start t)
+    (write-object-part-write-member-end t)
+    (write-object-mul-write-member t)
+    (write-object-sub-write-member-3 t)
+    (write-object-part-write-member-start-2 t)
+    (write-object-part-write-member-end-2 t)
+    (write-object-write-member-requires t)
+    (write-object-add-n t)
+    (write-object-add-i t)
+    (write-object-loop-less t)
+    (write-object-loop-again t)
+    (write-object-slice-write-out-2 t)
+    (write-object-add-result t)
+    (write-object-same-length t)
+    (write-object-same-length-2 t)
+    (write-object-same-length-3 t)
+    (write-object-returns t))
+    λ t. write-value-lts.spec (write-value-calls t) (write-value-at t)
+    write-value.Post
+    (write-value-kind-requires t)
+    (write-value-enum-told t)
+    (write-value-write-array-requires t)
+    (write-value-enum-told-2 t)
+    (write-value-write-object-requires t)
+    (write-value-write-scalar-requires t)
+    (write-value-same-length t)
+    (write-value-same-length-2 t)
+    (write-value-same-length-3 t)
+    (write-value-returns t)
+    (write-value-same-length-4 t)
+    (write-value-same-length-5 t)
+    (write-value-same-length-6 t)
+    (write-value-returns-2 t)
+    (write-value-same-length-7 t)
+    (write-value-returns-3 t)

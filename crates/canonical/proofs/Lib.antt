@@ -1,0 +1,9 @@
+pub mod Forms
+pub mod Values
+pub mod Scalars
+pub mod Members
+pub mod Collect
+pub mod Marks
+pub mod Arrays
+pub mod Objects
+pub mod MemberParts
