@@ -1,6 +1,6 @@
 -- How far the keys of an object are collected.
-use Prim.Native.Nat.{ℕ, suc, _+_, _-_, _*_, _<_, _≤_}
-use mathlib.Core.Path.{_≡_, refl, sym, ap, subst, _∙_}
+use Prim.Native.Nat.{ℕ, _+_, _-_, _<_, _≤_}
+use mathlib.Core.Path.{_≡_, refl, sym, ap, _∙_}
 use mathlib.Core.List.{List, [], _∷_, _++_, append-assoc, append-nil}
 use mathlib.Core.Bool.{true}
 use native.Mathlib.Omega.{arith}
@@ -10,8 +10,8 @@ use lib.Seq.{take-suc-set, take-at, length-take-le}
 use Rattle.laws.specs.Sort.{sort}
 use Rattle.json.specs.Syntax.{Member, members}
 use Rattle.json.specs.Content.{unescape}
-use Rattle.content.specs.Value.{Value, Fields, object, content, fields}
-use Rattle.content.specs.Canonical.{sortedFields, canonical}
+use Rattle.content.specs.Value.{Fields, object, content, fields}
+use Rattle.content.specs.Canonical.{sortedFields}
 use Rattle.strings.specs.InString.{keyLe}
 use Rattle.keys.specs.Keys.{KeysAt, no-keys, key-at}
 use Rattle.keys.proofs.Keys.{keys-append}

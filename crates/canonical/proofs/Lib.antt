@@ -7,3 +7,4 @@ pub mod Marks
 pub mod Arrays
 pub mod Objects
 pub mod MemberParts
+pub mod Fits

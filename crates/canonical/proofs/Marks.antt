@@ -1,4 +1,4 @@
--- The opening mark of an array or an object, after which the slice that is written counts as it is then.
+-- The loops of the writer begin once the opening mark is written: what was there before it does not matter.
 use Prim.Native.Nat.{ℕ, suc, _+_, _<_}
 use mathlib.Core.Path.{_≡_, refl, sym, ap, subst, _∙_}
 use mathlib.Core.List.{List, [], _∷_, _++_}
@@ -39,3 +39,7 @@ room-again out′ keys′ spare′ e f g r =
       enough = omega (arith, r .enough);
       sorting = omega (arith, r .sorting);
     }
+
+pub room-of : {s : List ℕ} {at depth : ℕ} {v w : Value} {out keys spare : List ℕ} → v ≡ w → Room s at depth v out keys spare
+    → Room s at depth w out keys spare
+room-of {s} {at} {depth} {out = out} {keys = keys} {spare = spare} e r = subst (λ (x : Value). Room s at depth x out keys spare) e r

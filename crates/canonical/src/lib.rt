@@ -3,8 +3,7 @@
 use view::Kind;
 ghost use mathlib.Core.Path.{_≡_};
 ghost use mathlib.Core.List.{List, _++_};
-ghost use mathlib.Core.Bool.{Bool};
-ghost use Prim.Native.Nat.{ℕ, _+_, _-_, _<_, _≤_};
+ghost use Prim.Native.Nat.{ℕ, _+_, _≤_};
 ghost use lib.ListN.{length, take};
 ghost use Rattle.content.specs.Value.{boolean};
 ghost use Rattle.content.specs.Canonical.{canonical, comma};
@@ -33,6 +32,7 @@ pub fn write_value(
     }
 }
 
+// The elements in the order of the text, separated by commas.
 fn write_array(
     s: &[u8],
     at: usize,
@@ -113,7 +113,7 @@ fn write_member(
     start + write_value(s, value, depth, &mut out[start..], keys, spare)
 }
 
-// A comma at n, but none before the first element or member. Answers where writing goes on.
+// Writes a comma at n, but none before the first element or member, and answers where writing goes on.
 fn separate(out: &mut [u8], n: usize, first: bool) -> usize
     requires { ⌜ n + length (comma first) ≤ length (now out) ⌝ }
     ensures { λ r. ⌜ r ≡ n + length (comma first) ⌝ }
@@ -126,7 +126,7 @@ fn separate(out: &mut [u8], n: usize, first: bool) -> usize
     n + 1
 }
 
-// A value that is neither an array nor an object.
+// A value that is neither an array nor an object. A kind that is none of the first three is that of a string.
 fn write_scalar(s: &[u8], at: usize, kind: Kind, out: &mut [u8]) -> usize
     requires { ⌜ WritableScalar (now s) at kind (now out) ⌝ }
     ensures { λ r. ⌜ ((depth : ℕ) → WritesValue (now (s .entry)) at depth (now (out .entry)) (now (out .exit)) r) ⌝ }

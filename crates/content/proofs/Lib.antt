@@ -7,3 +7,5 @@ pub mod ReadBack
 pub mod Same
 pub mod Distinct
 pub mod Laws
+pub mod Utf8Parts
+pub mod FormUtf8

@@ -3,6 +3,7 @@ pub mod Places
 pub mod Words
 pub mod CharSteps
 pub mod Weights
+pub mod Plain
 pub mod Encoded
 pub mod Pairs
 pub mod NumberSteps

@@ -3,7 +3,7 @@ use Prim.Native.Nat.{ℕ, _+_, _≤_, _<_}
 use mathlib.Core.Path.{_≡_}
 use mathlib.Core.List.{List, [], _∷_}
 use mathlib.Core.Bool.{Bool, true, false, _||_}
-use lib.ListN.{length, drop}
+use lib.ListN.{length, drop, getD}
 use Rattle.json.specs.Syntax.{Char, byte, unit}
 use Rattle.json.specs.Read.{Read, found, stuck, prepend, readChars, char, hex}
 use Rattle.json.specs.Content.{refusedString, isPair, isLow}
@@ -50,3 +50,13 @@ abbrev pub Lows : List ℕ → ℕ → Bool → Type 0
 Lows s at true =
     (at + 6 ≤ length s) × ((v : ℕ) × (isLow v ≡ true) × (readChars char (drop at s) ≡ prepend (unit v) (readChars char (drop (at + 6) s))))
 Lows s at false = (u : ℕ) → paired u (readChars char (drop at s)) ≡ false
+
+-- a byte that stands for itself in a string, and is not refused
+abbrev pub Itself : ℕ → Type 0
+Itself b = (0x20 ≤ b) × (b ≡ 0x22 → ⊥) × (b ≡ 0x5C → ⊥) × (b ≡ 0x7F → ⊥)
+
+-- the text's bytes from the place i up to j are all such
+pub record Plain (s : List ℕ) (i j : ℕ) : Type 0 where
+  pub up : i ≤ j
+  pub fits : j ≤ length s
+  pub all : (k : ℕ) → i ≤ k → k < j → Itself (getD s k 0)

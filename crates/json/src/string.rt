@@ -4,10 +4,11 @@ use crate::bytes::between;
 use crate::bytes::hex_value;
 use crate::bytes::is_control;
 use crate::bytes::is_hex;
+use crate::bytes::is_plain;
 use crate::bytes::is_short;
 use crate::bytes::short_value;
 ghost use mathlib.Core.Path.{_≡_};
-ghost use mathlib.Core.Bool.{_||_};
+ghost use mathlib.Core.Bool.{true, _||_};
 ghost use mathlib.Core.List.{[], _∷_};
 ghost use Prim.Native.Nat.{_+_, _≤_, _<_};
 ghost use lib.ListN.{length, drop};
@@ -17,7 +18,7 @@ ghost use Rattle.json.specs.Read.{readChars, char, escape, prepend, read
 ghost use Rattle.json.specs.Content.{isSurrogate, anyControl, escaped, refusedString};
 ghost use Rattle.json.specs.Scan.{Scans};
 ghost use Rattle.json.specs.Size.{contentSize, stringSize, Within, Closed};
-ghost use Rattle.json.specs.Measure.{Hexes, Escapes, Lows};
+ghost use Rattle.json.specs.Measure.{Hexes, Escapes, Lows, Plain};
 
 // Four hexadecimal digits: their number, or the position of the first byte that is no digit.
 pub enum Hex {
@@ -167,6 +168,46 @@ pub fn one_escape(s: &[u8], at: usize) -> Escape
     }
 }
 
+// Whether the eight bytes at `at` stand for themselves and none is refused, with no branch between them.
+fn plain8(s: &[u8], at: usize) -> bool
+    requires { ⌜ at + 8 ≤ length (now s) ⌝ }
+    ensures { λ r. ⌜ (r ≡ true → Plain (now (s .entry)) at (at + 8)) ⌝ }
+{
+    let low = is_plain(s[at]) & is_plain(s[at + 1]) & is_plain(s[at + 2]) & is_plain(s[at + 3]);
+    let high = is_plain(s[at + 4])
+        & is_plain(s[at + 5])
+        & is_plain(s[at + 6])
+        & is_plain(s[at + 7]);
+    low & high
+}
+
+// Where the whole blocks of eight plain bytes from `at` on end.
+fn plain_run(s: &[u8], at: usize) -> usize
+    requires { ⌜ at ≤ length (now s) ⌝ }
+    ensures { λ r. ⌜ Plain (now (s .entry)) at r ⌝ }
+{
+    let mut i = at;
+    while 8 <= s.len() - i {
+        if !plain8(s, i) {
+            return i;
+        }
+        i += 8;
+    }
+    i
+}
+
+// Where plain bytes are passed to, after `size` bytes of a string and one more. A run is tried only after the second byte and at
+// every eighth from there, so that short strings and escapes do not pay for it.
+fn plain_end(s: &[u8], at: usize, size: usize) -> usize
+    requires { ⌜ at ≤ length (now s) ⌝ }
+    ensures { λ r. ⌜ Plain (now (s .entry)) at r ⌝ }
+{
+    if size % 8 == 1 {
+        return plain_run(s, at);
+    }
+    at
+}
+
 // The chars of a string and its closing quotation mark.
 pub fn chars(s: &[u8], at: usize) -> Scan
     requires { ⌜ at ≤ length (now s) ⌝ }
@@ -201,8 +242,9 @@ pub fn chars(s: &[u8], at: usize) -> Scan
             return Scan::NoToken(i);
         } else {
             refused |= b == 0x7F;
-            size += 1;
-            i += 1;
+            let next = i + 1;
+            i = plain_end(s, next, size);
+            size += 1 + (i - next);
         }
     }
     Scan::NoToken(i)

@@ -1,5 +1,6 @@
 pub mod Checks
-pub mod Numbers
-pub mod Taken
-pub mod Outcome
 pub mod Equal
+pub mod Forms
+pub mod Numbers
+pub mod Outcome
+pub mod Taken

@@ -1,30 +1,23 @@
 -- The cycle of `write_value`, `write_array`, `write_object` and `write_member`: each meets its contract. The measure goes by the depth.
 -- Both loops keep that what is written, with what is left, is the canonical form of the whole. Assumes nothing.
 use borrow.Author.Needs.{needs}
-use Prim.Native.Nat.{_+_, _-_, _*_, _≤_}
-use mathlib.Core.Path.{_≡_, refl, sym, ap, subst, _∙_}
-use mathlib.Core.Bool.{Bool, true, false}
+use Prim.Native.Nat.{ℕ, _+_, _-_, _*_, _≤_, _<_}
+use mathlib.Core.Path.{_≡_, refl, sym, subst, _∙_}
+use mathlib.Core.Bool.{false}
 use native.Mathlib.Omega.{arith}
 use denote.Ref.{now}
-use lib.Dec.{eqb}
-use lib.ListN.{length, getD, set, length-set}
-use borrow.Rule.Slice.PartMut.{midOf, putMid}
-use Rattle.content.specs.Value.{Value}
-use Rattle.content.specs.Canonical.{comma}
-use Rattle.printer.specs.Writes.{Writes}
+use lib.ListN.{length, length-set}
+use borrow.Fn.Kinds.{In, Out}
+use borrow.Fn.PlainCycle.{Measures, is, falls, and}
 use Rattle.printer.proofs.Written
 use Rattle.view.specs.Listed.{Gives}
 use Rattle.view.specs.declared.value.Item.the-variants.{At, End}
 use Rattle.view.proofs.Values.{within}
-use Rattle.canonical.specs.Room.{Room}
 use Rattle.canonical.proofs.Values.{array-value, object-value, no-branch}
-use Rattle.canonical.proofs.Marks.{from-mark}
+use Rattle.canonical.proofs.Marks.{from-mark, room-of}
 use Rattle.canonical.proofs.Arrays
 use Rattle.canonical.proofs.Objects
 use Rattle.canonical.proofs.MemberParts
-use Prim.Native.Nat.{ℕ, _<_}
-use borrow.Fn.Kinds.{In, Out}
-use borrow.Fn.PlainCycle.{Measures, is, falls, and}
 use Rattle.canonical.proofs.write_array.Reads as write-array
 use Rattle.canonical.proofs.write_array.Kinds as write-array-kinds
 use Rattle.canonical.proofs.+write_array+write_member+write_object+write_value.Lts-write_array as write-array-lts
@@ -149,7 +142,8 @@ abbrev write-array-μ-loop : write-array-lts.MeasureT-loop
 write-array-μ-loop s at depth out₀ keys₀ spare₀ n₀ start₀ i₀ out keys spare n start i = length s - i
 
 -- a need or a place of `write_array`, at the measure t
-abbrev In-array : ℕ → (write-array-lts.Claims → In 4 write-array-kinds.ps → Out 4 write-array-kinds.ps write-array-kinds.r → write-array-lts.InvT-loop → write-array-lts.MeasureT-loop → Type 0) → Type 0
+abbrev In-array : ℕ → (write-array-lts.Claims → In 4 write-array-kinds.ps → Out 4 write-array-kinds.ps write-array-kinds.r
+    → write-array-lts.InvT-loop → write-array-lts.MeasureT-loop → Type 0) → Type 0
 In-array t F = F (write-array-calls t) (write-array-at t) write-array.Post write-array-Inv-loop write-array-μ-loop
 
 write-array-slice-write-out : (t : ℕ) → In-array t write-array-lts.Need-slice-write-out
@@ -172,15 +166,19 @@ write-array-read-item-requires t c κs = Arrays.items-left (c .loop .inv .0)
 write-array-enum-known-value : (t : ℕ) → In-array t write-array-lts.Need-enum-known-value
 write-array-enum-known-value t c = search needs
 
+abbrev array-entry : (t : ℕ) → In-array t write-array-lts.At-loop → In-array t write-array-lts.Start
+array-entry t l = l .before .before .before .before .before
+
 -- what is left is an element and others
 element-given : (t : ℕ) (c : In-array t write-array-lts.After-known-told)
-    → let l = c .before .before .before .before in let a = l .before .before .before .before .before .args in let g = c .before .value .given .0 in
+    → let l = c .before .before .before .before in let a = array-entry t l .args in let g = c .before .value .given .0 in
     Gives (now (a .s)) (l .loop .i) (a .depth - 1) false (l .loop .inv .0 .trees) (l .loop .inv .0 .rest) (At (g .0) (g .1 .0) (g .1 .1 .0))
 element-given t c =
     let d = c .before .before .before in
     let p = d .before .loop .inv .0 in
     let a = d .before .before .before .before .before .before .args in
-    subst (Gives (now (a .s)) (d .before .loop .i) (a .depth - 1) false (p .trees) (p .rest)) (c .before .value .given .1) (d .read-item .ensures (p .trees) (p .rest) (p .left))
+    subst (Gives (now (a .s)) (d .before .loop .i) (a .depth - 1) false (p .trees) (p .rest)) (c .before .value .given .1)
+    (d .read-item .ensures (p .trees) (p .rest) (p .left))
 
 write-array-separate-requires : (t : ℕ) → In-array t write-array-lts.Need-separate-requires
 write-array-separate-requires t c κs =
@@ -195,14 +193,11 @@ write-array-sub-write-value-2 t c =
     let d = c .before .before in
     let k = d .before .before in
     let p = k .before .before .before .before .loop .inv .0 in
-    Arrays.part-fits p _ _ _ (element-given t k) _ _ (d .separate .ensures .0) (d .separate .ensures .1 _ _ (p .size) (p .written))
+    let w = d .separate .ensures .1 _ _ (p .size) (p .written) in
+    Arrays.part-fits p _ _ _ (element-given t k) _ _ (d .separate .ensures .0) w
 
 write-array-part-write-value-start : (t : ℕ) → In-array t write-array-lts.Need-part-write-value-start
-write-array-part-write-value-start t c =
-    let d = c .before .before in
-    let k = d .before .before in
-    let p = k .before .before .before .before .loop .inv .0 in
-    Arrays.part-fits p _ _ _ (element-given t k) _ _ (d .separate .ensures .0) (d .separate .ensures .1 _ _ (p .size) (p .written))
+write-array-part-write-value-start t c = write-array-sub-write-value-2 t c
 
 write-array-part-write-value-end : (t : ℕ) → In-array t write-array-lts.Need-part-write-value-end
 write-array-part-write-value-end t c = search needs
@@ -213,8 +208,9 @@ write-array-write-value-requires t c κs =
     let k = d .before .before in
     let l = k .before .before .before .before in
     let p = l .loop .inv .0 in
-    let e = Arrays.element p _ _ _ (element-given t k) _ _ (d .separate .ensures .0) (d .separate .ensures .1 _ _ (p .size) (p .written)) in
-    (omega (arith, l .before .before .before .before .before .pre .0, p .some), e _ _ (l .loop .inv .1) (l .loop .inv .2))
+    let w = d .separate .ensures .1 _ _ (p .size) (p .written) in
+    let e = Arrays.element p _ _ _ (element-given t k) _ _ (d .separate .ensures .0) w in
+    (omega (arith, array-entry t l .pre .0, p .some), e _ _ (l .loop .inv .1) (l .loop .inv .2))
 
 write-array-add-n : (t : ℕ) → In-array t write-array-lts.Need-add-n
 write-array-add-n t c =
@@ -223,8 +219,10 @@ write-array-add-n t c =
     let k = d .before .before in
     let l = k .before .before .before .before in
     let p = l .loop .inv .0 in
-    let o = now (l .before .before .before .before .before .args .out) in
-    omega (arith, Arrays.next-fits p _ _ _ (element-given t k) _ _ (d .separate .ensures .0) (d .separate .ensures .1 _ _ (p .size) (p .written)) _ _ (e .write-value .ensures), length-set o 0 0x5B, l .before .before .before .before .before .good)
+    let b = array-entry t l in
+    let w = d .separate .ensures .1 _ _ (p .size) (p .written) in
+    let f = Arrays.next-fits p _ _ _ (element-given t k) _ _ (d .separate .ensures .0) w _ _ (e .write-value .ensures) in
+    omega (arith, f, length-set (now (b .args .out)) 0 0x5B, b .good)
 
 write-array-loop-less : (t : ℕ) → In-array t write-array-lts.Need-loop-less
 write-array-loop-less t c =
@@ -239,20 +237,26 @@ write-array-loop-again t c =
     let k = d .before .before in
     let l = k .before .before .before .before in
     let p = l .loop .inv .0 in
-    (Arrays.advanced p _ _ _ (element-given t k) _ _ (d .separate .ensures .0) (d .separate .ensures .1 _ _ (p .size) (p .written)) _ _ (e .write-value .ensures), e .write-value .kept .1 .1 .1 .1 .0 ∙ l .loop .inv .1, e .write-value .kept .1 .1 .1 .1 .1 .0 ∙ l .loop .inv .2)
+    let w = d .separate .ensures .1 _ _ (p .size) (p .written) in
+    let v = e .write-value in (
+      Arrays.advanced p _ _ _ (element-given t k) _ _ (d .separate .ensures .0) w _ _ (v .ensures),
+      v .kept .1 .1 .1 .1 .0 ∙ l .loop .inv .1,
+      v .kept .1 .1 .1 .1 .1 .0 ∙ l .loop .inv .2,
+    )
 
 write-array-enum-told : (t : ℕ) → In-array t write-array-lts.Need-enum-told
 write-array-enum-told t c = search needs
 
 -- nothing is left
 elements-ended : (t : ℕ) (c : In-array t write-array-lts.After-enum-told)
-    → let l = c .before .before .before in let a = l .before .before .before .before .before .args in
+    → let l = c .before .before .before in let a = array-entry t l .args in
     Gives (now (a .s)) (l .loop .i) (a .depth - 1) false (l .loop .inv .0 .trees) (l .loop .inv .0 .rest) (End (c .enum-told .given .0 .0))
 elements-ended t c =
     let d = c .before .before in
     let p = d .before .loop .inv .0 in
     let a = d .before .before .before .before .before .before .args in
-    subst (Gives (now (a .s)) (d .before .loop .i) (a .depth - 1) false (p .trees) (p .rest)) (c .enum-told .given .1) (d .read-item .ensures (p .trees) (p .rest) (p .left))
+    subst (Gives (now (a .s)) (d .before .loop .i) (a .depth - 1) false (p .trees) (p .rest)) (c .enum-told .given .1)
+    (d .read-item .ensures (p .trees) (p .rest) (p .left))
 
 write-array-slice-write-out-2 : (t : ℕ) → In-array t write-array-lts.Need-slice-write-out-2
 write-array-slice-write-out-2 t c = Arrays.end-fits (c .before .before .before .loop .inv .0) _ (elements-ended t c)
@@ -261,13 +265,13 @@ write-array-add-result : (t : ℕ) → In-array t write-array-lts.Need-add-resul
 write-array-add-result t c =
     let l = c .before .before .before in
     let p = l .loop .inv .0 in
-    let b = l .before .before .before .before .before in
+    let b = array-entry t l in
     omega (arith, Arrays.end-fits p _ (elements-ended t c), Written.same-length (p .written), length-set (now (b .args .out)) 0 0x5B, b .good)
 
 write-array-same-length : (t : ℕ) → In-array t write-array-lts.Need-same-length
 write-array-same-length t c =
     let l = c .before .before .before in
-    simp length-set (Written.same-length (l .loop .inv .0 .written) ∙ length-set (now (l .before .before .before .before .before .args .out)) 0 0x5B)
+    simp length-set (Written.same-length (l .loop .inv .0 .written) ∙ length-set (now (array-entry t l .args .out)) 0 0x5B)
 
 write-array-same-length-2 : (t : ℕ) → In-array t write-array-lts.Need-same-length-2
 write-array-same-length-2 t c = c .before .before .before .loop .inv .1
@@ -309,9 +313,7 @@ write-member-sub-write-value t c =
     MemberParts.part-fits (d .before .before .before .before .before .before .pre .1) _ _ (d .write-string .ensures)
 
 write-member-part-write-value-start : (t : ℕ) → In-member t write-member-lts.Need-part-write-value-start
-write-member-part-write-value-start t c =
-    let d = c .before .before .before in
-    MemberParts.part-fits (d .before .before .before .before .before .before .pre .1) _ _ (d .write-string .ensures)
+write-member-part-write-value-start t c = write-member-sub-write-value t c
 
 write-member-part-write-value-end : (t : ℕ) → In-member t write-member-lts.Need-part-write-value-end
 write-member-part-write-value-end t c = search needs
@@ -329,7 +331,8 @@ write-member-add-result t c =
     let i = w .before .before .before .before in
     let d = i .before .before .before in
     let b = d .before .before .before .before .before .before in
-    omega (arith, MemberParts.result-fits (b .pre .1) _ _ (d .write-string .ensures) _ (i .item-value .ensures) _ _ (w .write-value .ensures), b .good)
+    let f = MemberParts.result-fits (b .pre .1) _ _ (d .write-string .ensures) _ (i .item-value .ensures) _ _ (w .write-value .ensures) in
+    omega (arith, f, b .good)
 
 write-member-same-length : (t : ℕ) → In-member t write-member-lts.Need-same-length
 write-member-same-length t c =
@@ -338,7 +341,8 @@ write-member-same-length t c =
     let d = i .before .before .before in
     let b = d .before .before .before .before .before .before in
     let p = b .pre .1 in
-    Written.same-length (MemberParts.completed p _ _ (d .write-string .ensures) _ (i .item-value .ensures) _ _ (w .write-value .ensures) (p .key) (p .value) (p .here) .1)
+    let h = MemberParts.completed p _ _ (d .write-string .ensures) _ (i .item-value .ensures) _ _ (w .write-value .ensures) in
+    Written.same-length (h (p .key) (p .value) (p .here) .1)
 
 write-member-same-length-2 : (t : ℕ) → In-member t write-member-lts.Need-same-length-2
 write-member-same-length-2 t c = search needs
@@ -362,30 +366,36 @@ abbrev write-object-μ-loop : write-object-lts.MeasureT-loop
 write-object-μ-loop s at depth out₀ keys₀ spare₀ count n₀ i₀ out keys spare n i = count - i
 
 -- a need or a place of `write_object`, at the measure t
-abbrev In-object : ℕ → (write-object-lts.Claims → In 4 write-object-kinds.ps → Out 4 write-object-kinds.ps write-object-kinds.r → write-object-lts.InvT-loop → write-object-lts.MeasureT-loop → Type 0) → Type 0
+abbrev In-object : ℕ → (write-object-lts.Claims → In 4 write-object-kinds.ps → Out 4 write-object-kinds.ps write-object-kinds.r
+    → write-object-lts.InvT-loop → write-object-lts.MeasureT-loop → Type 0) → Type 0
 In-object t F = F (write-object-calls t) (write-object-at t) write-object.Post write-object-Inv-loop write-object-μ-loop
 
 write-object-sorted-keys-requires : (t : ℕ) → In-object t write-object-lts.Need-sorted-keys-requires
 write-object-sorted-keys-requires t c κs = Objects.keys-room (c .before .before .before .before .before .before .pre .1)
 
 write-object-slice-write-out : (t : ℕ) → In-object t write-object-lts.Need-slice-write-out
-write-object-slice-write-out t c = Objects.mark-fits (c .before .before .before .before .before .before .before .before .before .before .before .pre .1)
+write-object-slice-write-out t c =
+    Objects.mark-fits (c .before .before .before .before .before .before .before .before .before .before .before .pre .1)
 
 write-object-loop-holds : (t : ℕ) → In-object t write-object-lts.Need-loop-holds
 write-object-loop-holds t c =
     let k = c .before .before .before .before in
     let f = k .sorted-keys in
-    (Objects.started (k .before .before .before .before .before .before .before .pre .1) _ _ _ (f .kept .1 .1 .1 .0) (f .kept .1 .1 .1 .1 .0) (f .ensures), omega arith, refl)
+    let p = k .before .before .before .before .before .before .before .pre .1 in
+    (Objects.started p _ _ _ (f .kept .1 .1 .1 .0) (f .kept .1 .1 .1 .1 .0) (f .ensures), omega arith, refl)
+
+abbrev object-entry : (t : ℕ) → In-object t write-object-lts.At-loop → In-object t write-object-lts.Start
+object-entry t l = l .before .before .before .before .before .before .before .before .before .before .before .before
 
 -- the keys are as many as those that were lent
 keys-length : (t : ℕ) (l : In-object t write-object-lts.At-loop)
-    → length (l .loop .keys) ≡ length (now (l .before .before .before .before .before .before .before .before .before .before .before .before .args .keys))
+    → length (l .loop .keys) ≡ length (now (object-entry t l .args .keys))
 keys-length t l = l .loop .inv .0 .same ∙ l .before .before .before .before .before .sorted-keys .kept .1 .1 .1 .0
 
 write-object-mul-key : (t : ℕ) → In-object t write-object-lts.Need-mul-key
 write-object-mul-key t c =
     let l = c .before in
-    omega (arith, l .loop .inv .0 .within, keys-length t l, l .before .before .before .before .before .before .before .before .before .before .before .before .good)
+    omega (arith, l .loop .inv .0 .within, keys-length t l, object-entry t l .good)
 
 write-object-slice-read-key : (t : ℕ) → In-object t write-object-lts.Need-slice-read-key
 write-object-slice-read-key t c = omega (arith, c .before .before .loop .inv .0 .within)
@@ -407,15 +417,11 @@ write-object-sub-write-member-2 t c =
     let n = d .before .before .before in
     let l = n .before in
     let p = l .loop .inv .0 in
-    Objects.part-fits p (n .loop-test .taken) _ _ (d .separate .ensures .0) (d .separate .ensures .1 _ _ (p .size) (p .written))
+    let w = d .separate .ensures .1 _ _ (p .size) (p .written) in
+    Objects.part-fits p (n .loop-test .taken) _ _ (d .separate .ensures .0) w
 
 write-object-part-write-member-start : (t : ℕ) → In-object t write-object-lts.Need-part-write-member-start
-write-object-part-write-member-start t c =
-    let d = c .before .before in
-    let n = d .before .before .before in
-    let l = n .before in
-    let p = l .loop .inv .0 in
-    Objects.part-fits p (n .loop-test .taken) _ _ (d .separate .ensures .0) (d .separate .ensures .1 _ _ (p .size) (p .written))
+write-object-part-write-member-start t c = write-object-sub-write-member-2 t c
 
 write-object-part-write-member-end : (t : ℕ) → In-object t write-object-lts.Need-part-write-member-end
 write-object-part-write-member-end t c = search needs
@@ -423,7 +429,7 @@ write-object-part-write-member-end t c = search needs
 write-object-mul-write-member : (t : ℕ) → In-object t write-object-lts.Need-mul-write-member
 write-object-mul-write-member t c =
     let l = c .before .before .before .before .before .before .before in
-    omega (arith, l .loop .inv .0 .within, keys-length t l, l .before .before .before .before .before .before .before .before .before .before .before .before .good)
+    omega (arith, l .loop .inv .0 .within, keys-length t l, object-entry t l .good)
 
 write-object-sub-write-member-3 : (t : ℕ) → In-object t write-object-lts.Need-sub-write-member-3
 write-object-sub-write-member-3 t c = c .before .before .before .before .before .before .before .loop .inv .0 .within
@@ -440,8 +446,9 @@ write-object-write-member-requires t c κs =
     let n = d .before .before .before in
     let l = n .before in
     let p = l .loop .inv .0 in
-    let e = Objects.member p (n .loop-test .taken) _ _ (d .separate .ensures .0) (d .separate .ensures .1 _ _ (p .size) (p .written)) in
-    (omega (arith, l .before .before .before .before .before .before .before .before .before .before .before .before .pre .0, p .some), e _ (l .loop .inv .2))
+    let w = d .separate .ensures .1 _ _ (p .size) (p .written) in
+    let e = Objects.member p (n .loop-test .taken) _ _ (d .separate .ensures .0) w in
+    (omega (arith, object-entry t l .pre .0, p .some), e _ (l .loop .inv .2))
 
 write-object-add-n : (t : ℕ) → In-object t write-object-lts.Need-add-n
 write-object-add-n t c =
@@ -450,16 +457,20 @@ write-object-add-n t c =
     let n = d .before .before .before in
     let l = n .before in
     let p = l .loop .inv .0 in
-    let b = l .before .before .before .before .before .before .before .before .before .before .before .before in
-    omega (arith, Objects.next-fits p (n .loop-test .taken) _ _ (d .separate .ensures .0) (d .separate .ensures .1 _ _ (p .size) (p .written)) _ _ (e .write-member .ensures), length-set (now (b .args .out)) 0 0x7B, b .good)
+    let b = object-entry t l in
+    let w = d .separate .ensures .1 _ _ (p .size) (p .written) in
+    let f = Objects.next-fits p (n .loop-test .taken) _ _ (d .separate .ensures .0) w _ _ (e .write-member .ensures) in
+    omega (arith, f, length-set (now (b .args .out)) 0 0x7B, b .good)
 
 write-object-add-i : (t : ℕ) → In-object t write-object-lts.Need-add-i
 write-object-add-i t c =
     let l = c .before .before .before .before .before .before .before .before .before .before .before .before .before .before .before .before in
-    omega (arith, l .loop .inv .0 .within, keys-length t l, l .before .before .before .before .before .before .before .before .before .before .before .before .good)
+    omega (arith, l .loop .inv .0 .within, keys-length t l, object-entry t l .good)
 
 write-object-loop-less : (t : ℕ) → In-object t write-object-lts.Need-loop-less
-write-object-loop-less t c = omega (arith, c .before .before .before .before .before .before .before .before .before .before .before .before .before .before .before .loop-test .taken)
+write-object-loop-less t c =
+    let e = c .before .before .before .before .before .before in
+    omega (arith, e .before .before .before .before .before .before .before .before .before .loop-test .taken)
 
 write-object-loop-again : (t : ℕ) → In-object t write-object-lts.Need-loop-again
 write-object-loop-again t c =
@@ -468,7 +479,12 @@ write-object-loop-again t c =
     let n = d .before .before .before in
     let l = n .before in
     let p = l .loop .inv .0 in
-    (Objects.advanced p (n .loop-test .taken) _ _ (d .separate .ensures .0) (d .separate .ensures .1 _ _ (p .size) (p .written)) _ _ (e .write-member .ensures) (e .write-member .last .1 .1 .1 .1 .0) (e .write-member .kept .1 .1 .1 .1 .0), omega (arith, n .loop-test .taken), e .write-member .kept .1 .1 .1 .1 .1 .0 ∙ l .loop .inv .2)
+    let w = d .separate .ensures .1 _ _ (p .size) (p .written) in
+    let m = e .write-member in (
+      Objects.advanced p (n .loop-test .taken) _ _ (d .separate .ensures .0) w _ _ (m .ensures) (m .last .1 .1 .1 .1 .0) (m .kept .1 .1 .1 .1 .0),
+      omega (arith, n .loop-test .taken),
+      m .kept .1 .1 .1 .1 .1 .0 ∙ l .loop .inv .2,
+    )
 
 write-object-slice-write-out-2 : (t : ℕ) → In-object t write-object-lts.Need-slice-write-out-2
 write-object-slice-write-out-2 t c = Objects.end-fits (c .before .loop .inv .0) (c .loop-test .left)
@@ -476,12 +492,12 @@ write-object-slice-write-out-2 t c = Objects.end-fits (c .before .loop .inv .0) 
 write-object-add-result : (t : ℕ) → In-object t write-object-lts.Need-add-result
 write-object-add-result t c =
     let p = c .before .loop .inv .0 in
-    let b = c .before .before .before .before .before .before .before .before .before .before .before .before .before in
+    let b = object-entry t (c .before) in
     omega (arith, Objects.end-fits p (c .loop-test .left), Written.same-length (p .written), length-set (now (b .args .out)) 0 0x7B, b .good)
 
 write-object-same-length : (t : ℕ) → In-object t write-object-lts.Need-same-length
 write-object-same-length t c =
-    let b = c .before .before .before .before .before .before .before .before .before .before .before .before .before in
+    let b = object-entry t (c .before) in
     simp length-set (Written.same-length (c .before .loop .inv .0 .written) ∙ length-set (now (b .args .out)) 0 0x7B)
 
 write-object-same-length-2 : (t : ℕ) → In-object t write-object-lts.Need-same-length-2
@@ -511,10 +527,8 @@ write-value-write-array-requires t c κs =
     let b = d .before .before .before .before .before .before .before in
     let p = b .pre .1 in
     let k = sym (d .enum-told .given .1) ∙ d .before .before .kind .ensures (b .args .depth) (p .value) (p .room .here) in
-    let v = array-value (p .value) k in (
-      omega (arith, b .pre .0),
-      record { values = v .0; room = subst (λ (x : Value). Room (now (b .args .s)) (b .args .at) (b .args .depth) x (now (b .args .out)) (now (b .args .keys)) (now (b .args .spare))) (v .1) (p .room) },
-    )
+    let v = array-value (p .value) k in
+    (omega (arith, b .pre .0), record { values = v .0; room = room-of (v .1) (p .room) })
 
 write-value-enum-told-2 : (t : ℕ) → In-value t write-value-lts.Need-enum-told-2
 write-value-enum-told-2 t c = search needs
@@ -525,10 +539,8 @@ write-value-write-object-requires t c κs =
     let b = d .before .before .before .before .before .before .before in
     let p = b .pre .1 in
     let k = sym (d .enum-told2 .given .1) ∙ d .before .before .kind .ensures (b .args .depth) (p .value) (p .room .here) in
-    let v = object-value (p .value) k in (
-      omega (arith, b .pre .0),
-      record { fields = v .0; room = subst (λ (x : Value). Room (now (b .args .s)) (b .args .at) (b .args .depth) x (now (b .args .out)) (now (b .args .keys)) (now (b .args .spare))) (v .1) (p .room) },
-    )
+    let v = object-value (p .value) k in
+    (omega (arith, b .pre .0), record { fields = v .0; room = room-of (v .1) (p .room) })
 
 write-value-write-scalar-requires : (t : ℕ) → In-value t write-value-lts.Need-write-scalar-requires
 write-value-write-scalar-requires t c κs =

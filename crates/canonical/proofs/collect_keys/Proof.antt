@@ -1,20 +1,19 @@
-use Rattle.view.specs.Listed.{Gives}
+-- `canonical::collect_keys` meets its contract. The loop's invariant: the keys that are collected and the members that are left make up
+-- the object. The measure is how much of the text is left. Assumes nothing.
+use borrow.Author.Needs.{needs}
+use Prim.Native.Nat.{_-_}
 use mathlib.Core.Bool.{true}
+use mathlib.Core.Path.{_≡_, refl, subst}
+use native.Mathlib.Omega.{arith}
+use denote.Ref.{now}
+use lib.ListN.{length, length-set}
+use Rattle.view.specs.Listed.{Gives}
 use Rattle.view.specs.declared.value.Item.the-variants.{At}
 use Rattle.view.proofs.Values.{within}
-use borrow.Author.Needs.{needs}
-use Prim.Native.Nat.{ℕ, _-_}
-use mathlib.Core.Path.{_≡_, refl, sym, ap, subst, _∙_}
-use native.Mathlib.Omega.{arith}
-use lib.ListN.{length, length-set}
-use denote.Ref.{now}
 use Rattle.canonical.proofs.Collect
 use Rattle.canonical.proofs.Collect.{Progress}
 use Rattle.canonical.proofs.collect_keys.Statement.{statement}
 use Rattle.canonical.proofs.collect_keys.Tie as tie
-use Rattle.canonical.proofs.collect_keys.Reads as reads
-use Rattle.canonical.proofs.collect_keys.Lts as lts
-use Rattle.view.proofs.value.read_item.Reads as read-item-reads
 
 abbrev Inv-loop : tie.InvT-loop
 Inv-loop s at depth keys₀ n₀ i₀ keys n i = Progress s at depth keys n i × (length keys ≡ length keys₀)

@@ -1,6 +1,7 @@
 -- `canonical::digits_end` meets its contract: the sign, and then the digits as `int_part` reads them. Assumes nothing.
+use borrow.Author.Needs.{needs}
 use Prim.Native.Nat.{ℕ, _+_}
-use mathlib.Core.Path.{_≡_, ap, subst}
+use mathlib.Core.Path.{ap, subst}
 use native.Mathlib.Omega.{arith}
 use denote.Ref.{now}
 use lib.Dec.{eqb}
@@ -10,13 +11,8 @@ use Rattle.json.proofs.Numerals.{signs-most}
 use Rattle.view.proofs.Values.{within}
 use Rattle.view.proofs.Numbers.{number-parts, no-int}
 use Rattle.canonical.proofs.Scalars.{digits-end}
-use borrow.Author.Needs.{needs}
 use Rattle.canonical.proofs.digits_end.Statement.{statement}
 use Rattle.canonical.proofs.digits_end.Tie as tie
-use Rattle.canonical.proofs.digits_end.Reads as reads
-use Rattle.canonical.proofs.digits_end.Lts as lts
-use Rattle.json.proofs.number.int_part.Reads as int-part-reads
-use Rattle.json.proofs.number.sign_size.Reads as sign-size-reads
 
 shared-slice-read-sign-size : tie.Need-shared-slice-read-sign-size
 shared-slice-read-sign-size c = let p = c .before .before .pre in within _ _ (p .depth) _ (p .here)

@@ -1,16 +1,14 @@
 -- `canonical::separate` meets its contract. Assumes nothing.
-use mathlib.Core.Path.{_≡_, ap}
+use borrow.Author.Needs.{needs}
+use mathlib.Core.Path.{ap}
 use mathlib.Core.List.{append-nil}
 use native.Mathlib.Omega.{arith}
 use lib.ListN.{length}
 use Rattle.printer.proofs.Written
 use Rattle.printer.proofs.Written.{byte-written}
 use Rattle.canonical.proofs.Forms.{comma-none, comma-one}
-use borrow.Author.Needs.{needs}
 use Rattle.canonical.proofs.separate.Statement.{statement}
 use Rattle.canonical.proofs.separate.Tie as tie
-use Rattle.canonical.proofs.separate.Reads as reads
-use Rattle.canonical.proofs.separate.Lts as lts
 
 returns : tie.Need-returns
 returns c =

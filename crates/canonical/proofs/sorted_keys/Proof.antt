@@ -1,15 +1,11 @@
 -- `canonical::sorted_keys` meets its contract. Assumes nothing.
-use mathlib.Core.Path.{_≡_, sym}
+use borrow.Author.Needs.{needs}
+use mathlib.Core.Path.{sym}
 use native.Mathlib.Omega.{arith}
 use lib.Seq.{length-take-le}
 use Rattle.canonical.proofs.Collect.{sorted}
-use borrow.Author.Needs.{needs}
 use Rattle.canonical.proofs.sorted_keys.Statement.{statement}
 use Rattle.canonical.proofs.sorted_keys.Tie as tie
-use Rattle.canonical.proofs.sorted_keys.Reads as reads
-use Rattle.canonical.proofs.sorted_keys.Lts as lts
-use Rattle.canonical.proofs.collect_keys.Reads as collect-keys-reads
-use Rattle.keys.proofs.sort_keys.Reads as sort-keys-reads
 
 collect-keys-requires : tie.Need-collect-keys-requires
 collect-keys-requires c κs = search needs

@@ -1,17 +1,14 @@
 -- `canonical::write_boolean` meets its contract. Assumes nothing.
-use mathlib.Core.Path.{_≡_, ap, _∙_}
+use borrow.Author.Needs.{needs}
+use mathlib.Core.Path.{ap, _∙_}
 use mathlib.Core.Bool.{Bool}
 use native.Mathlib.Omega.{arith}
 use lib.ListN.{length}
 use Rattle.content.specs.Value.{boolean}
 use Rattle.content.specs.Canonical.{canonical}
 use Rattle.canonical.proofs.Scalars.{true-form, false-form}
-use borrow.Author.Needs.{needs}
 use Rattle.canonical.proofs.write_boolean.Statement.{statement}
 use Rattle.canonical.proofs.write_boolean.Tie as tie
-use Rattle.canonical.proofs.write_boolean.Reads as reads
-use Rattle.canonical.proofs.write_boolean.Lts as lts
-use Rattle.printer.proofs.copy.Reads as copy-reads
 
 slice-aggregate-copy : tie.Need-slice-aggregate-copy
 slice-aggregate-copy c = search needs

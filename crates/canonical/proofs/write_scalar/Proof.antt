@@ -1,18 +1,12 @@
 -- `canonical::write_scalar` meets its contract. Assumes nothing.
-use mathlib.Core.Path.{_≡_, sym, ap, _∙_}
+use borrow.Author.Needs.{needs}
+use mathlib.Core.Path.{sym, ap, _∙_}
 use native.Mathlib.Omega.{arith}
 use lib.ListN.{length}
 use Rattle.canonical.proofs.Values.{left-string}
 use Rattle.canonical.proofs.Scalars.{same-kind, null-bytes, boolean-bytes, number-at, number-size, number-written, string-inside, string-bytes}
-use borrow.Author.Needs.{needs}
 use Rattle.canonical.proofs.write_scalar.Statement.{statement}
 use Rattle.canonical.proofs.write_scalar.Tie as tie
-use Rattle.canonical.proofs.write_scalar.Reads as reads
-use Rattle.canonical.proofs.write_scalar.Lts as lts
-use Rattle.canonical.proofs.digits_end.Reads as digits-end-reads
-use Rattle.canonical.proofs.write_boolean.Reads as write-boolean-reads
-use Rattle.printer.proofs.copy.Reads as copy-reads
-use Rattle.printer.proofs.write_string.Reads as write-string-reads
 
 enum-told : tie.Need-enum-told
 enum-told c = search needs

@@ -12,6 +12,7 @@ use lib.ListN.{length, drop}
 use Rattle.json.specs.Read.{readChars, char, escape, stuck}
 use Rattle.json.specs.Measure.{measure, add}
 use Rattle.json.proofs.CharSteps.{chars-end, char-close, char-escape, char-plain, char-control}
+use Rattle.json.proofs.Plain.{plain-run, add-plain}
 use Rattle.json.proofs.Weights.{add-add, add-none, add-close, add-stuck, measure-plain, scans-token, scans-none}
 use Rattle.json.proofs.string.chars.Statement.{statement}
 use Rattle.json.proofs.string.chars.Tie as tie
@@ -55,8 +56,8 @@ loop-holds c = (omega arith, c .before .pre, omega arith, add-none _)
 shared-slice-read-b : tie.Need-shared-slice-read-b Inv-loop μ-loop
 shared-slice-read-b c = omega arith
 
-add-t15 : tie.Need-add-t15 Inv-loop μ-loop
-add-t15 c = omega arith
+add-t16 : tie.Need-add-t16 Inv-loop μ-loop
+add-t16 c = omega arith
 
 returns : tie.Need-returns Inv-loop μ-loop
 returns c =
@@ -100,24 +101,42 @@ returns-3 c =
     let read = char-control (text l) (l .loop .i) (else1 .before .before .loop-test .taken) (else1 .if1 .left) (c .before .if2 .left) (c .if3 .taken) in
     (omega arith, scans-none (text l) (l .loop .i) (l .loop .inv .1) _ (stops l (l .loop .i) read))
 
-add-size-2 : tie.Need-add-size-2 Inv-loop μ-loop
-add-size-2 c = omega arith
+add-next : tie.Need-add-next Inv-loop μ-loop
+add-next c = omega arith
 
-add-i : tie.Need-add-i Inv-loop μ-loop
-add-i c = omega arith
+plain-end-requires : tie.Need-plain-end-requires Inv-loop μ-loop
+plain-end-requires c κs = omega arith
+
+sub-size : tie.Need-sub-size Inv-loop μ-loop
+sub-size c = c .plain-end .ensures .up
+
+add-size-2 : tie.Need-add-size-2 Inv-loop μ-loop
+add-size-2 c = omega (arith, c .plain-end .ensures .up, c .plain-end .ensures .fits)
+
+add-size-3 : tie.Need-add-size-3 Inv-loop μ-loop
+add-size-3 c = omega (arith, c .plain-end .ensures .up, c .plain-end .ensures .fits)
 
 loop-less-2 : tie.Need-loop-less-2 Inv-loop μ-loop
-loop-less-2 c = omega arith
+loop-less-2 c = omega (arith, c .plain-end .ensures .up)
 
 loop-again-2 : tie.Need-loop-again-2 Inv-loop μ-loop
 loop-again-2 c =
-    let else1 = c .before .before in
+    let else3 = c .before in
+    let else1 = else3 .before .before in
     let l = else1 .before .before .before in
-    let read = char-plain (text l) (l .loop .i) (else1 .before .before .loop-test .taken) (else1 .if1 .left) (c .before .if2 .left) (c .if3 .left) in (
-      omega arith,
-      omega arith,
-      omega arith,
-      passes l (l .loop .i + 1) _ 1 (ap measure read ∙ measure-plain _ _ (else1 .if1 .left) (c .before .if2 .left) (c .if3 .left)),
+    let q = else1 .if1 .left in
+    let e = else3 .before .if2 .left in
+    let read = char-plain (text l) (l .loop .i) (else1 .before .before .loop-test .taken) q e (else3 .if3 .left) in
+    let p = c .plain-end .ensures in
+    let r = c .plain-end .result in (
+      omega (arith, p .up),
+      p .fits,
+      omega (arith, p .up),
+      passes l r _ _
+          (ap measure read
+          ∙ measure-plain _ _ q e (else3 .if3 .left)
+          ∙ ap (add _ 1) (plain-run (text l) (l .loop .i + 1) r p)
+          ∙ add-plain _ 1 _ _),
     )
 
 returns-4 : tie.Need-returns-4 Inv-loop μ-loop
@@ -133,7 +152,7 @@ chars-spec =
     μ-loop
     loop-holds
     shared-slice-read-b
-    add-t15
+    add-t16
     returns
     one-escape-requires
     enum-known-end
@@ -143,8 +162,11 @@ chars-spec =
     enum-known-e
     returns-2
     returns-3
+    add-next
+    plain-end-requires
+    sub-size
     add-size-2
-    add-i
+    add-size-3
     loop-less-2
     loop-again-2
     returns-4)
