@@ -24,7 +24,9 @@ LIMIT = 16384
 EDGES = [0x20, 0x21, 0x22, 0x2F, 0x5C, 0x7E, 0x80, 0x9F, 0xA0, 0x7FF, 0x800, 0x915, 0x916, 0x93C, 0x958, 0x2028,
          0xD7FF, 0xE000, 0xFEFF, 0xFFFD, 0xFFFE, 0xFFFF, 0x10000, 0x1F600, 0xFFFFF, 0x10FFFF]
 
-# What the library answers, what jq 1.6 prints (None: it fails), the text.
+ANY = object()
+
+# What the library answers, what jq 1.6 prints (None: it fails; ANY: not the same in all its packages), the text.
 DIFFERENCES = [
     # numbers: jq reads each into a double and is lenient about their form
     (5, b"-0\n", b"-0"),
@@ -38,14 +40,14 @@ DIFFERENCES = [
     (3, b"1\n", b"+1"),
     (3, b"0.5\n", b".5"),
     (3, b"1\n", b"1."),
-    (3, b"null\n", b"nan"),
-    (3, b"null\n", b"NaN"),
+    (3, ANY, b"nan"),
+    (3, ANY, b"NaN"),
     # strings: jq lets control characters pass and writes them as escapes
     (4, b'"\\u007f"\n', b'"\x7f"'),
     (4, b'"\\u007f"\n', b'"\\u007f"'),
     (4, b'"\\n\\t\\u0001"\n', b'"\\n\\t\\u0001"'),
     (4, b'{"\\n":1}\n', b'{"\\n":1}'),
-    (3, b'"\\u0000"\n', b'"\x00"'),
+    (3, ANY, b'"\x00"'),
     # jq puts U+FFFD for bytes that are not UTF-8
     (2, b'"\xef\xbf\xbd"\n', b'"\xff"'),
     (2, b'"\xef\xbf\xbd"\n', b'"\xed\xa0\x80"'),
@@ -231,7 +233,9 @@ def main():
         if got != number:
             fail("the library answers %d and not %d" % (got, number), text)
         run = jq(["-cS"], text)
-        if version == "jq-1.6" and (run.stdout if run.returncode == 0 else None) != printed:
+        if printed is ANY or version != "jq-1.6":
+            continue
+        if (run.stdout if run.returncode == 0 else None) != printed:
             fail("jq prints something else than is written down", text, run.stdout, run.stderr)
 
     print("jq: %d texts equal to %s -cS, %d of them to -jcS too; %d known differences as written down"

@@ -17,7 +17,7 @@ use Rattle.view.specs.declared.value.Item.the-variants.{At, End}
 use Rattle.view.proofs.Values.{Opened, opened-kind}
 use Rattle.canonical.specs.Room.{Room, Writable, WritableArray, Written}
 use Rattle.canonical.proofs.Forms.{array-form, no-values-form, value-form}
-use Rattle.canonical.proofs.Values.{one-value}
+use Rattle.view.proofs.ByKind.{one-value}
 use Rattle.canonical.proofs.Marks.{mark-written, room-again}
 
 -- Of the canonical form of the array at position `at`, n bytes are written, and its other elements stand from position i on;

@@ -23,7 +23,7 @@ use Rattle.view.proofs.Items.{item-within}
 use Rattle.canonical.specs.Members.{MemberAt, MembersAt, Collected, Sorted}
 use Rattle.canonical.specs.Room.{KeysFit}
 use Rattle.canonical.proofs.Forms.{count, keys-fit}
-use Rattle.canonical.proofs.Values.{one-value}
+use Rattle.view.proofs.ByKind.{one-value}
 use Rattle.canonical.proofs.Members.{member-key, members-sort, no-members-sort}
 
 -- Of the object at position `at`, the first n keys are collected, and its other members stand from position i on.
@@ -43,7 +43,7 @@ pub object-opened : (s : List ℕ) (at depth : ℕ) (fs : Fields) (v : ValueAt s
 unfolding kindOf
 object-opened s at depth fs v = opened-kind s at depth (v .tree) (v .rest) (v .derives) true (ap kindOf (v .means))
 
-opened-fields : (s : List ℕ) (at depth : ℕ) (fs : Fields) (v : ValueAt s at depth (object fs)) → fields (members (object-opened s at depth fs v .trees)) ≡ fs
+pub opened-fields : (s : List ℕ) (at depth : ℕ) (fs : Fields) (v : ValueAt s at depth (object fs)) → fields (members (object-opened s at depth fs v .trees)) ≡ fs
 unfolding content
 opened-fields s at depth fs v =
     let o = object-opened s at depth fs v in

@@ -3,6 +3,7 @@ pub mod Values
 pub mod Scalars
 pub mod Members
 pub mod Collect
+pub mod Given
 pub mod Marks
 pub mod Arrays
 pub mod Objects

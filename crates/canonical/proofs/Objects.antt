@@ -17,9 +17,9 @@ use Rattle.printer.specs.Writes.{Writes}
 use Rattle.printer.proofs.Written.{same-length, lent-length, byte-written, part-written}
 use Rattle.view.specs.Place.{ValueAt}
 use Rattle.canonical.specs.Members.{MemberAt, MembersAt, no-members, member-at, Sorted, memberForm}
-use Rattle.canonical.specs.Room.{Room, WritableObject, WritableMember, KeysFit, Written}
+use Rattle.canonical.specs.Room.{Room, WritableObject, WritableMembers, WritableMember, KeysFit, Written}
 use Rattle.canonical.proofs.Forms.{object-form, no-fields-form, field-form, comma-one, member-size, count, fields-size}
-use Rattle.canonical.proofs.Values.{one-value}
+use Rattle.view.proofs.ByKind.{one-value}
 use Rattle.canonical.proofs.Marks.{mark-written, room-again}
 use Rattle.canonical.proofs.Members.{members-count}
 use Rattle.canonical.proofs.Collect.{object-opened}
@@ -46,20 +46,25 @@ module _ {s : List ℕ} {at depth : ℕ} {out keys spare : List ℕ} (p : Writab
       let r = p .room in
       (record { fields = p .fields; here = r .here; short = r .short; enough = r .enough }, r .sorting)
 
+  -- once the keys are sorted
+  pub keys-given : (ks ss : List ℕ) (total : ℕ) → length ks ≡ length keys → length ss ≡ length spare → Sorted s at depth total ks
+      → WritableMembers s at depth total out ks ss
+  keys-given ks ss total e f h = record { fields = p .fields; room = room-again out ks ss refl e f (p .room); sorted = h }
+
+module _ {s : List ℕ} {at depth total : ℕ} {out keys spare : List ℕ} (p : WritableMembers s at depth total out keys spare) where
   pub mark-fits : 0 < length out
   mark-fits = omega (arith, ap length (object-form (p .fields)), p .room .form)
 
-  pub started : (ks ss : List ℕ) (total : ℕ) → length ks ≡ length keys → length ss ≡ length spare → Sorted s at depth total ks
-      → Progress s at depth (set out 0 0x7B) ks ss (set out 0 0x7B) ks total 1 0
-  started ks ss total e f h =
+  pub started : Progress s at depth (set out 0 0x7B) keys spare (set out 0 0x7B) keys total 1 0
+  started =
       record {
         all = p .fields;
-        room = room-again (set out 0 0x7B) ks ss (length-set out 0 0x7B) e f (p .room);
+        room = room-again (set out 0 0x7B) keys spare (length-set out 0 0x7B) refl refl (p .room);
         some = object-opened s at depth (p .fields) (p .room .here) .some;
-        within = h .within;
+        within = p .sorted .within;
         same = refl;
         left = sortedFields (p .fields);
-        members = h .members (p .fields) (p .room .here);
+        members = p .sorted .members (p .fields) (p .room .here);
         done = 0x7B ∷ [];
         size = refl;
         written = mark-written out 0x7B mark-fits;

@@ -1,4 +1,4 @@
--- The value at a position: there is one, and its kind tells its form.
+-- The kind of a value tells its form.
 use Prim.Native.Nat.{ℕ, _<_}
 use mathlib.Core.Path.{_≡_, refl, sym, ap, subst, _∙_}
 use mathlib.Core.List.{List}
@@ -6,20 +6,11 @@ use mathlib.Core.Bool.{Bool}
 use mathlib.Core.Logic.{_⊎_, ⊎-elim}
 use native.Mathlib.Omega.{arith}
 use denote.Enum.Declared.{tagOf}
-use lib.ListN.{drop}
-use Rattle.json.proofs.Places.{found-same}
-use Rattle.json.proofs.Grammar.Complete.{read-complete}
-use Rattle.content.specs.Value.{Value, Values, Fields, null, boolean, number, string, array, object, content}
+use Rattle.content.specs.Value.{Value, Values, Fields, null, boolean, number, string, array, object}
 use Rattle.view.specs.Place.{ValueAt, kindOf}
 use Rattle.view.specs.declared.Kind.{Kind}
 use Rattle.view.proofs.Kind
 use Rattle.view.specs.declared.Kind.the-variants.{Null, Boolean, Number, String, Array, Object}
-
-pub one-value : (s : List ℕ) (at depth : ℕ) (v w : Value) → ValueAt s at depth v → ValueAt s at depth w → v ≡ w
-one-value s at depth v w p q =
-    let e = read-complete depth (drop at s) (p .tree) (p .rest) (p .derives) (p .stops) in
-    let f = read-complete depth (drop at s) (q .tree) (q .rest) (q .derives) (q .stops) in
-    sym (p .means) ∙ ap content (found-same (p .tree) (q .tree) (p .rest) (q .rest) (sym e ∙ f)) ∙ q .means
 
 data IsKind : Kind → Value → Type 0 where
   is-null : IsKind Null null

@@ -11,7 +11,7 @@ use Rattle.printer.specs.Writes.{Writes}
 use Rattle.view.specs.Place.{ValueAt, kindOf}
 use Rattle.view.specs.declared.Kind.{Kind}
 use Rattle.view.specs.declared.Kind.the-variants.{Array, Object}
-use Rattle.canonical.specs.Members.{MemberAt, memberForm}
+use Rattle.canonical.specs.Members.{MemberAt, Sorted, memberForm}
 
 -- The value v stands at position `at`, and there is room for its canonical form and for the keys of its objects: in the canonical
 -- form each key has four bytes of its own, its two marks, its colon, and a comma or the closing brace.
@@ -33,6 +33,18 @@ pub record WritableArray (s : List ℕ) (at depth : ℕ) (out keys spare : List 
 pub record WritableObject (s : List ℕ) (at depth : ℕ) (out keys spare : List ℕ) : Type 0 where
   pub fields : Fields
   pub room : Room s at depth (object fields) out keys spare
+
+-- an object whose keys are given: the first n, in canonical order
+pub record WritableMembers (s : List ℕ) (at depth n : ℕ) (out keys spare : List ℕ) : Type 0 where
+  pub fields : Fields
+  pub room : Room s at depth (object fields) out keys spare
+  pub sorted : Sorted s at depth n keys
+
+-- the value of a whole text; if it is an object, its keys are given
+pub record WritableRoot (s : List ℕ) (at n : ℕ) (out keys spare : List ℕ) : Type 0 where
+  pub value : Value
+  pub room : Room s at 8 value out keys spare
+  pub sorted : (fs : Fields) → value ≡ object fs → Sorted s at 8 n keys
 
 -- an object whose keys fit
 pub record KeysFit (s : List ℕ) (at depth : ℕ) (keys : List ℕ) : Type 0 where

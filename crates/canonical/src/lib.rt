@@ -9,7 +9,7 @@ ghost use Rattle.content.specs.Value.{boolean};
 ghost use Rattle.content.specs.Canonical.{canonical, comma};
 ghost use Rattle.printer.specs.Writes.{Writes};
 ghost use Rattle.canonical.specs.Members.{Collected, Sorted};
-ghost use Rattle.canonical.specs.Room.{Writable, WritableArray, WritableObject, KeysFit, WritableScalar, WritableMember, Written, WritesValue, WritesMember, NumberAt, DigitsEnd};
+ghost use Rattle.canonical.specs.Room.{Writable, WritableArray, WritableObject, WritableMembers, WritableRoot, KeysFit, WritableScalar, WritableMember, Written, WritesValue, WritesMember, NumberAt, DigitsEnd};
 
 // The value at `at`, whose arrays and objects are nested at most `depth` deep. `keys` and `spare` hold the keys of its objects
 // while they are sorted and written; what they hold afterwards means nothing.
@@ -29,6 +29,25 @@ pub fn write_value(
         Kind::Array => write_array(s, at, depth, out, keys, spare),
         Kind::Object => write_object(s, at, depth, out, keys, spare),
         _ => write_scalar(s, at, kind, out),
+    }
+}
+
+// The value of a whole text, which stands at `at`. Where it is an object, its keys are given, sorted: the first `count` of `keys`. So the
+// text is not walked to collect them.
+pub fn write_root(
+    s: &[u8],
+    at: usize,
+    count: usize,
+    out: &mut [u8],
+    keys: &mut [u16],
+    spare: &mut [u16],
+) -> usize
+    requires { ⌜ WritableRoot (now s) at count (now out) (now keys) (now spare) ⌝ }
+    ensures { λ r. ⌜ WritesValue (now (s .entry)) at 8 (now (out .entry)) (now (out .exit)) r ⌝ }
+{
+    match view::value::kind(s, at) {
+        Kind::Object => write_members(s, at, 8, count, out, keys, spare),
+        _ => write_value(s, at, 8, out, keys, spare),
     }
 }
 
@@ -68,7 +87,7 @@ fn write_array(
     }
 }
 
-// The members in the order of their keys, which are collected and sorted first. The values' own objects have the rest of `keys`.
+// The members in the order of their keys, which are collected and sorted first.
 fn write_object(
     s: &[u8],
     at: usize,
@@ -81,6 +100,23 @@ fn write_object(
     ensures { λ r. ⌜ WritesValue (now (s .entry)) at depth (now (out .entry)) (now (out .exit)) r ⌝ }
 {
     let count = sorted_keys(s, at, depth, keys, spare);
+    write_members(s, at, depth, count, out, keys, spare)
+}
+
+// The members of the object at `at` in the order of the first `count` keys, which are its own: `at` only tells which object it is. The
+// values' own objects have the rest of `keys`.
+fn write_members(
+    s: &[u8],
+    at: usize,
+    depth: usize,
+    count: usize,
+    out: &mut [u8],
+    keys: &mut [u16],
+    spare: &mut [u16],
+) -> usize
+    requires { ⌜ WritableMembers (now s) at depth count (now out) (now keys) (now spare) ⌝ }
+    ensures { λ r. ⌜ WritesValue (now (s .entry)) at depth (now (out .entry)) (now (out .exit)) r ⌝ }
+{
     out[0] = b'{';
     let mut n = 1;
     let mut i = 0;

@@ -1,113 +1,160 @@
--- Runs of bytes that stand for themselves: eight tested at once, and what a run weighs.
+-- Runs of bytes that stand for themselves: where one ends, and what it weighs.
 -- Assumes nothing.
 use Prim.Native.Nat.{ℕ, zero, suc, _+_, _-_, _≤_, _<_}
-use native.Mathlib.Nat.{add-zero}
-use native.Mathlib.Decide.{decLt}
+use native.Mathlib.Nat.{zero-add}
+use native.Mathlib.Numerals.{add-one, one-add}
 use native.Mathlib.Omega.{arith}
-use mathlib.Core.Path.{_≡_, ap, _∙_}
-use mathlib.Core.List.{List}
-use mathlib.Core.Bool.{Bool, true, false, not, _&&_, or-false, and-eq-true-iff}
+use mathlib.Core.Path.{_≡_, refl, ap, sym, _∙_}
+use mathlib.Core.List.{List, [], _∷_, _++_}
+use mathlib.Core.Bool.{Bool, true, false, not, _&&_, or-false, and-true, and-eq-true-iff}
 use borrow.Author.Tests.{leb-true, eqb-false, ne-eqb, not-true}
 use lib.Dec.{leb, eqb}
-use lib.ListN.{length, drop, getD}
+use lib.ListN.{length, take, drop, getD, length-drop, drop-of-length-le}
+use lib.Seq.{take-suc, getD-drop, drop-drop}
 use Rattle.json.specs.Read.{Read, readChars, char}
-use Rattle.json.specs.Measure.{Weight, measure, add, Itself, Plain}
+use Rattle.json.specs.Measure.{Weight, measure, add, isPlain, plainLength, every, isNot}
 use Rattle.json.proofs.CharSteps.{char-plain}
+use Rattle.json.proofs.Grammar.Answer.{by-test}
+use Rattle.json.proofs.Places.{drop-next}
 use Rattle.json.proofs.Weights.{add-add, add-none, measure-plain}
 
-and4 : (a b c d : Bool) → ((a && b) && c) && d ≡ true → (a ≡ true) × (b ≡ true) × (c ≡ true) × (d ≡ true)
-and4 a b c d e =
-    let p = and-eq-true-iff ((a && b) && c) d .0 e in
-    let q = and-eq-true-iff (a && b) c .0 (p .0) in
-    let r = and-eq-true-iff a b .0 (q .0) in
-    (r .0, r .1, q .1, p .1)
+-- what is known of a plain byte
+pub record Itself (b : ℕ) : Type 0 where
+  pub no-control : 0x20 ≤ b
+  pub no-mark : b ≡ 0x22 → ⊥
+  pub no-escape : b ≡ 0x5C → ⊥
+  pub no-delete : b ≡ 0x7F → ⊥
 
-pub itself : (b : ℕ) → ((leb 0x20 b && not (eqb b 0x22)) && not (eqb b 0x5C)) && not (eqb b 0x7F) ≡ true → Itself b
+pub itself : (b : ℕ) → isPlain b ≡ true → Itself b
+unfolding isPlain
 itself b e =
-    let p = and4 (leb 0x20 b) (not (eqb b 0x22)) (not (eqb b 0x5C)) (not (eqb b 0x7F)) e in (
-      leb-true 0x20 b (p .0),
-      eqb-false b 0x22 (not-true (eqb b 0x22) (p .1)),
-      eqb-false b 0x5C (not-true (eqb b 0x5C) (p .2)),
-      eqb-false b 0x7F (not-true (eqb b 0x7F) (p .3)),
-    )
+    let p = and-eq-true-iff ((leb 0x20 b && not (eqb b 0x22)) && not (eqb b 0x5C)) (not (eqb b 0x7F)) .0 e in
+    let q = and-eq-true-iff (leb 0x20 b && not (eqb b 0x22)) (not (eqb b 0x5C)) .0 (p .0) in
+    let r = and-eq-true-iff (leb 0x20 b) (not (eqb b 0x22)) .0 (q .0) in
+    record {
+      no-control = leb-true 0x20 b (r .0);
+      no-mark = eqb-false b 0x22 (not-true (eqb b 0x22) (r .1));
+      no-escape = eqb-false b 0x5C (not-true (eqb b 0x5C) (q .1));
+      no-delete = eqb-false b 0x7F (not-true (eqb b 0x7F) (p .1));
+    }
 
--- what holds at eight places holds at each of them
-eight : (P : ℕ → Type 0) (i : ℕ)
-    → P i → P (i + 1) → P (i + 2) → P (i + 3) → P (i + 4) → P (i + 5) → P (i + 6) → P (i + 7)
-    → (k : ℕ) → k < 8 → P (i + k)
-eight P i p q r s t u v w zero h = rw add-zero p
-eight P i p q r s t u v w (suc zero) h = q
-eight P i p q r s t u v w (suc (suc zero)) h = r
-eight P i p q r s t u v w (suc (suc (suc zero))) h = s
-eight P i p q r s t u v w (suc (suc (suc (suc zero)))) h = t
-eight P i p q r s t u v w (suc (suc (suc (suc (suc zero))))) h = u
-eight P i p q r s t u v w (suc (suc (suc (suc (suc (suc zero)))))) h = v
-eight P i p q r s t u v w (suc (suc (suc (suc (suc (suc (suc zero))))))) h = w
-eight P i p q r s t u v w (suc (suc (suc (suc (suc (suc (suc (suc k)))))))) h = absurd (omega arith)
+and-assoc : (a b c : Bool) → a && (b && c) ≡ (a && b) && c
+and-assoc true b c = refl
+and-assoc false b c = refl
 
--- eight tests that all hold
-pub plain-eight : (s : List ℕ) (i : ℕ) (a b c d e f g h : Bool)
-    → i + 8 ≤ length s
-    → (a ≡ true → Itself (getD s i 0))
-    → (b ≡ true → Itself (getD s (i + 1) 0))
-    → (c ≡ true → Itself (getD s (i + 2) 0))
-    → (d ≡ true → Itself (getD s (i + 3) 0))
-    → (e ≡ true → Itself (getD s (i + 4) 0))
-    → (f ≡ true → Itself (getD s (i + 5) 0))
-    → (g ≡ true → Itself (getD s (i + 6) 0))
-    → (h ≡ true → Itself (getD s (i + 7) 0))
-    → (((a && b) && c) && d) && (((e && f) && g) && h) ≡ true
-    → Plain s i (i + 8)
-plain-eight s i a b c d e f g h l p q r t u v w x y = record { up = omega arith; fits = l; all = each }
-  where
-    each : (k : ℕ) → i ≤ k → k < i + 8 → Itself (getD s k 0)
-    each k m n =
-        let z = and-eq-true-iff (((a && b) && c) && d) (((e && f) && g) && h) .0 y in
-        let low = and4 a b c d (z .0) in
-        let high = and4 e f g h (z .1) in
-        let o : i + (k - i) ≡ k = omega arith in
-        rw o
-        at (eight (λ j. Itself (getD s j 0)) i
-        (p (low .0)) (q (low .1)) (r (low .2)) (t (low .3))
-        (u (high .0)) (v (high .1)) (w (high .2)) (x (high .3))
-        (k - i) (omega arith))
+and-swap : (a b c d : Bool) → (a && b) && (c && d) ≡ (a && c) && (b && d)
+and-swap true true c d = refl
+and-swap true false true d = refl
+and-swap true false false d = refl
+and-swap false b c d = refl
 
-pub plain-none : (s : List ℕ) (i : ℕ) → i ≤ length s → Plain s i i
-plain-none s i h = record { up = omega arith; fits = h; all = λ k u v. absurd (omega arith) }
+module _ (p : ℕ → Bool) where
+  every-snoc : (xs : List ℕ) (a : ℕ) → every p (xs ++ (a ∷ [])) ≡ every p xs && p a
+  unfolding every
+  every-snoc [] a = and-true (p a)
+  every-snoc (x ∷ xs) a = ap (λ (t : Bool). p x && t) (every-snoc xs a) ∙ and-assoc (p x) (every p xs) (p a)
 
--- a run and the next
-pub plain-more : (s : List ℕ) (i j k : ℕ) → Plain s i j → Plain s j k → Plain s i k
-plain-more s i j k p q = record { up = omega (arith, p .up, q .up); fits = q .fits; all = each }
-  where
-    each : (n : ℕ) → i ≤ n → n < k → Itself (getD s n 0)
-    each n u v = elim (decLt n j) [ yes h ↦ p .all n u h | no h ↦ q .all n (omega arith) v ]
+  -- a test of n bytes from the place i on and of the next is one of n + 1 bytes
+  pub every-next : (s : List ℕ) (i n : ℕ) (all : Bool) → i + n < length s → all ≡ every p (take n (drop i s))
+      → all && p (getD s (i + n) 0) ≡ every p (take (n + 1) (drop i s))
+  every-next s i n all h e =
+      let l : n < length (drop i s) = rw (length-drop i s) (omega arith) in
+      rw e (sym (rw (add-one, take-suc (drop i s) n 0 l, getD-drop i s n 0) (every-snoc (take n (drop i s)) (getD s (i + n) 0))))
+
+  -- two tests at once
+  pub every-both : (q r : ℕ → Bool) → ((b : ℕ) → r b ≡ p b && q b) → (xs : List ℕ) → every p xs && every q xs ≡ every r xs
+  unfolding every
+  every-both q r h [] = refl
+  every-both q r h (x ∷ xs) =
+      and-swap (p x) (every p xs) (q x) (every q xs)
+      ∙ ap (λ (t : Bool). (p x && q x) && t) (every-both q r h xs)
+      ∙ ap (λ (t : Bool). t && every r xs) (sym (h x))
+
+-- the four tests of a plain byte, each made of all bytes
+pub every-plain : (xs : List ℕ)
+    → ((every (leb 0x20) xs && every (isNot 0x22) xs) && every (isNot 0x5C) xs) && every (isNot 0x7F) xs ≡ every isPlain xs
+unfolding isPlain isNot
+every-plain xs =
+    ap (λ (t : Bool). (t && every (isNot 0x5C) xs) && every (isNot 0x7F) xs)
+    (every-both (leb 0x20) (isNot 0x22) (λ b. leb 0x20 b && not (eqb b 0x22)) (λ b. refl) xs)
+    ∙ ap (λ (t : Bool). t && every (isNot 0x7F) xs)
+    (every-both (λ b. leb 0x20 b && not (eqb b 0x22)) (isNot 0x5C) (λ b. (leb 0x20 b && not (eqb b 0x22)) && not (eqb b 0x5C)) (λ b. refl) xs)
+    ∙ every-both (λ b. (leb 0x20 b && not (eqb b 0x22)) && not (eqb b 0x5C)) (isNot 0x7F) isPlain (λ b. refl) xs
+
+pub plain-none : (b : ℕ) (xs : List ℕ) → isPlain b ≡ false → plainLength (b ∷ xs) ≡ 0
+unfolding plainLength
+plain-none b xs e = rw (e, plainLength)
+
+pub plain-one : (b : ℕ) (xs : List ℕ) → isPlain b ≡ true → plainLength (b ∷ xs) ≡ suc (plainLength xs)
+unfolding plainLength
+plain-one b xs e = rw (e, plainLength)
+
+-- n plain bytes, and those that follow
+pub plain-past : (n : ℕ) (xs : List ℕ) → n ≤ length xs → every isPlain (take n xs) ≡ true → plainLength xs ≡ n + plainLength (drop n xs)
+unfolding every
+plain-past zero xs h e = rw zero-add
+plain-past (suc n) [] h e = absurd (omega arith)
+plain-past (suc n) (x ∷ xs) h e =
+    let p = and-eq-true-iff (isPlain x) (every isPlain (take n xs)) .0 e in
+    let rest = plain-past n xs (omega arith) (p .1) in
+    plain-one x xs (p .0) ∙ omega arith
+
+pub plain-fits : (xs : List ℕ) → plainLength xs ≤ length xs
+unfolding plainLength
+plain-fits [] = omega arith
+plain-fits (x ∷ xs) =
+    let rest = plain-fits xs in
+    by-test (isPlain x) (λ e. rw (plain-one x xs e) (omega arith)) (λ e. rw (plain-none x xs e) (omega arith))
+
+-- each byte of a run is plain
+pub plain-at : (n : ℕ) (xs : List ℕ) → n < plainLength xs → Itself (getD xs n 0)
+unfolding plainLength
+plain-at n [] h = absurd (omega arith)
+plain-at zero (x ∷ xs) h = by-test (isPlain x) (itself x) (λ e. absurd (omega (arith, plain-none x xs e)))
+plain-at (suc n) (x ∷ xs) h =
+    by-test (isPlain x) (λ e. plain-at n xs (omega (arith, plain-one x xs e))) (λ e. absurd (omega (arith, plain-none x xs e)))
+
+-- at a position of a text
+
+pub ends-after : (s : List ℕ) (i : ℕ) → length s ≤ i → plainLength (drop i s) ≡ 0
+unfolding plainLength
+ends-after s i h = rw drop-of-length-le
+
+pub ends-here : (s : List ℕ) (i : ℕ) → i < length s → isPlain (getD s i 0) ≡ false → plainLength (drop i s) ≡ 0
+ends-here s i h e = rw (drop-next s i h) (plain-none _ _ e)
+
+pub goes-on : (s : List ℕ) (i : ℕ) → i < length s → isPlain (getD s i 0) ≡ true → i + plainLength (drop i s) ≡ i + 1 + plainLength (drop (i + 1) s)
+goes-on s i h e = let o = ap plainLength (drop-next s i h) ∙ plain-one (getD s i 0) (drop (i + 1) s) e in omega arith
+
+pub goes-far : (s : List ℕ) (i n : ℕ) → i + n ≤ length s → every isPlain (take n (drop i s)) ≡ true
+    → i + plainLength (drop i s) ≡ i + n + plainLength (drop (i + n) s)
+goes-far s i n h e =
+    let l : n ≤ length (drop i s) = rw (length-drop i s) (omega arith) in
+    let o = rw (drop-drop n i s) at (plain-past n (drop i s) l e) in
+    omega arith
+
+pub end-fits : (s : List ℕ) (i : ℕ) → i ≤ length s → i + plainLength (drop i s) ≤ length s
+end-fits s i h = let o = rw (length-drop i s) at (plain-fits (drop i s)) in omega arith
 
 -- chars that are not refused, after others
 pub add-plain : (f : Bool) (n m : ℕ) (x : Read Weight) → add f n (add false m x) ≡ add f (n + m) x
 add-plain f n m x = rw (or-false f) at (add-add f false n m x)
 
-one : (s : List ℕ) (i : ℕ) → i < length s → Itself (getD s i 0)
-    → measure (readChars char (drop i s)) ≡ add false 1 (measure (readChars char (drop (i + 1) s)))
-one s i h p =
-    rw (ne-eqb (getD s i 0) 0x7F (p .3))
-    at (ap measure (char-plain s i h (p .1) (p .2) (p .0))
-    ∙ measure-plain (getD s i 0) (readChars char (drop (i + 1) s)) (p .1) (p .2) (p .0))
-
-run : (s : List ℕ) (i n : ℕ) → ((k : ℕ) → k < n → (i + k < length s) × Itself (getD s (i + k) 0))
-    → measure (readChars char (drop i s)) ≡ add false n (measure (readChars char (drop (i + n) s)))
-run s i zero a = rw add-zero (add-none (measure (readChars char (drop i s))))
-run s i (suc n) a =
-    let m : i + n + 1 ≡ i + suc n = omega arith in
-    let o : n + 1 ≡ suc n = omega arith in
-    let b = a n (omega arith) in
-    run s i n (λ k l. a k (omega arith))
-    ∙ ap (add false n) (one s (i + n) (b .0) (b .1))
-    ∙ add-plain false n 1 (measure (readChars char (drop (i + n + 1) s)))
-    ∙ rw (m, o)
-
 -- what a run weighs: each of its bytes is one
-pub plain-run : (s : List ℕ) (i j : ℕ) → Plain s i j
-    → measure (readChars char (drop i s)) ≡ add false (j - i) (measure (readChars char (drop j s)))
-plain-run s i j p =
-    let m : i + (j - i) ≡ j = omega (arith, p .up) in
-    rw m at (run s i (j - i) (λ k l. (omega (arith, p .fits), p .all (i + k) (omega arith) (omega arith))))
+weighs : (xs : List ℕ) → measure (readChars char xs) ≡ add false (plainLength xs) (measure (readChars char (drop (plainLength xs) xs)))
+unfolding plainLength
+weighs [] = add-none (measure (readChars char []))
+weighs (x ∷ xs) = by-test (isPlain x) (λ e. rw (plain-one x xs e) (
+    let p = itself x e in
+    rw (ne-eqb x 0x7F (p .no-delete))
+    at (ap measure (char-plain (x ∷ xs) 0 (omega arith) (p .no-mark) (p .no-escape) (p .no-control))
+    ∙ measure-plain x (readChars char xs) (p .no-mark) (p .no-escape) (p .no-control))
+    ∙ ap (add false 1) (weighs xs)
+    ∙ add-plain false 1 (plainLength xs) _
+    ∙ rw one-add)) (λ e. rw (plain-none x xs e) (add-none (measure (readChars char (x ∷ xs)))))
+
+pub plain-run : (s : List ℕ) (i r : ℕ) → r ≡ i + plainLength (drop i s)
+    → measure (readChars char (drop i s)) ≡ add false (r - i) (measure (readChars char (drop r s)))
+plain-run s i r e =
+    let m : r - i ≡ plainLength (drop i s) = omega arith in
+    rw (m, e, ← drop-drop (plainLength (drop i s)) i s) (weighs (drop i s))

@@ -1,9 +1,10 @@
 -- A string read one char at a time: all that is kept of the chars is whether they are refused and how long their canonical form is.
-use Prim.Native.Nat.{ℕ, _+_, _≤_, _<_}
+use Prim.Native.Nat.{ℕ, suc, _+_, _≤_, _<_}
 use mathlib.Core.Path.{_≡_}
 use mathlib.Core.List.{List, [], _∷_}
-use mathlib.Core.Bool.{Bool, true, false, _||_}
-use lib.ListN.{length, drop, getD}
+use mathlib.Core.Bool.{Bool, true, false, not, _&&_, _||_}
+use lib.Dec.{leb, eqb}
+use lib.ListN.{length, drop}
 use Rattle.json.specs.Syntax.{Char, byte, unit}
 use Rattle.json.specs.Read.{Read, found, stuck, prepend, readChars, char, hex}
 use Rattle.json.specs.Content.{refusedString, isPair, isLow}
@@ -52,11 +53,19 @@ Lows s at true =
 Lows s at false = (u : ℕ) → paired u (readChars char (drop at s)) ≡ false
 
 -- a byte that stands for itself in a string, and is not refused
-abbrev pub Itself : ℕ → Type 0
-Itself b = (0x20 ≤ b) × (b ≡ 0x22 → ⊥) × (b ≡ 0x5C → ⊥) × (b ≡ 0x7F → ⊥)
+unfoldable pub isPlain : ℕ → Bool
+isPlain b = ((leb 0x20 b && not (eqb b 0x22)) && not (eqb b 0x5C)) && not (eqb b 0x7F)
 
--- the text's bytes from the place i up to j are all such
-pub record Plain (s : List ℕ) (i j : ℕ) : Type 0 where
-  pub up : i ≤ j
-  pub fits : j ≤ length s
-  pub all : (k : ℕ) → i ≤ k → k < j → Itself (getD s k 0)
+-- how many such bytes a list begins with
+unfoldable pub plainLength : List ℕ → ℕ
+plainLength [] = 0
+plainLength (b ∷ s) = elim (isPlain b) [ true ↦ suc (plainLength s) | false ↦ 0 ]
+
+-- a test holds of each byte
+unfoldable pub every : (ℕ → Bool) → List ℕ → Bool
+every p [] = true
+every p (b ∷ s) = p b && every p s
+
+-- a byte is not m
+unfoldable pub isNot : ℕ → ℕ → Bool
+isNot m b = not (eqb b m)

@@ -3,7 +3,7 @@ ghost use mathlib.Core.Path.{_≡_};
 ghost use mathlib.Core.Bool.{true};
 ghost use Rattle.json.specs.Bytes.{between as inRange, isSpace, isDigit, isExp, isSign, isHex, hexValue, isShort, shortValue};
 ghost use Rattle.json.specs.Content.{isControl};
-ghost use Rattle.json.specs.Measure.{Itself};
+ghost use Rattle.json.specs.Measure.{isPlain};
 
 // Low to high, both included.
 pub fn between(low: u32, high: u32, n: u32) -> bool
@@ -87,7 +87,7 @@ pub fn is_control(b: u8) -> bool
 
 // A byte that stands for itself in a string, and is not refused.
 pub fn is_plain(b: u8) -> bool
-    ensures { λ r. ⌜ (r ≡ true → Itself b) ⌝ }
+    ensures { λ r. ⌜ r ≡ isPlain b ⌝ }
 {
     (0x20 <= b) & (b != 0x22) & (b != 0x5C) & (b != 0x7F)
 }

@@ -8,17 +8,18 @@ use crate::bytes::is_plain;
 use crate::bytes::is_short;
 use crate::bytes::short_value;
 ghost use mathlib.Core.Path.{_≡_};
-ghost use mathlib.Core.Bool.{true, _||_};
+ghost use mathlib.Core.Bool.{_||_};
 ghost use mathlib.Core.List.{[], _∷_};
 ghost use Prim.Native.Nat.{_+_, _≤_, _<_};
-ghost use lib.ListN.{length, drop};
+ghost use lib.Dec.{leb};
+ghost use lib.ListN.{length, take, drop};
 ghost use Rattle.utf8.specs.Scalar.{encode};
 ghost use Rattle.json.specs.Syntax.{unit};
 ghost use Rattle.json.specs.Read.{readChars, char, escape, prepend, readString};
 ghost use Rattle.json.specs.Content.{isSurrogate, anyControl, escaped, refusedString};
 ghost use Rattle.json.specs.Scan.{Scans};
 ghost use Rattle.json.specs.Size.{contentSize, stringSize, Within, Closed};
-ghost use Rattle.json.specs.Measure.{Hexes, Escapes, Lows, Plain};
+ghost use Rattle.json.specs.Measure.{Hexes, Escapes, Lows, isPlain, plainLength, every, isNot};
 
 // Four hexadecimal digits: their number, or the position of the first byte that is no digit.
 pub enum Hex {
@@ -168,44 +169,70 @@ pub fn one_escape(s: &[u8], at: usize) -> Escape
     }
 }
 
-// Whether the eight bytes at `at` stand for themselves and none is refused, with no branch between them.
-fn plain8(s: &[u8], at: usize) -> bool
-    requires { ⌜ at + 8 ≤ length (now s) ⌝ }
-    ensures { λ r. ⌜ (r ≡ true → Plain (now (s .entry)) at (at + 8)) ⌝ }
+// The sixteen bytes at `at` are 20 (hex) or more. A fixed count of tests with no branch between them is done at once by the processor.
+fn none_below_space(s: &[u8], at: usize) -> bool
+    requires { ⌜ at + 16 ≤ length (now s) ⌝ }
+    ensures { λ r. ⌜ r ≡ every (leb 0x20) (take 16 (drop at (now (s .entry)))) ⌝ }
 {
-    let low = is_plain(s[at]) & is_plain(s[at + 1]) & is_plain(s[at + 2]) & is_plain(s[at + 3]);
-    let high = is_plain(s[at + 4])
-        & is_plain(s[at + 5])
-        & is_plain(s[at + 6])
-        & is_plain(s[at + 7]);
-    low & high
+    let mut all = true;
+    let mut n = 0;
+    while n < 16 {
+        all &= 0x20 <= s[at + n];
+        n += 1;
+    }
+    all
 }
 
-// Where the whole blocks of eight plain bytes from `at` on end.
-fn plain_run(s: &[u8], at: usize) -> usize
+// None of the sixteen bytes at `at` is m.
+fn none_is(s: &[u8], at: usize, m: u8) -> bool
+    requires { ⌜ at + 16 ≤ length (now s) ⌝ }
+    ensures { λ r. ⌜ r ≡ every (isNot m) (take 16 (drop at (now (s .entry)))) ⌝ }
+{
+    let mut all = true;
+    let mut n = 0;
+    while n < 16 {
+        all &= s[at + n] != m;
+        n += 1;
+    }
+    all
+}
+
+// The sixteen bytes at `at` are plain.
+fn plain16(s: &[u8], at: usize) -> bool
+    requires { ⌜ at + 16 ≤ length (now s) ⌝ }
+    ensures { λ r. ⌜ r ≡ every isPlain (take 16 (drop at (now (s .entry)))) ⌝ }
+{
+    none_below_space(s, at) & none_is(s, at, 0x22) & none_is(s, at, 0x5C) & none_is(s, at, 0x7F)
+}
+
+// Where the plain bytes from `at` on end, one byte at a time.
+fn plain_tail(s: &[u8], at: usize) -> usize
     requires { ⌜ at ≤ length (now s) ⌝ }
-    ensures { λ r. ⌜ Plain (now (s .entry)) at r ⌝ }
+    ensures { λ r. ⌜ r ≡ at + plainLength (drop at (now (s .entry))) ⌝ }
 {
     let mut i = at;
-    while 8 <= s.len() - i {
-        if !plain8(s, i) {
+    while i < s.len() {
+        if !is_plain(s[i]) {
             return i;
         }
-        i += 8;
+        i += 1;
     }
     i
 }
 
-// Where plain bytes are passed to, after `size` bytes of a string and one more. A run is tried only after the second byte and at
-// every eighth from there, so that short strings and escapes do not pay for it.
-fn plain_end(s: &[u8], at: usize, size: usize) -> usize
+// Where the plain bytes from `at` on end, sixteen bytes at a time while that many are left.
+pub fn plain_end(s: &[u8], at: usize) -> usize
     requires { ⌜ at ≤ length (now s) ⌝ }
-    ensures { λ r. ⌜ Plain (now (s .entry)) at r ⌝ }
+    ensures { λ r. ⌜ r ≡ at + plainLength (drop at (now (s .entry))) ⌝ }
 {
-    if size % 8 == 1 {
-        return plain_run(s, at);
+    let mut i = at;
+    while 16 <= s.len() - i {
+        if !plain16(s, i) {
+            return plain_tail(s, i);
+        }
+        i += 16;
     }
-    at
+    plain_tail(s, i)
 }
 
 // The chars of a string and its closing quotation mark.
@@ -243,7 +270,7 @@ pub fn chars(s: &[u8], at: usize) -> Scan
         } else {
             refused |= b == 0x7F;
             let next = i + 1;
-            i = plain_end(s, next, size);
+            i = plain_end(s, next);
             size += 1 + (i - next);
         }
     }

@@ -1,4 +1,5 @@
 pub mod Keys
+pub mod Members
 pub mod Merges
 pub mod Sorts
 pub mod Halves

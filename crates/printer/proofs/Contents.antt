@@ -3,17 +3,20 @@ use Prim.Native.Nat.{ℕ, _+_, _-_, _≤_, _<_}
 use mathlib.Core.Path.{_≡_, refl, sym, ap, subst, _∙_}
 use mathlib.Core.List.{List, [], _∷_, _++_, append-assoc, append-nil}
 use native.Mathlib.Omega.{arith}
-use lib.ListN.{length, getD, set, length-append}
+use lib.ListN.{length, take, drop, getD, set, length-append, length-drop}
+use lib.Seq.{length-take-le}
 use borrow.Rule.Slice.PartMut.{midOf, putMid}
 use Rattle.utf8.specs.Scalar.{encode}
 use Rattle.json.specs.Content.{escaped, quoted}
+use Rattle.json.specs.Measure.{plainLength}
 use Rattle.strings.specs.InString.{InString, Inside, Escapes, EscapeAt, contentFrom}
 use Rattle.strings.proofs.Contents.{inside-content}
-use Rattle.strings.proofs.Cursors.{closes, plain}
+use Rattle.strings.proofs.Cursors.{closes}
 use Rattle.strings.proofs.Orders.{inside-within}
 use Rattle.printer.specs.Writes.{Writes}
 use Rattle.printer.proofs.Written.{nothing-written, same-length, lent-length, byte-written, part-written}
-use Rattle.printer.proofs.Escaped.{escaped-plain, escaped-append}
+use Rattle.printer.proofs.Runs.{Run, runs-after}
+use Rattle.printer.proofs.Escaped.{escaped-append}
 
 -- Of the content from position i on, n bytes of its canonical form are written, and position k is where the rest of it begins.
 pub record Progress (s : List ℕ) (i : ℕ) (before out : List ℕ) (k n : ℕ) : Type 0 where
@@ -56,18 +59,39 @@ module _ {s : List ℕ} {i : ℕ} {before out : List ℕ} {k n : ℕ} (p : Progr
         whole : p .done ≡ escaped (contentFrom s i)
         whole = sym (append-nil (p .done)) ∙ ap (λ (l : List ℕ). p .done ++ escaped l) (sym (closes s k (p .left) (p .inside) e)) ∙ p .joins
 
-    -- a byte that stands for itself
-    pub after-byte : (getD s k 0 ≡ 0x22 → ⊥) → (getD s k 0 ≡ 0x5C → ⊥) → Progress s i before (set out n (getD s k 0)) (k + 1) (n + 1)
-    after-byte a b =
-        let r = plain s k (p .left) (p .inside) a b in
-        record {
-          done = p .done ++ (getD s k 0 ∷ []);
-          left = r .0;
-          inside = r .2;
-          joins = append-assoc (p .done) (getD s k 0 ∷ []) (escaped (r .0)) ∙ ap (λ (l : List ℕ). p .done ++ l) (sym (ap escaped (r .1) ∙ escaped-plain (getD s k 0) (r .0) a b)) ∙ p .joins;
-          size = omega (arith, p .size, length-append (p .done) (getD s k 0 ∷ []));
-          written = byte-written (p .written) n (getD s k 0) (p .size) room;
-        }
+    -- a byte that is none of the marks, and the plain bytes after it
+    module _ (a : getD s k 0 ≡ 0x22 → ⊥) (b : getD s k 0 ≡ 0x5C → ⊥) (e : ℕ) (f : e ≡ k + 1 + plainLength (drop (k + 1) s)) where
+      run : Run s k (e - k) (p .left)
+      run =
+          let q : e - (k + 1) + 1 ≡ e - k = omega arith in
+          rw q at (runs-after s k (e - (k + 1)) (p .left) (p .inside) within a b (omega arith))
+
+      pub run-within : e < length s
+      run-within =
+          let q : k + (e - k) ≡ e = omega arith in
+          rw q at (inside-within s (k + (e - k)) (record { bytes = run .left; here = run .inside }))
+
+      run-length : length (take (e - k) (drop k s)) ≡ e - k
+      run-length = length-take-le (e - k) (drop k s) (omega (arith, run-within, length-drop k s))
+
+      pub run-room : n + (e - k) < length before
+      run-room = omega (arith, total, run-length, ap length (run .joins), length-append (take (e - k) (drop k s)) (escaped (run .left)))
+
+      pub run-fits : e - k ≤ length (midOf n (length out - n) out)
+      run-fits = omega (arith, run-room, lent-length (p .written) n (p .size))
+
+      pub after-run : (m : ℕ) (part : List ℕ) → m ≡ e - k → Writes (midOf n (length out - n) out) part (take (e - k) (drop k s))
+          → Progress s i before (putMid n (length out - n) out part) e (n + m)
+      after-run m part g w =
+          let q : k + (e - k) ≡ e = omega arith in
+          record {
+            done = p .done ++ take (e - k) (drop k s);
+            left = run .left;
+            inside = rw q at (run .inside);
+            joins = append-assoc (p .done) (take (e - k) (drop k s)) (escaped (run .left)) ∙ ap (λ (l : List ℕ). p .done ++ l) (sym (run .joins)) ∙ p .joins;
+            size = omega (arith, p .size, run-length, length-append (p .done) (take (e - k) (drop k s)));
+            written = part-written (p .written) n part (take (e - k) (drop k s)) (p .size) w;
+          }
 
     -- an escape
     module _ (next scalar : ℕ) (e : Escapes s k next scalar) where

@@ -1,3 +1,4 @@
 pub mod Contents
 pub mod Escaped
+pub mod Runs
 pub mod Written

@@ -52,8 +52,8 @@ fn write_char(c: u32, out: &mut [u8]) -> usize
     copy(&bytes, 0, len, out)
 }
 
-// The string whose content goes on at i, in canonical form from there to its closing mark. A byte of the text that begins no
-// escape stands for itself, and is no byte that has to be escaped.
+// The string whose content goes on at i, in canonical form from there to its closing mark. A byte of the text that begins no escape
+// stands for itself, and is no byte that has to be escaped; it is copied with the plain bytes after it.
 fn write_content(s: &[u8], i: usize, out: &mut [u8]) -> usize
     requires { ⌜ Inside (now s) i × (length (escaped (contentFrom (now s) i)) + 1 ≤ length (now out)) ⌝ }
     ensures { λ r. ⌜ (r ≡ length (escaped (contentFrom (now (s .entry)) i)) + 1) × Writes (now (out .entry)) (now (out .exit)) (escaped (contentFrom (now (s .entry)) i) ++ (0x22 ∷ [])) ⌝ }
@@ -73,9 +73,9 @@ fn write_content(s: &[u8], i: usize, out: &mut [u8]) -> usize
             k = e.next;
             continue;
         }
-        out[n] = b;
-        n += 1;
-        k += 1;
+        let end = json::string::plain_end(s, k + 1);
+        n += copy(s, k, end, &mut out[n..]);
+        k = end;
     }
 }
 

@@ -148,7 +148,7 @@ module _ (s : List ℕ) (at depth : ℕ) where
       now-holds : plus sum (f .sum) ≡ arraySum (p .done ++ (q .tree ∷ []))
       now-holds = ap (λ (x : Summary). plus x (f .sum)) (p .holds) ∙ ap (plus (arraySum (p .done))) (q .sum) ∙ sum-snoc (p .done) (q .tree)
 
-      pub ends : (e : ℕ) → Follows s (f .end) 0x5D (After.End e) → Scans s (readArray depth (drop at s)) (Value (record { end = e; sum = plus sum (f .sum) }))
+      pub ends : (e : ℕ) → Follows s (f .end) 0x5D (After.End e) → Scans s (readArray depth (drop at s)) (Value (record { end = e; count = 0; sum = plus sum (f .sum) }))
       unfolding readArray andThen
       ends e w =
           rw (item-ends (read depth) 0x5D (read-shorter depth) (read-nothing depth) s i (p .done) (readListed (read depth) 0x5D (drop at s)) (p .reads) (q .tree) (f .end) (q .reads) e w)

@@ -23,7 +23,8 @@ use Rattle.content.specs.Value.{content}
 use Rattle.content.specs.Canonical.{canonical}
 use Rattle.content.specs.Fault.{mark, repeated, stringFault, keyStringFaults, numberFault, memberNumberFaults, keyFault, memberKeyFaults}
 use Rattle.content.proofs.Size.{sizeOf, sizeOfMembers, enclosed, size-canonical, size-empty, size-enclosed, size-members-append}
-use Rattle.strings.specs.InString.{Inside, InString, contentFrom}
+use Rattle.laws.specs.Sort.{sort}
+use Rattle.strings.specs.InString.{Inside, InString, contentFrom, keyLe}
 use Rattle.strings.proofs.Contents.{content-from}
 use Rattle.strings.proofs.Views.{rest-at}
 use Rattle.keys.specs.Keys.{KeysAt, no-keys, key-at}
@@ -31,7 +32,7 @@ use Rattle.keys.specs.Repeats.{Places, no-places, place-at, repeatLeft}
 use Rattle.keys.proofs.Keys.{keys-append}
 use Rattle.keys.proofs.Repeats.{repeated-places}
 use Rattle.scan.specs.Summary.{summary, plus, memberSummary}
-use Rattle.scan.specs.Scanned.{Scans, Follows, Room, KeyWithin, readKey, readObject, plainValue, closedValue}
+use Rattle.scan.specs.Scanned.{Scans, Follows, Room, KeyWithin, readKey, readObject, plainValue, closedValue, KeysOf}
 use Rattle.scan.specs.declared.Summary.{Summary}
 use Rattle.scan.specs.declared.Found.{Found}
 use Rattle.scan.specs.declared.After.{After}
@@ -39,6 +40,7 @@ use Rattle.scan.specs.declared.Scanned.{Scanned}
 use Rattle.scan.specs.declared.Scanned.the-variants.{Value, Stuck}
 use Rattle.scan.proofs.Progress.{IsValue, scans-stuck, value-later, value-size, listed-empty, listed-items, item-stuck, item-ends, item-sticks, item-more}
 use Rattle.scan.proofs.Tokens.{mark-at}
+use Rattle.scan.proofs.Keys.{keys-of, no-keys-left}
 
 -- the faults and the length of the members so far, with the object's opening mark; equal keys are found at its end
 pub objectSum : List Member → Summary
@@ -215,9 +217,16 @@ places-snoc s m k no-places e f = place-at e f no-places
 places-snoc s m k (place-at a b p) e f = place-at a b (places-snoc s m k p e f)
 
 module _ (s : List ℕ) (at depth : ℕ) where
+  nothing : (i : ℕ) → (at ≤ i) × At s i (spaces (drop at s)) → i < length s → getD s i 0 ≡ 0x7D → readObject depth (drop at s) ≡ found (object (members [])) (drop (i + 1) s)
+  unfolding readObject andThen
+  nothing i p w e = rw (listed-empty (readPair (read depth)) 0x7D s at i (p .1) w e)
+
   pub empty : (i : ℕ) → (at ≤ i) × At s i (spaces (drop at s)) → i < length s → getD s i 0 ≡ 0x7D → Scans s (readObject depth (drop at s)) (plainValue (i + 1) 2)
-  unfolding readObject andThen members
-  empty i p w e = rw (listed-empty (readPair (read depth)) 0x7D s at i (p .1) w e) ((omega arith, refl), sym sum-empty)
+  unfolding members
+  empty i p w e = rw (nothing i p w e) ((omega arith, refl), sym sum-empty)
+
+  pub empty-keys : (i : ℕ) → (at ≤ i) × At s i (spaces (drop at s)) → i < length s → getD s i 0 ≡ 0x7D → (keys : List ℕ) → KeysOf s (readObject depth (drop at s)) 0 keys
+  empty-keys i p w e keys = keys-of s (readObject depth (drop at s)) [] (drop (i + 1) s) 0 keys (nothing i p w e) (no-keys-left s keys)
 
   pub start : (i : ℕ) → (at ≤ i) × At s i (spaces (drop at s)) → (i < length s → getD s i 0 ≡ 0x7D → ⊥)
       → Progress s at depth i [] (record { string = 0; number = 0; key = 0; size = 1 })
@@ -292,12 +301,14 @@ module _ (s : List ℕ) (at depth : ℕ) where
         unfolding tree
         now-places = places-snoc s tree i (p .places) refl (sym (content-from s (i + 1) (unescape (q .chars)) (name-inside s i v fault size q)))
 
-        pub ends : (e : ℕ) → Follows s (f .end) 0x7D (After.End e)
-            → Scans s (readObject depth (drop at s)) (closedValue e (plus sum (memberSummary fault size (f .sum))) (repeatLeft s (ks ++ (i ∷ []))))
+        whole-reads : (e : ℕ) → Follows s (f .end) 0x7D (After.End e) → readObject depth (drop at s) ≡ found (object (members (p .done ++ (tree ∷ [])))) (drop e s)
         unfolding readObject andThen
-        ends e w =
+        whole-reads e w =
             rw (item-ends (readPair (read depth)) 0x7D (pair-shorter depth) (pair-nothing depth) s i (p .done) (readListed (readPair (read depth)) 0x7D (drop at s)) (p .reads) tree (f .end) pair-reads e w)
-            ((w .1, refl), closing)
+
+        pub ends : (e n : ℕ) → Follows s (f .end) 0x7D (After.End e)
+            → Scans s (readObject depth (drop at s)) (closedValue e n (plus sum (memberSummary fault size (f .sum))) (repeatLeft s (ks ++ (i ∷ []))))
+        ends e n w = rw (whole-reads e w) ((w .1, refl), closing)
           where
             whole : Summary → ℕ → Summary
             whole x k = record { string = x .string; number = x .number; key = max k (x .key); size = x .size }
@@ -307,6 +318,13 @@ module _ (s : List ℕ) (at depth : ℕ) where
                 ap (λ (x : Summary). whole x (repeatLeft s (ks ++ (i ∷ [])))) now-holds
                 ∙ ap (whole (objectSum (p .done ++ (tree ∷ [])))) (sym (repeated-places s now-places))
                 ∙ sum-object (p .done ++ (tree ∷ [])) (omega (arith, length-append (p .done) (tree ∷ [])))
+
+        -- its keys, once they are sorted
+        pub ends-keys : (e : ℕ) → Follows s (f .end) 0x7D (After.End e)
+            → (n : ℕ) (keys : List ℕ) → n ≤ length keys → take n keys ≡ sort (keyLe s) (ks ++ (i ∷ [])) → KeysOf s (readObject depth (drop at s)) n keys
+        ends-keys e w n keys h k =
+            keys-of s (readObject depth (drop at s)) (p .done ++ (tree ∷ [])) (drop e s) n keys (whole-reads e w)
+            (record { places = ks ++ (i ∷ []); here = now-places; within = h; sorted = k })
 
         pub sticks : (e : ℕ) → Follows s (f .end) 0x7D (After.Stuck e) → Scans s (readObject depth (drop at s)) (Stuck e)
         unfolding readObject andThen
@@ -347,7 +365,7 @@ unfolding memberSummary
 member-size fault size v x e = ap (λ (y : Summary). y .size) e
 
 -- an object's end and what it holds, by equal parts
-pub closed-same : (s : List ℕ) (r : Read Syntax) (e : ℕ) (x m n sum : Summary) (ks ls : List ℕ) (z : Scanned) → z ≡ closedValue e x (repeatLeft s ks) → x ≡ plus sum m → m ≡ n → ks ≡ ls
-    → Scans s r (closedValue e (plus sum n) (repeatLeft s ls)) → Scans s r z
-closed-same s r e x m n sum ks ls z a b c d p =
-    subst (Scans s r) (sym (a ∙ ap (λ (w : Summary). closedValue e w (repeatLeft s ks)) (b ∙ ap (plus sum) c) ∙ ap (λ (l : List ℕ). closedValue e (plus sum n) (repeatLeft s l)) d)) p
+pub closed-same : (s : List ℕ) (r : Read Syntax) (e k : ℕ) (x m n sum : Summary) (ks ls : List ℕ) (z : Scanned) → z ≡ closedValue e k x (repeatLeft s ks) → x ≡ plus sum m → m ≡ n → ks ≡ ls
+    → Scans s r (closedValue e k (plus sum n) (repeatLeft s ls)) → Scans s r z
+closed-same s r e k x m n sum ks ls z a b c d p =
+    subst (Scans s r) (sym (a ∙ ap (λ (w : Summary). closedValue e k w (repeatLeft s ks)) (b ∙ ap (plus sum) c) ∙ ap (λ (l : List ℕ). closedValue e k (plus sum n) (repeatLeft s l)) d)) p

@@ -37,7 +37,7 @@ module _ (s : List ℕ) (at : ℕ) where
   pub string-token : (x : Read (List Char)) (e n k : ℕ) (f : Bool) → k ≡ cond f (length s - at) 0
       → TokenScans refusedString stringSize s x (Token e f n)
       → Scans s (andThen x (λ cs q. found (Syntax.string (drop at s) cs) q))
-      (Value (record { end = e; sum = record { string = k; number = 0; key = 0; size = n } }))
+      (Value (record { end = e; count = 0; sum = record { string = k; number = 0; key = 0; size = n } }))
   unfolding andThen summary stringFault numberFault keyFault content canonical sorted write stringSize
   string-token (found cs r) e n k f m p =
       (p .0, λ i. record { string = (m ∙ sym (mark-at f s at) ∙ ap (λ (b : Bool). mark b (drop at s)) (p .1)) i; number = 0; key = 0; size = (p .2) i })
@@ -52,7 +52,7 @@ module _ (s : List ℕ) (at : ℕ) where
   pub number-token : (x : Read Numeral) (e n k : ℕ) (f : Bool) → k ≡ cond f (length s - at) 0
       → TokenScans refusedNumber numeralSize s x (Token e f n)
       → Scans s (andThen x (λ m q. found (Syntax.number (drop at s) m) q))
-      (Value (record { end = e; sum = record { string = 0; number = k; key = 0; size = n } }))
+      (Value (record { end = e; count = 0; sum = record { string = 0; number = k; key = 0; size = n } }))
   unfolding andThen summary stringFault numberFault keyFault content canonical sorted write numeralSize
   number-token (found cs r) e n k f m p =
       (p .0, λ i. record { string = 0; number = (m ∙ sym (mark-at f s at) ∙ ap (λ (b : Bool). mark b (drop at s)) (p .1)) i; key = 0; size = (p .2) i })

@@ -30,12 +30,15 @@ unfolding read readNested
 of-scalar zero b q e f = refl
 of-scalar (suc d) b q e f = rw (ne-eqb b 0x5B e, readNested) (rw (ne-eqb b 0x7B f))
 
+pub read-object : (s : List ℕ) (at depth : ℕ) → at < length s → 0 < depth → getD s at 0 ≡ 0x7B → read depth (drop at s) ≡ readObject (depth - 1) (drop (at + 1) s)
+read-object s at depth w h e = rw (here s at w) (of-object depth (getD s at 0) (drop (at + 1) s) h e)
+
 module _ (s : List ℕ) (at depth : ℕ) (x : Scanned) where
   pub is-array : at < length s → 0 < depth → getD s at 0 ≡ 0x5B → Scans s (readArray (depth - 1) (drop (at + 1) s)) x → Scans s (read depth (drop at s)) x
   is-array w h e p = rw (here s at w, of-array depth (getD s at 0) (drop (at + 1) s) h e) p
 
   pub is-object : at < length s → 0 < depth → getD s at 0 ≡ 0x7B → Scans s (readObject (depth - 1) (drop (at + 1) s)) x → Scans s (read depth (drop at s)) x
-  is-object w h e p = rw (here s at w, of-object depth (getD s at 0) (drop (at + 1) s) h e) p
+  is-object w h e p = rw (read-object s at depth w h e) p
 
   module _ (p : Scans s (readScalar (drop at s)) x) where
     pub is-scalar : at < length s → (getD s at 0 ≡ 0x5B → ⊥) → (getD s at 0 ≡ 0x7B → ⊥) → Scans s (read depth (drop at s)) x
@@ -63,6 +66,6 @@ module _ (s : List ℕ) (at : ℕ) (p : At s at (spaces s)) where
     unfolding readText andThen atEnd
     text-junk h = rw (p .1, q .reads, w .1, here s end h) (w .0, sym (here s end h))
 
-    pub text-whole : length s ≤ end → Scans s (readText 8 s) (Value (record { end = end; sum = f .sum }))
+    pub text-whole : (n : ℕ) → length s ≤ end → Scans s (readText 8 s) (Value (record { end = end; count = n; sum = f .sum }))
     unfolding readText andThen atEnd
-    text-whole h = rw (p .1, q .reads, w .1, drop-of-length-le s {i = end} h) ((w .0, sym (drop-of-length-le s {i = end} h)), q .sum)
+    text-whole n h = rw (p .1, q .reads, w .1, drop-of-length-le s {i = end} h) ((w .0, sym (drop-of-length-le s {i = end} h)), q .sum)

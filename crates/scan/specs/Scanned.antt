@@ -3,15 +3,18 @@ use Prim.Native.Nat.{ℕ, _+_, _*_, _<_, _≤_, max}
 use mathlib.Core.Path.{_≡_}
 use mathlib.Core.List.{List, [], _∷_}
 use mathlib.Core.Bool.{false}
-use lib.ListN.{length, drop}
+use lib.ListN.{length, take, drop}
 use lib.Dec.{eqb}
-use Rattle.json.specs.Syntax.{Syntax, Char, array, object, elements, members}
+use Rattle.laws.specs.Sort.{sort}
+use Rattle.json.specs.Syntax.{Syntax, Char, Member, array, object, elements, members}
 use Rattle.json.specs.Read.{Read, found, stuck, andThen, spaces, readWord, readString, readListed, readPair, read}
 use Rattle.json.specs.declared.Scan.{Scan}
 use Rattle.json.specs.declared.Scan.the-variants.{Token, NoToken}
 use Rattle.json.specs.declared.Step.{Step}
 use Rattle.json.specs.declared.Step.the-variants.{End}
 use Rattle.json.specs.Scan.{At}
+use Rattle.strings.specs.InString.{keyLe}
+use Rattle.keys.specs.Repeats.{Places}
 use Rattle.scan.specs.Summary.{summary}
 use Rattle.scan.specs.declared.After.{After}
 use Rattle.scan.specs.declared.Summary.{Summary}
@@ -30,14 +33,31 @@ Scans s (found t r) (Stuck e) = ⊥
 Scans s (stuck r) (Value f) = ⊥
 Scans s (stuck r) (Stuck e) = At s e r
 
+-- The first n keys are those of an object with the members ms, sorted by their contents: a key is given by its place, and before
+-- the sorting they stood in the order of the text.
+pub record SortedKeys (s : List ℕ) (ms : List Member) (n : ℕ) (keys : List ℕ) : Type 0 where
+  pub places : List ℕ
+  pub here : Places s ms places
+  pub within : n ≤ length keys
+  pub sorted : take n keys ≡ sort (keyLe s) places
+
+-- if an object is read, then n keys are left that are its own, sorted
+abbrev pub KeysOf : List ℕ → Read Syntax → ℕ → List ℕ → Type 0
+KeysOf s x n keys = (ms : List Member) (r : List ℕ) → x ≡ found (object (members ms)) r → SortedKeys s ms n keys
+
+-- the same of an answer, which tells the number of the keys
+abbrev pub LeavesKeys : List ℕ → Read Syntax → List ℕ → Scanned → Type 0
+LeavesKeys s x keys (Value f) = KeysOf s x (f .count) keys
+LeavesKeys s x keys (Stuck e) = Unit {0}
+
 -- a value that is no fault and whose canonical form has that length
 abbrev pub plainValue : ℕ → ℕ → Scanned
-plainValue e n = Value (record { end = e; sum = record { string = 0; number = 0; key = 0; size = n } })
+plainValue e n = Value (record { end = e; count = 0; sum = record { string = 0; number = 0; key = 0; size = n } })
 
--- an object that ends there, where the first key that is equal to an earlier one of it has so many bytes left
-abbrev pub closedValue : ℕ → Summary → ℕ → Scanned
-closedValue e v repeated =
-    Value (record { end = e; sum = record { string = v .string; number = v .number; key = max repeated (v .key); size = v .size } })
+-- an object that ends there and has n keys, where the first key that is equal to an earlier one of it has so many bytes left
+abbrev pub closedValue : ℕ → ℕ → Summary → ℕ → Scanned
+closedValue e n v repeated =
+    Value (record { end = e; count = n; sum = record { string = v .string; number = v .number; key = max repeated (v .key); size = v .size } })
 
 -- the answer for a literal name whose letters were stepped over
 abbrev pub literalAnswer : Step → ℕ → Scanned

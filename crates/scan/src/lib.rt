@@ -8,10 +8,12 @@ ghost use Rattle.json.specs.Read.{found, andThen, read, readText, readScalar, r
 ghost use Rattle.json.specs.Content.{refusedString};
 ghost use Rattle.json.specs.Size.{stringSize};
 ghost use Rattle.json.specs.Scan.{Scans as TokenScans};
+ghost use Rattle.laws.specs.Sort.{sort};
+ghost use Rattle.strings.specs.InString.{keyLe};
 ghost use Rattle.keys.specs.Keys.{KeysAt};
 ghost use Rattle.keys.specs.Repeats.{repeatLeft};
 ghost use Rattle.scan.specs.Summary.{plus, memberSummary};
-ghost use Rattle.scan.specs.Scanned.{Scans, Room, Follows, plainValue, closedValue, readArray, readObject, literalAnswer, readKey, KeyWithin};
+ghost use Rattle.scan.specs.Scanned.{Scans, Room, Follows, plainValue, closedValue, LeavesKeys, readArray, readObject, literalAnswer, readKey, KeyWithin};
 
 // The first faults of a part of the text by questions 4, 5 and 6, each by the bytes left from there on (0: none), and the length
 // of its canonical form.
@@ -22,9 +24,10 @@ pub struct Summary {
     pub size: usize,
 }
 
-// A value that was read: the position after it, and what it holds.
+// A value that was read: the position after it, how many keys it has itself (0 where it is no object), and what it holds.
 pub struct Found {
     pub end: usize,
+    pub count: usize,
     pub sum: Summary,
 }
 
@@ -61,6 +64,7 @@ fn plain(end: usize, size: usize) -> Scanned
 {
     Scanned::Value(Found {
         end,
+        count: 0,
         sum: Summary {
             string: 0,
             number: 0,
@@ -111,6 +115,7 @@ fn string(s: &[u8], at: usize) -> Scanned
     match json::string::string(s, at) {
         json::Scan::Token { end, refused, size } => Scanned::Value(Found {
             end,
+            count: 0,
             sum: Summary {
                 string: mark(refused, s.len(), at),
                 number: 0,
@@ -129,6 +134,7 @@ fn number(s: &[u8], at: usize) -> Scanned
     match json::number::number(s, at) {
         json::Scan::Token { end, refused, size } => Scanned::Value(Found {
             end,
+            count: 0,
             sum: Summary {
                 string: 0,
                 number: mark(refused, s.len(), at),
@@ -245,7 +251,7 @@ fn array(s: &[u8], at: usize, depth: usize, keys: &mut [u16], spare: &mut [u16])
         sum = added(sum, part);
         match after_item(s, v.end, b']') {
             After::End(end) => {
-                return Scanned::Value(Found { end, sum });
+                return Scanned::Value(Found { end, count: 0, sum });
             }
             After::More(j) => i = j,
             After::Stuck(e) => return Scanned::Stuck(e),
@@ -274,15 +280,17 @@ fn member(name: Name, value: Summary) -> Summary
     }
 }
 
-// The end of an object with these keys: the first that is equal to an earlier one is a fault of it.
+// The end of an object with these keys: the first that is equal to an earlier one is a fault of it. The keys are left sorted.
 fn closed(s: &[u8], end: usize, sum: Summary, keys: &mut [u16], spare: &mut [u16]) -> Scanned
     requires { ⌜ KeysAt (now s) (now keys) × (length (now keys) ≤ length (now spare)) ⌝ }
-    ensures { λ r. ⌜ r ≡ closedValue end sum (repeatLeft (now (s .entry)) (now (keys .entry))) ⌝ }
+    ensures { λ r. ⌜ r ≡ closedValue end (length (now (keys .entry))) sum (repeatLeft (now (s .entry)) (now (keys .entry))) ⌝ }
+    ensures { λ _. ⌜ now (keys .exit) ≡ sort (keyLe (now (s .entry))) (now (keys .entry)) ⌝ }
 {
     let repeated = keys::order_keys(s, keys, spare);
     let key = larger(repeated, sum.key);
     Scanned::Value(Found {
         end,
+        count: keys.len(),
         sum: Summary {
             string: sum.string,
             number: sum.number,
@@ -293,11 +301,12 @@ fn closed(s: &[u8], end: usize, sum: Summary, keys: &mut [u16], spare: &mut [u16
 }
 
 // What follows the opening mark of an object. A member's key is kept as its position, in the part of `keys` before the one that is
-// lent to the reading of its value.
+// lent to the reading of its value. At the object's end its keys are left sorted.
 fn object(s: &[u8], at: usize, depth: usize, keys: &mut [u16], spare: &mut [u16]) -> Scanned
     requires { ⌜ Room (now s) at (now keys) (now spare) ⌝ }
     requires { ⌜ length (now s) < at + 4 * length (now keys) ⌝ }
     ensures { λ r. ⌜ Scans (now (s .entry)) (readObject depth (drop at (now (s .entry)))) r ⌝ }
+    ensures { λ r. ⌜ LeavesKeys (now (s .entry)) (readObject depth (drop at (now (s .entry)))) (now (keys .exit)) r ⌝ }
 {
     let mut i = json::space::skip_spaces(s, at);
     if stands(s, i, b'}') {
@@ -334,15 +343,27 @@ fn object(s: &[u8], at: usize, depth: usize, keys: &mut [u16], spare: &mut [u16]
     }
 }
 
-// A whole text of at most 16,384 bytes: spaces, a value nested at most 8 deep, and spaces.
-pub fn text(s: &[u8]) -> Scanned
-    requires { ⌜ length (now s) ≤ 16384 ⌝ }
-    ensures { λ r. ⌜ Scans (now (s .entry)) (readText 8 (now (s .entry))) r ⌝ }
+// The value of a whole text. An object is read here, not by `value`, which says nothing of the keys that it leaves.
+fn root(s: &[u8], at: usize, keys: &mut [u16], spare: &mut [u16]) -> Scanned
+    requires { ⌜ Room (now s) at (now keys) (now spare) ⌝ }
+    ensures { λ r. ⌜ Scans (now (s .entry)) (read 8 (drop at (now (s .entry)))) r ⌝ }
+    ensures { λ r. ⌜ LeavesKeys (now (s .entry)) (read 8 (drop at (now (s .entry)))) (now (keys .exit)) r ⌝ }
 {
-    let mut keys = [0u16; 4096];
-    let mut spare = [0u16; 4096];
+    if stands(s, at, b'{') {
+        return object(s, at + 1, 7, keys, spare);
+    }
+    value(s, at, 8, keys, spare)
+}
+
+// A whole text of at most 16,384 bytes: spaces, a value nested at most 8 deep, and spaces. `keys` and `spare` hold the keys of its
+// objects while they are read. Where the value is an object, its own keys are left at the start of `keys`, sorted.
+pub fn text(s: &[u8], keys: &mut [u16], spare: &mut [u16]) -> Scanned
+    requires { ⌜ Room (now s) 0 (now keys) (now spare) ⌝ }
+    ensures { λ r. ⌜ Scans (now (s .entry)) (readText 8 (now (s .entry))) r ⌝ }
+    ensures { λ r. ⌜ LeavesKeys (now (s .entry)) (readText 8 (now (s .entry))) (now (keys .exit)) r ⌝ }
+{
     let at = json::space::skip_spaces(s, 0);
-    let v = match value(s, at, 8, &mut keys, &mut spare) {
+    let v = match root(s, at, keys, spare) {
         Scanned::Value(f) => f,
         Scanned::Stuck(e) => return Scanned::Stuck(e),
     };
@@ -350,6 +371,7 @@ pub fn text(s: &[u8]) -> Scanned
     if end < s.len() {
         return Scanned::Stuck(end);
     }
+    let count = v.count;
     let sum = v.sum;
-    Scanned::Value(Found { end, sum })
+    Scanned::Value(Found { end, count, sum })
 }

@@ -29,54 +29,55 @@ stuck-at s x e p =
     let m : e ≡ length s - length (drop e s) = omega (arith, length-drop e s) in
     ap (Refused 3) m ∙ sym (ap (byTree (length s)) (p .1))
 
-module _ (s : List ℕ) (x : Read Syntax) (f : Found) (p : IsValue s x f) (n : ℕ) where
-  string-of : f .sum .string ≡ stringFault (p .tree)
+-- what the scan found is the summary of the tree t
+module _ (sum : Summary) (t : Syntax) (p : sum ≡ summary t) (n : ℕ) where
+  string-of : sum .string ≡ stringFault t
   unfolding summary
-  string-of = ap (λ (y : Summary). y .string) (p .sum)
+  string-of = ap (λ (y : Summary). y .string) p
 
-  number-of : f .sum .number ≡ numberFault (p .tree)
+  number-of : sum .number ≡ numberFault t
   unfolding summary
-  number-of = ap (λ (y : Summary). y .number) (p .sum)
+  number-of = ap (λ (y : Summary). y .number) p
 
-  key-of : f .sum .key ≡ keyFault (p .tree)
+  key-of : sum .key ≡ keyFault t
   unfolding summary
-  key-of = ap (λ (y : Summary). y .key) (p .sum)
+  key-of = ap (λ (y : Summary). y .key) p
 
-  by-tree : byTree n x ≡ byFaults n (p .tree)
-  unfolding byTree
-  by-tree = ap (byTree n) (p .reads)
-
-  pub bad-string : (k : ℕ) → k ≡ n - f .sum .string → 0 < f .sum .string → Refused 4 k ≡ byTree n x
+  pub bad-string : (k : ℕ) → k ≡ n - sum .string → 0 < sum .string → Refused 4 k ≡ byFaults n t
   unfolding byFaults
   bad-string k e h =
-      let a : ltb 0 (stringFault (p .tree)) ≡ true = lt-ltb 0 _ (rw string-of at h) in
-      sym (by-tree ∙ rw (a, byFaults) (ap (Refused 4) (sym (e ∙ ap (λ (m : ℕ). n - m) string-of))))
+      let a : ltb 0 (stringFault t) ≡ true = lt-ltb 0 _ (rw string-of at h) in
+      sym (rw (a, byFaults) (ap (Refused 4) (sym (e ∙ ap (λ (m : ℕ). n - m) string-of))))
 
-  module _ (g : f .sum .string ≤ 0) where
-    no-string : ltb 0 (stringFault (p .tree)) ≡ false
+  module _ (g : sum .string ≤ 0) where
+    no-string : ltb 0 (stringFault t) ≡ false
     no-string = le-ltb 0 _ (rw string-of at g)
 
-    pub bad-number : (k : ℕ) → k ≡ n - f .sum .number → 0 < f .sum .number → Refused 5 k ≡ byTree n x
+    pub bad-number : (k : ℕ) → k ≡ n - sum .number → 0 < sum .number → Refused 5 k ≡ byFaults n t
     unfolding byFaults
     bad-number k e h =
-        let a : ltb 0 (numberFault (p .tree)) ≡ true = lt-ltb 0 _ (rw number-of at h) in
-        sym (by-tree ∙ rw (no-string, byFaults) (rw a (ap (Refused 5) (sym (e ∙ ap (λ (m : ℕ). n - m) number-of)))))
+        let a : ltb 0 (numberFault t) ≡ true = lt-ltb 0 _ (rw number-of at h) in
+        sym (rw (no-string, byFaults) (rw a (ap (Refused 5) (sym (e ∙ ap (λ (m : ℕ). n - m) number-of)))))
 
-    module _ (h : f .sum .number ≤ 0) where
-      no-number : ltb 0 (numberFault (p .tree)) ≡ false
+    module _ (h : sum .number ≤ 0) where
+      no-number : ltb 0 (numberFault t) ≡ false
       no-number = le-ltb 0 _ (rw number-of at h)
 
-      pub same-keys : (k : ℕ) → k ≡ n - f .sum .key → 0 < f .sum .key → Refused 6 k ≡ byTree n x
+      pub same-keys : (k : ℕ) → k ≡ n - sum .key → 0 < sum .key → Refused 6 k ≡ byFaults n t
       unfolding byFaults
       same-keys k e i =
-          let a : ltb 0 (keyFault (p .tree)) ≡ true = lt-ltb 0 _ (rw key-of at i) in
-          sym (by-tree ∙ rw (no-string, byFaults) (rw no-number (rw a (ap (Refused 6) (sym (e ∙ ap (λ (m : ℕ). n - m) key-of))))))
+          let a : ltb 0 (keyFault t) ≡ true = lt-ltb 0 _ (rw key-of at i) in
+          sym (rw (no-string, byFaults) (rw no-number (rw a (ap (Refused 6) (sym (e ∙ ap (λ (m : ℕ). n - m) key-of))))))
 
-      pub accepted : f .sum .key ≤ 0 → Accepted (f .sum .size) ≡ byTree n x
+      pub accepted : sum .key ≤ 0 → Accepted (sum .size) ≡ byFaults n t
       unfolding byFaults summary
       accepted i =
-          let a : ltb 0 (keyFault (p .tree)) ≡ false = le-ltb 0 _ (rw key-of at i) in
-          sym (by-tree ∙ rw (no-string, byFaults) (rw no-number (rw a (ap Accepted (sym (ap (λ (y : Summary). y .size) (p .sum)))))))
+          let a : ltb 0 (keyFault t) ≡ false = le-ltb 0 _ (rw key-of at i) in
+          sym (rw (no-string, byFaults) (rw no-number (rw a (ap Accepted (sym (ap (λ (y : Summary). y .size) p))))))
+
+pub by-tree : (s : List ℕ) (x : Read Syntax) (f : Found) (p : IsValue s x f) (n : ℕ) → byFaults n (p .tree) ≡ byTree n x
+unfolding byTree
+by-tree s x f p n = sym (ap (byTree n) (p .reads))
 
 -- the questions before those
 pub too-long : (s : List ℕ) → 16384 < length s → Refused 1 0 ≡ checked s

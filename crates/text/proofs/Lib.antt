@@ -1,6 +1,7 @@
 pub mod Checks
 pub mod Equal
 pub mod Forms
+pub mod Keys
 pub mod Numbers
 pub mod Outcome
 pub mod Taken

@@ -3,12 +3,14 @@ use scan::Scanned;
 use utf8::Verdict;
 ghost use mathlib.Core.Path.{_≡_};
 ghost use mathlib.Core.List.{_++_};
-ghost use Rattle.text.specs.Question.{textNumber};
+ghost use Rattle.text.specs.Keys.{KeyRoom, RootKeys, FormReady, refusedText};
 ghost use Rattle.text.specs.Answer.{checked, byTree, byFaults, form, canonicalNumber, canonicalLength, canonicalBytes, isCanonical};
 ghost use Rattle.laws.specs.Order.{same};
 ghost use Prim.Native.Nat.{_-_, _≤_};
 ghost use lib.ListN.{length, drop};
+ghost use Rattle.json.specs.Syntax.{Syntax};
 ghost use Rattle.json.specs.Read.{readText};
+ghost use Rattle.scan.specs.Summary.{summary};
 
 // A text that is taken, with the length of its canonical form; or document 01's number and the offset of the fault.
 pub enum Checked {
@@ -19,32 +21,70 @@ pub enum Checked {
 pub fn check(text: &[u8]) -> Checked
     ensures { λ r. ⌜ r ≡ checked (now (text .entry)) ⌝ }
 {
-    if 16384 < text.len() {
-        return Checked::Refused(1, 0);
-    }
-    match utf8::check(text) {
-        Verdict::WellFormed => check_json(text),
-        Verdict::Bad(at) => Checked::Refused(2, at),
+    let mut keys = [0u16; 4096];
+    let mut spare = [0u16; 4096];
+    let known = check_with(text, &mut keys, &mut spare);
+    known.answer
+}
+
+// What checking answers, and where the text is taken, how many keys its value has itself: they are left sorted.
+pub struct Known {
+    pub answer: Checked,
+    pub count: usize,
+}
+
+// A refusal leaves no keys.
+fn refusal(number: usize, at: usize) -> Known
+    ensures { λ r. ⌜ r ≡ refusedText number at ⌝ }
+{
+    Known {
+        answer: Checked::Refused(number, at),
+        count: 0,
     }
 }
 
-fn check_json(text: &[u8]) -> Checked
-    requires { ⌜ length (now text) ≤ 16384 ⌝ }
-    ensures { λ r. ⌜ r ≡ byTree (length (now (text .entry))) (readText 8 (now (text .entry))) ⌝ }
+// Checks a text with the arrays that it is lent for the keys of its objects, so that the writer gets the keys that are left in them.
+fn check_with(text: &[u8], keys: &mut [u16], spare: &mut [u16]) -> Known
+    requires { ⌜ KeyRoom (now keys) (now spare) ⌝ }
+    ensures { λ r. ⌜ r .answer ≡ checked (now (text .entry)) ⌝ }
+    ensures { λ r. ⌜ RootKeys (now (text .entry)) (r .answer) (r .count) (now (keys .exit)) ⌝ }
 {
-    let f = match scan::text(text) {
+    if 16384 < text.len() {
+        return refusal(1, 0);
+    }
+    match utf8::check(text) {
+        Verdict::WellFormed => check_json(text, keys, spare),
+        Verdict::Bad(at) => refusal(2, at),
+    }
+}
+
+fn check_json(text: &[u8], keys: &mut [u16], spare: &mut [u16]) -> Known
+    requires { ⌜ (length (now text) ≤ 16384) × KeyRoom (now keys) (now spare) ⌝ }
+    ensures { λ r. ⌜ r .answer ≡ byTree (length (now (text .entry))) (readText 8 (now (text .entry))) ⌝ }
+    ensures { λ r. ⌜ RootKeys (now (text .entry)) (r .answer) (r .count) (now (keys .exit)) ⌝ }
+{
+    let f = match scan::text(text, keys, spare) {
         Scanned::Value(f) => f,
-        Scanned::Stuck(at) => return Checked::Refused(3, at),
+        Scanned::Stuck(at) => return refusal(3, at),
     };
     let sum = f.sum;
+    let answer = by_faults(text.len(), sum);
+    let count = f.count;
+    Known { answer, count }
+}
+
+// The first fault of a text of that length, or the length of its canonical form.
+fn by_faults(len: usize, sum: scan::Summary) -> Checked
+    ensures { λ r. ⌜ ((t : Syntax) → sum ≡ summary t → r ≡ byFaults len t) ⌝ }
+{
     if 0 < sum.string {
-        return Checked::Refused(4, offset(text.len(), sum.string));
+        return Checked::Refused(4, offset(len, sum.string));
     }
     if 0 < sum.number {
-        return Checked::Refused(5, offset(text.len(), sum.number));
+        return Checked::Refused(5, offset(len, sum.number));
     }
     if 0 < sum.key {
-        return Checked::Refused(6, offset(text.len(), sum.key));
+        return Checked::Refused(6, offset(len, sum.key));
     }
     Checked::Accepted(sum.size)
 }
@@ -68,13 +108,17 @@ pub fn canonical(text: &[u8], out: &mut [u8]) -> Answer
     ensures { λ r. ⌜ r .length ≡ canonicalLength (now (text .entry)) (length (now (out .entry))) ⌝ }
     ensures { λ _. ⌜ now (out .exit) ≡ canonicalBytes (now (text .entry)) (now (out .entry)) ⌝ }
 {
-    match check(text) {
+    let mut keys = [0u16; 4096];
+    let mut spare = [0u16; 4096];
+    let known = check_with(text, &mut keys, &mut spare);
+    let answer = known.answer;
+    match answer {
         Checked::Refused(number, _) => refused(out, number),
         Checked::Accepted(size) => {
             if out.len() < size {
                 return refused(out, 20);
             }
-            write_form(text, out)
+            write_form(text, known.count, out, &mut keys, &mut spare)
         }
     }
 }
@@ -87,16 +131,20 @@ fn refused(out: &mut [u8], number: usize) -> Answer
     Answer { number, length: 0 }
 }
 
-// Writes the form of a text that is taken.
-fn write_form(text: &[u8], out: &mut [u8]) -> Answer
-    requires { ⌜ (textNumber (now text) ≡ 0) × (length (form (now text)) ≤ length (now out)) ⌝ }
+// Writes the form of a text that is taken, with the keys that checking it left.
+fn write_form(
+    text: &[u8],
+    count: usize,
+    out: &mut [u8],
+    keys: &mut [u16],
+    spare: &mut [u16],
+) -> Answer
+    requires { ⌜ FormReady (now text) count (now out) (now keys) (now spare) ⌝ }
     ensures { λ r. ⌜ (r .number ≡ 0) × (r .length ≡ length (form (now (text .entry)))) ⌝ }
     ensures { λ _. ⌜ now (out .exit) ≡ form (now (text .entry)) ++ drop (length (form (now (text .entry)))) (now (out .entry)) ⌝ }
 {
-    let mut keys = [0u16; 4096];
-    let mut spare = [0u16; 4096];
     let at = view::value::root(text);
-    let length = canonical::write_value(text, at, 8, out, &mut keys, &mut spare);
+    let length = canonical::write_root(text, at, count, out, keys, spare);
     Answer { number: 0, length }
 }
 

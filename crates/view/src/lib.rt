@@ -1,5 +1,7 @@
 // The values of a JSON text in place: a position stands for the value whose first byte it is, and a cursor for what is left of an
 // array or an object. The text was checked before; it need not be canonical.
+ghost use mathlib.Core.Path.{_≡_};
+ghost use Prim.Native.Nat.{_-_};
 ghost use Rattle.content.specs.Value.{Values, Fields, array, object};
 ghost use Rattle.view.specs.Place.{ValueAt};
 ghost use Rattle.view.specs.Cursor.{SomeArray, SomeElements, ElementsLeft, GivesElement, SomeObject, SomeMembers, MembersLeft, GivesMember};
@@ -39,6 +41,7 @@ impl Elements {
     pub fn new(s: &[u8], at: usize, depth: usize) -> Self
         requires { ⌜ SomeArray (now s) at depth ⌝ }
         ensures { λ r. ⌜ ((vs : Values) → ValueAt (now (s .entry)) at depth (array vs) → ElementsLeft (now (s .entry)) r vs) ⌝ }
+        ensures { λ r. ⌜ r .depth ≡ depth - 1 ⌝ }
     {
         Elements {
             at: at + 1,
@@ -83,6 +86,7 @@ impl Members {
     pub fn new(s: &[u8], at: usize, depth: usize) -> Self
         requires { ⌜ SomeObject (now s) at depth ⌝ }
         ensures { λ r. ⌜ ((fs : Fields) → ValueAt (now (s .entry)) at depth (object fs) → MembersLeft (now (s .entry)) r fs) ⌝ }
+        ensures { λ r. ⌜ r .depth ≡ depth - 1 ⌝ }
     {
         Members {
             at: at + 1,

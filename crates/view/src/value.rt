@@ -7,14 +7,17 @@ ghost use mathlib.Core.Bool.{Bool};
 ghost use Prim.Native.Nat.{ℕ};
 ghost use Rattle.json.specs.Syntax.{Syntax};
 ghost use Rattle.json.specs.Grammar.{Text};
+ghost use Rattle.json.specs.Read.{spaces};
+ghost use Rattle.json.specs.Scan.{At};
 ghost use Rattle.json.specs.Content.{decimal};
 ghost use Rattle.content.specs.Value.{Value, boolean as isBoolean, number, content};
 ghost use Rattle.view.specs.Place.{ValueAt, Readable, SomeValue, SomeBoolean, SmallNumber, kindOf, EndsAt, ScalarAt, endOf};
 ghost use Rattle.view.specs.Listed.{Tree, ListAt, SomeList, ListEndsAt, SomeItem, ItemValue, Gives, endMark};
 
-// The value of a whole text.
+// The value of a whole text: it stands after the first spaces.
 pub fn root(s: &[u8]) -> usize
     ensures { λ r. ⌜ ((depth : ℕ) (t : Syntax) → Text depth (now (s .entry)) t → ValueAt (now (s .entry)) r depth (content t)) ⌝ }
+    ensures { λ r. ⌜ At (now (s .entry)) r (spaces (now (s .entry))) ⌝ }
 {
     json::space::skip_spaces(s, 0)
 }

@@ -5,7 +5,7 @@ use Prim.Native.Nat.{_-_}
 use native.Mathlib.Omega.{arith}
 use lib.ListN.{length, length-set}
 use Rattle.printer.proofs.Written
-use Rattle.printer.proofs.Contents.{Progress, started, within, escape-here, byte-room, closed, after-byte, char-room, char-fits, after-escape}
+use Rattle.printer.proofs.Contents.{Progress, started, within, escape-here, byte-room, closed, run-within, run-room, run-fits, after-run, char-room, char-fits, after-escape}
 use Rattle.printer.proofs.write_content.Statement.{statement}
 use Rattle.printer.proofs.write_content.Tie as tie
 
@@ -72,20 +72,50 @@ loop-again c =
     let l = d .before .before .before .before in
     after-escape (l .loop .inv) (l .before .before .before .pre .1) _ _ (d .read-escape .ensures) _ _ (w .0) (w .1)
 
-slice-write-out-2 : tie.Need-slice-write-out-2 Inv-loop μ-loop
-slice-write-out-2 c = byte-room (c .before .before .before .loop .inv) (c .before .before .before .before .before .before .pre .1)
+add-plain-end : tie.Need-add-plain-end Inv-loop μ-loop
+add-plain-end c = omega (arith, within (c .before .before .before .loop .inv))
+
+plain-end-requires : tie.Need-plain-end-requires Inv-loop μ-loop
+plain-end-requires c κs = omega (arith, within (c .before .before .before .loop .inv))
+
+sub-copy : tie.Need-sub-copy Inv-loop μ-loop
+sub-copy c = let l = c .before .before .before .before in omega (arith, byte-room (l .loop .inv) (l .before .before .before .pre .1))
+
+part-copy-start : tie.Need-part-copy-start Inv-loop μ-loop
+part-copy-start c = let l = c .before .before .before .before in omega (arith, byte-room (l .loop .inv) (l .before .before .before .pre .1))
+
+part-copy-end : tie.Need-part-copy-end Inv-loop μ-loop
+part-copy-end c = search needs
+
+copy-requires : tie.Need-copy-requires Inv-loop μ-loop
+copy-requires c κs =
+    let d = c .before in
+    let l = d .before .before .before .before in
+    let fits = l .before .before .before .pre .1 in
+    let e = d .plain-end .ensures in
+    let q = d .before .before .if1 .left in
+    let b = d .before .if2 .left in
+    (omega (arith, e), omega (arith, run-within (l .loop .inv) fits q b _ e), run-fits (l .loop .inv) fits q b _ e)
 
 add-n-2 : tie.Need-add-n-2 Inv-loop μ-loop
-add-n-2 c = omega (arith, byte-room (c .before .before .before .loop .inv) (c .before .before .before .before .before .before .pre .1))
-
-add-k : tie.Need-add-k Inv-loop μ-loop
-add-k c = omega (arith, within (c .before .before .before .loop .inv))
+add-n-2 c =
+    let d = c .before .before .before .before in
+    let l = d .before .before .before .before in
+    omega (arith, c .before .before .copy .ensures .0, run-room (l .loop .inv) (l .before .before .before .pre .1) (d .before .before .if1 .left) (d .before .if2 .left) _ (d .plain-end .ensures))
 
 loop-less-2 : tie.Need-loop-less-2 Inv-loop μ-loop
-loop-less-2 c = omega (arith, within (c .before .before .before .loop .inv))
+loop-less-2 c =
+    let d = c .before .before .before .before in
+    let l = d .before .before .before .before in
+    let e = d .plain-end .ensures in
+    omega (arith, e, run-within (l .loop .inv) (l .before .before .before .pre .1) (d .before .before .if1 .left) (d .before .if2 .left) _ e)
 
 loop-again-2 : tie.Need-loop-again-2 Inv-loop μ-loop
-loop-again-2 c = after-byte (c .before .before .before .loop .inv) (c .before .before .before .before .before .before .pre .1) (c .before .if1 .left) (c .if2 .left)
+loop-again-2 c =
+    let d = c .before .before .before .before in
+    let l = d .before .before .before .before in
+    let w = c .before .before .copy .ensures in
+    after-run (l .loop .inv) (l .before .before .before .pre .1) (d .before .before .if1 .left) (d .before .if2 .left) _ (d .plain-end .ensures) _ _ (w .0) (w .1)
 
 pub write-content-spec : {M : Type 1} → statement M
 write-content-spec =
@@ -107,8 +137,12 @@ write-content-spec =
     add-n
     loop-less
     loop-again
-    slice-write-out-2
+    add-plain-end
+    plain-end-requires
+    sub-copy
+    part-copy-start
+    part-copy-end
+    copy-requires
     add-n-2
-    add-k
     loop-less-2
     loop-again-2)

@@ -11,11 +11,13 @@ use Rattle.keys.specs.Keys.{KeysAt}
 use Rattle.scan.specs.Summary.{plus}
 use denote.Ref.{now}
 use Rattle.json.specs.Read.{read}
-use Rattle.scan.specs.Scanned.{Scans, readArray, readObject}
+use Rattle.scan.specs.Scanned.{Scans, LeavesKeys, readArray, readObject}
 use Rattle.scan.specs.declared.Summary.{Summary}
+use Rattle.scan.specs.declared.Scanned.{Scanned}
 use Rattle.scan.specs.declared.Scanned.the-variants.{Value}
 use Rattle.scan.proofs.Arrays.{Progress, empty, start, stuck-element, later, fits, ends, sticks, goes-on}
 use Rattle.scan.proofs.Objects as objects
+use Rattle.scan.proofs.Keys.{closed-keys}
 use Rattle.scan.proofs.Progress.{IsValue, scans-value}
 use Prim.Native.Nat.{ℕ, _<_}
 use borrow.Fn.Kinds.{In}
@@ -76,7 +78,6 @@ array-Inv-loop s at depth keys₀ spare₀ i₀ sum₀ keys spare i sum =
 abbrev array-μ-loop : array-lts.MeasureT-loop
 array-μ-loop s at depth keys₀ spare₀ i₀ sum₀ keys spare i sum = length s - i
 
--- src/lib.rt:229:9
 array-skip-spaces-requires : (t : ℕ) → array-lts.Need-skip-spaces-requires (
   skip-spaces-reads.Asked,
   skip-spaces-reads.Learnt,
@@ -93,7 +94,6 @@ array-skip-spaces-requires : (t : ℕ) → array-lts.Need-skip-spaces-requires (
 ) (array-at t) array.Post array-Inv-loop array-μ-loop
 array-skip-spaces-requires t c κs = c .before .before .before .pre .1 .within
 
--- src/lib.rt:230:8
 array-stands-requires : (t : ℕ) → array-lts.Need-stands-requires (
   skip-spaces-reads.Asked,
   skip-spaces-reads.Learnt,
@@ -110,7 +110,6 @@ array-stands-requires : (t : ℕ) → array-lts.Need-stands-requires (
 ) (array-at t) array.Post array-Inv-loop array-μ-loop
 array-stands-requires t c κs = search needs
 
--- src/lib.rt:231:22
 array-add-plain : (t : ℕ) → array-lts.Need-add-plain (
   skip-spaces-reads.Asked,
   skip-spaces-reads.Learnt,
@@ -127,7 +126,6 @@ array-add-plain : (t : ℕ) → array-lts.Need-add-plain (
 ) (array-at t) array.Post array-Inv-loop array-μ-loop
 array-add-plain t c = omega (arith, c .before .stands .ensures .0 (c .if1 .taken) .0)
 
--- src/lib.rt:231:9
 array-plain-requires : (t : ℕ) → array-lts.Need-plain-requires (
   skip-spaces-reads.Asked,
   skip-spaces-reads.Learnt,
@@ -144,7 +142,6 @@ array-plain-requires : (t : ℕ) → array-lts.Need-plain-requires (
 ) (array-at t) array.Post array-Inv-loop array-μ-loop
 array-plain-requires t c κs = search needs
 
--- src/lib.rt:231:9
 array-returns : (t : ℕ) → array-lts.Need-returns (
   skip-spaces-reads.Asked,
   skip-spaces-reads.Learnt,
@@ -164,7 +161,6 @@ array-returns t c =
     let h = c .before .before .stands .ensures .0 (c .before .if1 .taken) in
     subst (Scans (now (a .s)) (readArray (a .depth) (drop (a .at) (now (a .s))))) (sym (c .plain .ensures)) (empty (now (a .s)) (a .at) (a .depth) _ (c .before .before .before .skip-spaces .ensures) (h .0) (h .1))
 
--- src/lib.rt:239:5
 array-loop-holds : (t : ℕ) → array-lts.Need-loop-holds (
   skip-spaces-reads.Asked,
   skip-spaces-reads.Learnt,
@@ -183,7 +179,6 @@ array-loop-holds t c =
     let a = c .before .before .before .before .before .before .args in
     (start (now (a .s)) (a .at) (a .depth) _ (c .before .before .skip-spaces .ensures) (c .before .stands .ensures .1 (c .if1 .left)), refl, refl)
 
--- src/lib.rt:240:23
 array-value-requires : (t : ℕ) → array-lts.Need-value-requires (
   skip-spaces-reads.Asked,
   skip-spaces-reads.Learnt,
@@ -203,7 +198,6 @@ array-value-requires t c κs =
     let p = c .before .before .loop .inv in
     (omega (arith, b .pre .0), record { within = p .0 .within; short = b .pre .1 .short; enough = omega (arith, p .0 .from, p .1, b .pre .1 .enough); sorting = omega (arith, p .1, p .2, b .pre .1 .sorting) })
 
--- src/lib.rt:241:28
 array-enum-known-f : (t : ℕ) → array-lts.Need-enum-known-f (
   skip-spaces-reads.Asked,
   skip-spaces-reads.Learnt,
@@ -220,7 +214,6 @@ array-enum-known-f : (t : ℕ) → array-lts.Need-enum-known-f (
 ) (array-at t) array.Post array-Inv-loop array-μ-loop
 array-enum-known-f t c = search needs
 
--- src/lib.rt:242:28
 array-enum-known-e : (t : ℕ) → array-lts.Need-enum-known-e (
   skip-spaces-reads.Asked,
   skip-spaces-reads.Learnt,
@@ -237,7 +230,6 @@ array-enum-known-e : (t : ℕ) → array-lts.Need-enum-known-e (
 ) (array-at t) array.Post array-Inv-loop array-μ-loop
 array-enum-known-e t c = search needs
 
--- src/lib.rt:242:34
 array-same-length : (t : ℕ) → array-lts.Need-same-length (
   skip-spaces-reads.Asked,
   skip-spaces-reads.Learnt,
@@ -254,7 +246,6 @@ array-same-length : (t : ℕ) → array-lts.Need-same-length (
 ) (array-at t) array.Post array-Inv-loop array-μ-loop
 array-same-length t c = c .before .before .before .before .before .before .before .value .kept .1 .1 .1 .0 ∙ c .before .before .before .before .before .before .before .before .before .before .loop .inv .1
 
--- src/lib.rt:242:34
 array-same-length-2 : (t : ℕ) → array-lts.Need-same-length-2 (
   skip-spaces-reads.Asked,
   skip-spaces-reads.Learnt,
@@ -271,7 +262,6 @@ array-same-length-2 : (t : ℕ) → array-lts.Need-same-length-2 (
 ) (array-at t) array.Post array-Inv-loop array-μ-loop
 array-same-length-2 t c = c .before .before .before .before .before .before .before .value .kept .1 .1 .1 .1 .0 ∙ c .before .before .before .before .before .before .before .before .before .before .loop .inv .2
 
--- src/lib.rt:242:34
 array-returns-2 : (t : ℕ) → array-lts.Need-returns-2 (
   skip-spaces-reads.Asked,
   skip-spaces-reads.Learnt,
@@ -292,7 +282,6 @@ array-returns-2 t c =
     let p = l .inv .0 in
     stuck-element (now (a .s)) (a .at) (a .depth) (l .i) (l .sum) p _ (rw (c .before .e .given .1) at (c .before .before .before .before .before .before .before .value .ensures))
 
--- src/lib.rt:245:9
 array-added-requires : (t : ℕ) → array-lts.Need-added-requires (
   skip-spaces-reads.Asked,
   skip-spaces-reads.Learnt,
@@ -315,7 +304,6 @@ array-added-requires t c κs =
     let q = scans-value (now (a .s)) (read (a .depth) (drop (l .i) (now (a .s)))) f (rw (c .before .before .f .given .1) at (c .before .before .before .before .before .before .before .before .value .ensures)) in
     omega (arith, fits (now (a .s)) (a .at) (a .depth) (l .i) (l .sum) p f q, q .within, c .before .before .before .before .before .before .before .before .before .before .before .before .before .before .before .before .before .before .pre .1 .short)
 
--- src/lib.rt:246:15
 array-after-item-requires : (t : ℕ) → array-lts.Need-after-item-requires (
   skip-spaces-reads.Asked,
   skip-spaces-reads.Learnt,
@@ -338,7 +326,6 @@ array-after-item-requires t c κs =
     let q = scans-value (now (a .s)) (read (a .depth) (drop (l .i) (now (a .s)))) f (rw (c .before .before .before .f .given .1) at (c .before .before .before .before .before .before .before .before .before .value .ensures)) in
     q .within
 
--- src/lib.rt:247:24
 array-enum-known-end : (t : ℕ) → array-lts.Need-enum-known-end (
   skip-spaces-reads.Asked,
   skip-spaces-reads.Learnt,
@@ -355,7 +342,6 @@ array-enum-known-end : (t : ℕ) → array-lts.Need-enum-known-end (
 ) (array-at t) array.Post array-Inv-loop array-μ-loop
 array-enum-known-end t c = search needs
 
--- src/lib.rt:248:17
 array-same-length-3 : (t : ℕ) → array-lts.Need-same-length-3 (
   skip-spaces-reads.Asked,
   skip-spaces-reads.Learnt,
@@ -372,7 +358,6 @@ array-same-length-3 : (t : ℕ) → array-lts.Need-same-length-3 (
 ) (array-at t) array.Post array-Inv-loop array-μ-loop
 array-same-length-3 t c = c .before .before .before .before .before .before .before .before .before .before .before .before .before .value .kept .1 .1 .1 .0 ∙ c .before .before .before .before .before .before .before .before .before .before .before .before .before .before .before .before .loop .inv .1
 
--- src/lib.rt:248:17
 array-same-length-4 : (t : ℕ) → array-lts.Need-same-length-4 (
   skip-spaces-reads.Asked,
   skip-spaces-reads.Learnt,
@@ -389,7 +374,6 @@ array-same-length-4 : (t : ℕ) → array-lts.Need-same-length-4 (
 ) (array-at t) array.Post array-Inv-loop array-μ-loop
 array-same-length-4 t c = c .before .before .before .before .before .before .before .before .before .before .before .before .before .value .kept .1 .1 .1 .1 .0 ∙ c .before .before .before .before .before .before .before .before .before .before .before .before .before .before .before .before .loop .inv .2
 
--- src/lib.rt:248:17
 array-returns-3 : (t : ℕ) → array-lts.Need-returns-3 (
   skip-spaces-reads.Asked,
   skip-spaces-reads.Learnt,
@@ -410,10 +394,9 @@ array-returns-3 t c =
     let p = l .inv .0 in
     let f = c .before .before .before .before .before .before .before .f .given .0 .0 in
     let q = scans-value (now (a .s)) (read (a .depth) (drop (l .i) (now (a .s)))) f (rw (c .before .before .before .before .before .before .before .f .given .1) at (c .before .before .before .before .before .before .before .before .before .before .before .before .before .value .ensures)) in
-    subst (λ (x : Summary). Scans (now (a .s)) (readArray (a .depth) (drop (a .at) (now (a .s)))) (Value (record { end = c .before .end .given .0 .0; sum = x })))
+    subst (λ (x : Summary). Scans (now (a .s)) (readArray (a .depth) (drop (a .at) (now (a .s)))) (Value (record { end = c .before .end .given .0 .0; count = 0; sum = x })))
     (sym (c .before .before .before .before .added .ensures)) (ends (now (a .s)) (a .at) (a .depth) (l .i) (l .sum) p f q _ (rw (c .before .end .given .1) at (c .before .before .before .after-item .ensures)))
 
--- src/lib.rt:253:25
 array-enum-known-j : (t : ℕ) → array-lts.Need-enum-known-j (
   skip-spaces-reads.Asked,
   skip-spaces-reads.Learnt,
@@ -430,7 +413,6 @@ array-enum-known-j : (t : ℕ) → array-lts.Need-enum-known-j (
 ) (array-at t) array.Post array-Inv-loop array-μ-loop
 array-enum-known-j t c = search needs
 
--- src/lib.rt:239:5
 array-loop-less : (t : ℕ) → array-lts.Need-loop-less (
   skip-spaces-reads.Asked,
   skip-spaces-reads.Learnt,
@@ -454,7 +436,6 @@ array-loop-less t c =
     let w = rw (c .before .j .given .1) at (c .before .before .before .after-item .ensures) in
     omega (arith, later (now (a .s)) (a .at) (a .depth) (l .i) (l .sum) p f q, w .0, w .1)
 
--- src/lib.rt:239:5
 array-loop-again : (t : ℕ) → array-lts.Need-loop-again (
   skip-spaces-reads.Asked,
   skip-spaces-reads.Learnt,
@@ -481,7 +462,6 @@ array-loop-again t c =
       c .before .before .before .before .before .before .before .before .before .before .before .before .before .value .kept .1 .1 .1 .1 .0 ∙ c .before .before .before .before .before .before .before .before .before .before .before .before .before .before .before .before .loop .inv .2,
     )
 
--- src/lib.rt:254:26
 array-enum-known-e-2 : (t : ℕ) → array-lts.Need-enum-known-e-2 (
   skip-spaces-reads.Asked,
   skip-spaces-reads.Learnt,
@@ -498,7 +478,6 @@ array-enum-known-e-2 : (t : ℕ) → array-lts.Need-enum-known-e-2 (
 ) (array-at t) array.Post array-Inv-loop array-μ-loop
 array-enum-known-e-2 t c = search needs
 
--- src/lib.rt:254:32
 array-same-length-5 : (t : ℕ) → array-lts.Need-same-length-5 (
   skip-spaces-reads.Asked,
   skip-spaces-reads.Learnt,
@@ -515,7 +494,6 @@ array-same-length-5 : (t : ℕ) → array-lts.Need-same-length-5 (
 ) (array-at t) array.Post array-Inv-loop array-μ-loop
 array-same-length-5 t c = c .before .before .before .before .before .before .before .before .before .before .before .before .before .value .kept .1 .1 .1 .0 ∙ c .before .before .before .before .before .before .before .before .before .before .before .before .before .before .before .before .loop .inv .1
 
--- src/lib.rt:254:32
 array-same-length-6 : (t : ℕ) → array-lts.Need-same-length-6 (
   skip-spaces-reads.Asked,
   skip-spaces-reads.Learnt,
@@ -532,7 +510,6 @@ array-same-length-6 : (t : ℕ) → array-lts.Need-same-length-6 (
 ) (array-at t) array.Post array-Inv-loop array-μ-loop
 array-same-length-6 t c = c .before .before .before .before .before .before .before .before .before .before .before .before .before .value .kept .1 .1 .1 .1 .0 ∙ c .before .before .before .before .before .before .before .before .before .before .before .before .before .before .before .before .loop .inv .2
 
--- src/lib.rt:254:32
 array-returns-4 : (t : ℕ) → array-lts.Need-returns-4 (
   skip-spaces-reads.Asked,
   skip-spaces-reads.Learnt,
@@ -562,7 +539,6 @@ object-Inv-loop s at depth keys₀ spare₀ i₀ sum₀ n₀ keys spare i sum n 
 abbrev object-μ-loop : object-lts.MeasureT-loop
 object-μ-loop s at depth keys₀ spare₀ i₀ sum₀ n₀ keys spare i sum n = length s - i
 
--- src/lib.rt:305:9
 object-skip-spaces-requires : (t : ℕ) → object-lts.Need-skip-spaces-requires (
   skip-spaces-reads.Asked,
   skip-spaces-reads.Learnt,
@@ -587,7 +563,6 @@ object-skip-spaces-requires : (t : ℕ) → object-lts.Need-skip-spaces-requires
 ) (object-at t) object.Post object-Inv-loop object-μ-loop
 object-skip-spaces-requires t c κs = c .before .before .before .pre .1 .0 .within
 
--- src/lib.rt:306:8
 object-stands-requires : (t : ℕ) → object-lts.Need-stands-requires (
   skip-spaces-reads.Asked,
   skip-spaces-reads.Learnt,
@@ -612,7 +587,6 @@ object-stands-requires : (t : ℕ) → object-lts.Need-stands-requires (
 ) (object-at t) object.Post object-Inv-loop object-μ-loop
 object-stands-requires t c κs = search needs
 
--- src/lib.rt:307:22
 object-add-plain : (t : ℕ) → object-lts.Need-add-plain (
   skip-spaces-reads.Asked,
   skip-spaces-reads.Learnt,
@@ -637,7 +611,6 @@ object-add-plain : (t : ℕ) → object-lts.Need-add-plain (
 ) (object-at t) object.Post object-Inv-loop object-μ-loop
 object-add-plain t c = omega (arith, c .before .stands .ensures .0 (c .if1 .taken) .0)
 
--- src/lib.rt:307:9
 object-plain-requires : (t : ℕ) → object-lts.Need-plain-requires (
   skip-spaces-reads.Asked,
   skip-spaces-reads.Learnt,
@@ -662,7 +635,6 @@ object-plain-requires : (t : ℕ) → object-lts.Need-plain-requires (
 ) (object-at t) object.Post object-Inv-loop object-μ-loop
 object-plain-requires t c κs = search needs
 
--- src/lib.rt:307:9
 object-returns : (t : ℕ) → object-lts.Need-returns (
   skip-spaces-reads.Asked,
   skip-spaces-reads.Learnt,
@@ -688,9 +660,11 @@ object-returns : (t : ℕ) → object-lts.Need-returns (
 object-returns t c =
     let a = c .before .before .before .before .before .before .before .args in
     let h = c .before .before .stands .ensures .0 (c .before .if1 .taken) in
-    subst (Scans (now (a .s)) (readObject (a .depth) (drop (a .at) (now (a .s))))) (sym (c .plain .ensures)) (objects.empty (now (a .s)) (a .at) (a .depth) _ (c .before .before .before .skip-spaces .ensures) (h .0) (h .1))
+    let x = readObject (a .depth) (drop (a .at) (now (a .s))) in
+    let i = c .before .before .before .skip-spaces .ensures in
+    subst (λ (z : Scanned). Scans (now (a .s)) x z × LeavesKeys (now (a .s)) x (now (a .keys)) z) (sym (c .plain .ensures))
+    (objects.empty (now (a .s)) (a .at) (a .depth) _ i (h .0) (h .1), objects.empty-keys (now (a .s)) (a .at) (a .depth) _ i (h .0) (h .1) (now (a .keys)))
 
--- src/lib.rt:316:5
 object-loop-holds : (t : ℕ) → object-lts.Need-loop-holds (
   skip-spaces-reads.Asked,
   skip-spaces-reads.Learnt,
@@ -717,7 +691,6 @@ object-loop-holds t c =
     let a = c .before .before .before .before .before .before .args in
     (objects.start (now (a .s)) (a .at) (a .depth) _ (c .before .before .skip-spaces .ensures) (c .before .stands .ensures .1 (c .if1 .left)), omega arith, refl, refl)
 
--- src/lib.rt:317:26
 object-key-requires : (t : ℕ) → object-lts.Need-key-requires (
   skip-spaces-reads.Asked,
   skip-spaces-reads.Learnt,
@@ -742,7 +715,6 @@ object-key-requires : (t : ℕ) → object-lts.Need-key-requires (
 ) (object-at t) object.Post object-Inv-loop object-μ-loop
 object-key-requires t c κs = c .loop .inv .0 .within
 
--- src/lib.rt:318:33
 object-enum-known-end : (t : ℕ) → object-lts.Need-enum-known-end (
   skip-spaces-reads.Asked,
   skip-spaces-reads.Learnt,
@@ -767,7 +739,6 @@ object-enum-known-end : (t : ℕ) → object-lts.Need-enum-known-end (
 ) (object-at t) object.Post object-Inv-loop object-μ-loop
 object-enum-known-end t c = search needs
 
--- src/lib.rt:320:24
 object-mark-requires : (t : ℕ) → object-lts.Need-mark-requires (
   skip-spaces-reads.Asked,
   skip-spaces-reads.Learnt,
@@ -792,7 +763,6 @@ object-mark-requires : (t : ℕ) → object-lts.Need-mark-requires (
 ) (object-at t) object.Post object-Inv-loop object-μ-loop
 object-mark-requires t c κs = c .before .before .before .before .loop .inv .0 .within
 
--- src/lib.rt:323:33
 object-enum-known-e : (t : ℕ) → object-lts.Need-enum-known-e (
   skip-spaces-reads.Asked,
   skip-spaces-reads.Learnt,
@@ -817,7 +787,6 @@ object-enum-known-e : (t : ℕ) → object-lts.Need-enum-known-e (
 ) (object-at t) object.Post object-Inv-loop object-μ-loop
 object-enum-known-e t c = search needs
 
--- src/lib.rt:323:39
 object-same-length : (t : ℕ) → object-lts.Need-same-length (
   skip-spaces-reads.Asked,
   skip-spaces-reads.Learnt,
@@ -842,7 +811,6 @@ object-same-length : (t : ℕ) → object-lts.Need-same-length (
 ) (object-at t) object.Post object-Inv-loop object-μ-loop
 object-same-length t c = c .before .before .before .before .loop .inv .2
 
--- src/lib.rt:323:39
 object-same-length-2 : (t : ℕ) → object-lts.Need-same-length-2 (
   skip-spaces-reads.Asked,
   skip-spaces-reads.Learnt,
@@ -867,7 +835,6 @@ object-same-length-2 : (t : ℕ) → object-lts.Need-same-length-2 (
 ) (object-at t) object.Post object-Inv-loop object-μ-loop
 object-same-length-2 t c = c .before .before .before .before .loop .inv .3
 
--- src/lib.rt:323:39
 object-returns-2 : (t : ℕ) → object-lts.Need-returns-2 (
   skip-spaces-reads.Asked,
   skip-spaces-reads.Learnt,
@@ -894,9 +861,8 @@ object-returns-2 t c =
     let a = c .before .before .before .before .before .before .before .before .before .before .before .args in
     let l = c .before .before .before .before .loop in
     let p = l .inv .0 in
-    objects.stuck-key (now (a .s)) (a .at) (a .depth) (l .i) (take (l .n) (l .keys)) (l .sum) p _ ((rw (c .before .e .given .1) at (c .before .before .before .key .ensures)) .1)
+    (objects.stuck-key (now (a .s)) (a .at) (a .depth) (l .i) (take (l .n) (l .keys)) (l .sum) p _ ((rw (c .before .e .given .1) at (c .before .before .before .key .ensures)) .1), tt)
 
--- src/lib.rt:325:19
 object-cast-keys : (t : ℕ) → object-lts.Need-cast-keys (
   skip-spaces-reads.Asked,
   skip-spaces-reads.Learnt,
@@ -921,7 +887,6 @@ object-cast-keys : (t : ℕ) → object-lts.Need-cast-keys (
 ) (object-at t) object.Post object-Inv-loop object-μ-loop
 object-cast-keys t c = omega (arith, c .before .before .before .before .before .loop .inv .0 .within, c .before .before .before .before .before .before .before .before .before .before .before .before .pre .1 .0 .short)
 
--- src/lib.rt:325:9
 object-mul-keys : (t : ℕ) → object-lts.Need-mul-keys (
   skip-spaces-reads.Asked,
   skip-spaces-reads.Learnt,
@@ -954,7 +919,6 @@ object-mul-keys t c =
     let h = objects.key-room (now (a .s)) (a .at) (a .depth) (l .i) (take (l .n) (l .keys)) (l .sum) p _ _ _ q (length (l .keys)) (omega (arith, c .before .before .before .before .before .before .before .before .before .before .before .before .pre .1 .1, l .inv .2)) in
     omega (arith, n, p .from, p .within, c .before .before .before .before .before .before .before .before .before .before .before .before .pre .1 .0 .short)
 
--- src/lib.rt:325:9
 object-slice-write-keys : (t : ℕ) → object-lts.Need-slice-write-keys (
   skip-spaces-reads.Asked,
   skip-spaces-reads.Learnt,
@@ -987,7 +951,6 @@ object-slice-write-keys t c =
     let h = objects.key-room (now (a .s)) (a .at) (a .depth) (l .i) (take (l .n) (l .keys)) (l .sum) p _ _ _ q (length (l .keys)) (omega (arith, c .before .before .before .before .before .before .before .before .before .before .before .before .pre .1 .1, l .inv .2)) in
     omega (arith, n, h)
 
--- src/lib.rt:326:9
 object-add-n : (t : ℕ) → object-lts.Need-add-n (
   skip-spaces-reads.Asked,
   skip-spaces-reads.Learnt,
@@ -1020,7 +983,6 @@ object-add-n t c =
     let h = objects.key-room (now (a .s)) (a .at) (a .depth) (l .i) (take (l .n) (l .keys)) (l .sum) p _ _ _ q (length (l .keys)) (omega (arith, c .before .before .before .before .before .before .before .before .before .before .before .before .pre .1 .1, l .inv .2)) in
     omega (arith, n, p .from, p .within, c .before .before .before .before .before .before .before .before .before .before .before .before .pre .1 .0 .short)
 
--- src/lib.rt:327:51
 object-mul-value : (t : ℕ) → object-lts.Need-mul-value (
   skip-spaces-reads.Asked,
   skip-spaces-reads.Learnt,
@@ -1053,7 +1015,6 @@ object-mul-value t c =
     let h = objects.key-room (now (a .s)) (a .at) (a .depth) (l .i) (take (l .n) (l .keys)) (l .sum) p _ _ _ q (length (l .keys)) (omega (arith, c .before .before .before .before .before .before .before .before .before .before .before .before .pre .1 .1, l .inv .2)) in
     omega (arith, n, p .from, p .within, c .before .before .before .before .before .before .before .before .before .before .before .before .pre .1 .0 .short)
 
--- src/lib.rt:327:51
 object-sub-value : (t : ℕ) → object-lts.Need-sub-value (
   skip-spaces-reads.Asked,
   skip-spaces-reads.Learnt,
@@ -1086,7 +1047,6 @@ object-sub-value t c =
     let h = objects.key-room (now (a .s)) (a .at) (a .depth) (l .i) (take (l .n) (l .keys)) (l .sum) p _ _ _ q (length (l .keys)) (omega (arith, c .before .before .before .before .before .before .before .before .before .before .before .before .pre .1 .1, l .inv .2)) in
     simp length-set (omega (arith, n, h))
 
--- src/lib.rt:327:51
 object-part-value-start : (t : ℕ) → object-lts.Need-part-value-start (
   skip-spaces-reads.Asked,
   skip-spaces-reads.Learnt,
@@ -1119,7 +1079,6 @@ object-part-value-start t c =
     let h = objects.key-room (now (a .s)) (a .at) (a .depth) (l .i) (take (l .n) (l .keys)) (l .sum) p _ _ _ q (length (l .keys)) (omega (arith, c .before .before .before .before .before .before .before .before .before .before .before .before .pre .1 .1, l .inv .2)) in
     simp length-set (omega (arith, n, h))
 
--- src/lib.rt:327:51
 object-part-value-end : (t : ℕ) → object-lts.Need-part-value-end (
   skip-spaces-reads.Asked,
   skip-spaces-reads.Learnt,
@@ -1152,7 +1111,6 @@ object-part-value-end t c =
     let h = objects.key-room (now (a .s)) (a .at) (a .depth) (l .i) (take (l .n) (l .keys)) (l .sum) p _ _ _ q (length (l .keys)) (omega (arith, c .before .before .before .before .before .before .before .before .before .before .before .before .pre .1 .1, l .inv .2)) in
     search needs
 
--- src/lib.rt:327:23
 object-value-requires : (t : ℕ) → object-lts.Need-value-requires (
   skip-spaces-reads.Asked,
   skip-spaces-reads.Learnt,
@@ -1194,7 +1152,6 @@ object-value-requires t c κs =
       },
     )
 
--- src/lib.rt:328:28
 object-enum-known-f : (t : ℕ) → object-lts.Need-enum-known-f (
   skip-spaces-reads.Asked,
   skip-spaces-reads.Learnt,
@@ -1219,7 +1176,6 @@ object-enum-known-f : (t : ℕ) → object-lts.Need-enum-known-f (
 ) (object-at t) object.Post object-Inv-loop object-μ-loop
 object-enum-known-f t c = search needs
 
--- src/lib.rt:329:28
 object-enum-known-e-2 : (t : ℕ) → object-lts.Need-enum-known-e-2 (
   skip-spaces-reads.Asked,
   skip-spaces-reads.Learnt,
@@ -1244,7 +1200,6 @@ object-enum-known-e-2 : (t : ℕ) → object-lts.Need-enum-known-e-2 (
 ) (object-at t) object.Post object-Inv-loop object-μ-loop
 object-enum-known-e-2 t c = search needs
 
--- src/lib.rt:329:34
 object-same-length-3 : (t : ℕ) → object-lts.Need-same-length-3 (
   skip-spaces-reads.Asked,
   skip-spaces-reads.Learnt,
@@ -1278,7 +1233,6 @@ object-same-length-3 t c =
     let h : l .n < length (l .keys) = omega (arith, n, objects.key-room (now (a .s)) (a .at) (a .depth) (l .i) (take (l .n) (l .keys)) (l .sum) p _ _ _ q (length (l .keys)) r) in
     objects.stored-length (l .keys) (l .n) (l .i) h (c .before .before .before .before .before .before .before .value .last .1 .1 .1 .0) (c .before .before .before .before .before .before .before .value .kept .1 .1 .1 .0) ∙ l .inv .2
 
--- src/lib.rt:329:34
 object-same-length-4 : (t : ℕ) → object-lts.Need-same-length-4 (
   skip-spaces-reads.Asked,
   skip-spaces-reads.Learnt,
@@ -1312,7 +1266,6 @@ object-same-length-4 t c =
     let h : l .n < length (l .keys) = omega (arith, n, objects.key-room (now (a .s)) (a .at) (a .depth) (l .i) (take (l .n) (l .keys)) (l .sum) p _ _ _ q (length (l .keys)) r) in
     c .before .before .before .before .before .before .before .value .kept .1 .1 .1 .1 .0 ∙ l .inv .3
 
--- src/lib.rt:329:34
 object-returns-3 : (t : ℕ) → object-lts.Need-returns-3 (
   skip-spaces-reads.Asked,
   skip-spaces-reads.Learnt,
@@ -1344,9 +1297,8 @@ object-returns-3 t c =
     let n = length-take-le (l .n) (l .keys) (l .inv .1) in
     let r : length (now (a .s)) < a .at + 4 * length (l .keys) = omega (arith, c .before .before .before .before .before .before .before .before .before .before .before .before .before .before .before .before .before .before .before .before .before .before .pre .1 .1, l .inv .2) in
     let h : l .n < length (l .keys) = omega (arith, n, objects.key-room (now (a .s)) (a .at) (a .depth) (l .i) (take (l .n) (l .keys)) (l .sum) p _ _ _ q (length (l .keys)) r) in
-    objects.stuck-value (now (a .s)) (a .at) (a .depth) (l .i) (take (l .n) (l .keys)) (l .sum) p _ _ _ q _ (rw (c .before .e2 .given .1) at (c .before .before .before .before .before .before .before .value .ensures))
+    (objects.stuck-value (now (a .s)) (a .at) (a .depth) (l .i) (take (l .n) (l .keys)) (l .sum) p _ _ _ q _ (rw (c .before .e2 .given .1) at (c .before .before .before .before .before .before .before .value .ensures)), tt)
 
--- src/lib.rt:331:26
 object-member-requires : (t : ℕ) → object-lts.Need-member-requires (
   skip-spaces-reads.Asked,
   skip-spaces-reads.Learnt,
@@ -1382,7 +1334,6 @@ object-member-requires t c κs =
     let z = scans-value (now (a .s)) (read (a .depth) (drop (c .before .before .before .before .before .before .before .before .before .before .before .before .end .given .0 .0) (now (a .s)))) f (rw (c .before .f .given .1) at (c .before .before .before .before .before .before .before .value .ensures)) in
     omega (arith, objects.fits (now (a .s)) (a .at) (a .depth) (l .i) (take (l .n) (l .keys)) (l .sum) p _ _ _ q f z, z .within, c .before .before .before .before .before .before .before .before .before .before .before .before .before .before .before .before .before .before .before .before .before .before .pre .1 .0 .short)
 
--- src/lib.rt:331:9
 object-added-requires : (t : ℕ) → object-lts.Need-added-requires (
   skip-spaces-reads.Asked,
   skip-spaces-reads.Learnt,
@@ -1419,7 +1370,6 @@ object-added-requires t c κs =
     let m = objects.member-size _ _ _ _ (c .member .ensures) in
     omega (arith, m, objects.fits (now (a .s)) (a .at) (a .depth) (l .i) (take (l .n) (l .keys)) (l .sum) p _ _ _ q f z, z .within, c .before .before .before .before .before .before .before .before .before .before .before .before .before .before .before .before .before .before .before .before .before .before .before .pre .1 .0 .short)
 
--- src/lib.rt:332:15
 object-after-item-requires : (t : ℕ) → object-lts.Need-after-item-requires (
   skip-spaces-reads.Asked,
   skip-spaces-reads.Learnt,
@@ -1455,7 +1405,6 @@ object-after-item-requires t c κs =
     let z = scans-value (now (a .s)) (read (a .depth) (drop (c .before .before .before .before .before .before .before .before .before .before .before .before .before .before .end .given .0 .0) (now (a .s)))) f (rw (c .before .before .before .f .given .1) at (c .before .before .before .before .before .before .before .before .before .value .ensures)) in
     z .within
 
--- src/lib.rt:333:24
 object-enum-known-end-2 : (t : ℕ) → object-lts.Need-enum-known-end-2 (
   skip-spaces-reads.Asked,
   skip-spaces-reads.Learnt,
@@ -1480,7 +1429,6 @@ object-enum-known-end-2 : (t : ℕ) → object-lts.Need-enum-known-end-2 (
 ) (object-at t) object.Post object-Inv-loop object-μ-loop
 object-enum-known-end-2 t c = search needs
 
--- src/lib.rt:333:59
 object-slice-relend-prefix-closed : (t : ℕ) → object-lts.Need-slice-relend-prefix-closed (
   skip-spaces-reads.Asked,
   skip-spaces-reads.Learnt,
@@ -1514,7 +1462,6 @@ object-slice-relend-prefix-closed t c =
     let h : l .n < length (l .keys) = omega (arith, n, objects.key-room (now (a .s)) (a .at) (a .depth) (l .i) (take (l .n) (l .keys)) (l .sum) p _ _ _ q (length (l .keys)) r) in
     omega (arith, h, objects.stored-length (l .keys) (l .n) (l .i) h (c .before .before .before .before .before .before .before .before .before .before .before .before .before .value .last .1 .1 .1 .0) (c .before .before .before .before .before .before .before .before .before .before .before .before .before .value .kept .1 .1 .1 .0))
 
--- src/lib.rt:333:59
 object-slice-aggregate-closed : (t : ℕ) → object-lts.Need-slice-aggregate-closed (
   skip-spaces-reads.Asked,
   skip-spaces-reads.Learnt,
@@ -1548,7 +1495,6 @@ object-slice-aggregate-closed t c =
     let h : l .n < length (l .keys) = omega (arith, n, objects.key-room (now (a .s)) (a .at) (a .depth) (l .i) (take (l .n) (l .keys)) (l .sum) p _ _ _ q (length (l .keys)) r) in
     omega (arith, n, ap length (objects.stored-keys (l .keys) (l .n) (l .i) h (c .before .before .before .before .before .before .before .before .before .before .before .before .before .before .value .last .1 .1 .1 .0) (c .before .before .before .before .before .before .before .before .before .before .before .before .before .before .value .kept .1 .1 .1 .0)), length-append (take (l .n) (l .keys)) (l .i ∷ []))
 
--- src/lib.rt:333:32
 object-closed-requires : (t : ℕ) → object-lts.Need-closed-requires (
   skip-spaces-reads.Asked,
   skip-spaces-reads.Learnt,
@@ -1584,7 +1530,6 @@ object-closed-requires t c κs =
       omega (arith, n, ap length (objects.stored-keys (l .keys) (l .n) (l .i) h (c .before .before .before .before .before .before .before .before .before .before .before .before .before .before .before .value .last .1 .1 .1 .0) (c .before .before .before .before .before .before .before .before .before .before .before .before .before .before .before .value .kept .1 .1 .1 .0)), length-append (take (l .n) (l .keys)) (l .i ∷ []), h, c .before .before .before .before .before .before .before .before .before .before .before .before .before .before .before .value .kept .1 .1 .1 .1 .0 ∙ l .inv .3, l .inv .2, c .before .before .before .before .before .before .before .before .before .before .before .before .before .before .before .before .before .before .before .before .before .before .before .before .before .before .before .before .before .before .pre .1 .0 .sorting),
     )
 
--- src/lib.rt:333:32
 object-same-length-5 : (t : ℕ) → object-lts.Need-same-length-5 (
   skip-spaces-reads.Asked,
   skip-spaces-reads.Learnt,
@@ -1618,7 +1563,6 @@ object-same-length-5 t c =
     let h : l .n < length (l .keys) = omega (arith, n, objects.key-room (now (a .s)) (a .at) (a .depth) (l .i) (take (l .n) (l .keys)) (l .sum) p _ _ _ q (length (l .keys)) r) in
     length-front _ (c .before .before .before .before .closed .last .1 .1 .1 .0) (l .n + 1) (c .before .before .before .before .closed .kept .1 .1 .1 .0) ∙ objects.stored-length (l .keys) (l .n) (l .i) h (c .before .before .before .before .before .before .before .before .before .before .before .before .before .before .before .before .before .before .before .before .value .last .1 .1 .1 .0) (c .before .before .before .before .before .before .before .before .before .before .before .before .before .before .before .before .before .before .before .before .value .kept .1 .1 .1 .0) ∙ l .inv .2
 
--- src/lib.rt:333:32
 object-same-length-6 : (t : ℕ) → object-lts.Need-same-length-6 (
   skip-spaces-reads.Asked,
   skip-spaces-reads.Learnt,
@@ -1652,7 +1596,6 @@ object-same-length-6 t c =
     let h : l .n < length (l .keys) = omega (arith, n, objects.key-room (now (a .s)) (a .at) (a .depth) (l .i) (take (l .n) (l .keys)) (l .sum) p _ _ _ q (length (l .keys)) r) in
     c .before .before .before .before .closed .kept .1 .1 .1 .1 .0 ∙ c .before .before .before .before .before .before .before .before .before .before .before .before .before .before .before .before .before .before .before .before .value .kept .1 .1 .1 .1 .0 ∙ l .inv .3
 
--- src/lib.rt:333:32
 object-returns-4 : (t : ℕ) → object-lts.Need-returns-4 (
   skip-spaces-reads.Asked,
   skip-spaces-reads.Learnt,
@@ -1686,10 +1629,17 @@ object-returns-4 t c =
     let h : l .n < length (l .keys) = omega (arith, n, objects.key-room (now (a .s)) (a .at) (a .depth) (l .i) (take (l .n) (l .keys)) (l .sum) p _ _ _ q (length (l .keys)) r) in
     let f = c .before .before .before .before .before .before .before .before .before .before .before .before .before .before .f .given .0 .0 in
     let z = scans-value (now (a .s)) (read (a .depth) (drop (c .before .before .before .before .before .before .before .before .before .before .before .before .before .before .before .before .before .before .before .before .before .before .before .before .before .end .given .0 .0) (now (a .s)))) f (rw (c .before .before .before .before .before .before .before .before .before .before .before .before .before .before .f .given .1) at (c .before .before .before .before .before .before .before .before .before .before .before .before .before .before .before .before .before .before .before .before .value .ensures)) in
-    objects.closed-same (now (a .s)) (readObject (a .depth) (drop (a .at) (now (a .s)))) _ _ _ _ (l .sum) _ _ (c .before .before .before .before .closed .result) (c .before .before .before .before .closed .ensures) (c .before .before .before .before .before .before .before .before .before .before .before .added .ensures) (c .before .before .before .before .before .before .before .before .before .before .before .before .member .ensures) (objects.stored-keys (l .keys) (l .n) (l .i) h (c .before .before .before .before .before .before .before .before .before .before .before .before .before .before .before .before .before .before .before .before .value .last .1 .1 .1 .0) (c .before .before .before .before .before .before .before .before .before .before .before .before .before .before .before .before .before .before .before .before .value .kept .1 .1 .1 .0))
-    (objects.ends (now (a .s)) (a .at) (a .depth) (l .i) (take (l .n) (l .keys)) (l .sum) p _ _ _ q f z _ (rw (c .before .before .before .before .before .before .before .before .end2 .given .1) at (c .before .before .before .before .before .before .before .before .before .before .after-item .ensures)))
+    let v = c .before .before .before .before .before .before .before .before .before .before .before .before .before .before .before .before .before .before .before .before .value in
+    let x = readObject (a .depth) (drop (a .at) (now (a .s))) in
+    let d = c .before .before .before .before .closed in
+    let e = objects.stored-keys (l .keys) (l .n) (l .i) h (v .last .1 .1 .1 .0) (v .kept .1 .1 .1 .0) in
+    let w = rw (c .before .before .before .before .before .before .before .before .end2 .given .1) at (c .before .before .before .before .before .before .before .before .before .before .after-item .ensures) in (
+      objects.closed-same (now (a .s)) x _ _ _ _ _ (l .sum) _ _ (d .result) (d .ensures .0) (c .before .before .before .before .before .before .before .before .before .before .before .added .ensures) (c .before .before .before .before .before .before .before .before .before .before .before .before .member .ensures) e
+          (objects.ends (now (a .s)) (a .at) (a .depth) (l .i) (take (l .n) (l .keys)) (l .sum) p _ _ _ q f z _ _ w),
+      closed-keys (now (a .s)) x _ _ _ _ _ (d .last .1 .1 .1 .0) _ (d .result) (d .ensures .0) (d .ensures .1) (d .kept .1 .1 .1 .0) e
+          (objects.ends-keys (now (a .s)) (a .at) (a .depth) (l .i) (take (l .n) (l .keys)) (l .sum) p _ _ _ q f z _ w),
+    )
 
--- src/lib.rt:334:25
 object-enum-known-j : (t : ℕ) → object-lts.Need-enum-known-j (
   skip-spaces-reads.Asked,
   skip-spaces-reads.Learnt,
@@ -1714,7 +1664,6 @@ object-enum-known-j : (t : ℕ) → object-lts.Need-enum-known-j (
 ) (object-at t) object.Post object-Inv-loop object-μ-loop
 object-enum-known-j t c = search needs
 
--- src/lib.rt:316:5
 object-loop-less : (t : ℕ) → object-lts.Need-loop-less (
   skip-spaces-reads.Asked,
   skip-spaces-reads.Learnt,
@@ -1751,7 +1700,6 @@ object-loop-less t c =
     let w = rw (c .before .j .given .1) at (c .before .before .before .after-item .ensures) in
     omega (arith, objects.later (now (a .s)) (a .at) (a .depth) (l .i) (take (l .n) (l .keys)) (l .sum) p _ _ _ q f z, q .later, w .0, w .1)
 
--- src/lib.rt:316:5
 object-loop-again : (t : ℕ) → object-lts.Need-loop-again (
   skip-spaces-reads.Asked,
   skip-spaces-reads.Learnt,
@@ -1792,7 +1740,6 @@ object-loop-again t c =
       c .before .before .before .before .before .before .before .before .before .before .before .before .before .value .kept .1 .1 .1 .1 .0 ∙ l .inv .3,
     )
 
--- src/lib.rt:335:26
 object-enum-known-e-3 : (t : ℕ) → object-lts.Need-enum-known-e-3 (
   skip-spaces-reads.Asked,
   skip-spaces-reads.Learnt,
@@ -1817,7 +1764,6 @@ object-enum-known-e-3 : (t : ℕ) → object-lts.Need-enum-known-e-3 (
 ) (object-at t) object.Post object-Inv-loop object-μ-loop
 object-enum-known-e-3 t c = search needs
 
--- src/lib.rt:335:32
 object-same-length-7 : (t : ℕ) → object-lts.Need-same-length-7 (
   skip-spaces-reads.Asked,
   skip-spaces-reads.Learnt,
@@ -1851,7 +1797,6 @@ object-same-length-7 t c =
     let h : l .n < length (l .keys) = omega (arith, n, objects.key-room (now (a .s)) (a .at) (a .depth) (l .i) (take (l .n) (l .keys)) (l .sum) p _ _ _ q (length (l .keys)) r) in
     objects.stored-length (l .keys) (l .n) (l .i) h (c .before .before .before .before .before .before .before .before .before .before .before .before .before .value .last .1 .1 .1 .0) (c .before .before .before .before .before .before .before .before .before .before .before .before .before .value .kept .1 .1 .1 .0) ∙ l .inv .2
 
--- src/lib.rt:335:32
 object-same-length-8 : (t : ℕ) → object-lts.Need-same-length-8 (
   skip-spaces-reads.Asked,
   skip-spaces-reads.Learnt,
@@ -1885,7 +1830,6 @@ object-same-length-8 t c =
     let h : l .n < length (l .keys) = omega (arith, n, objects.key-room (now (a .s)) (a .at) (a .depth) (l .i) (take (l .n) (l .keys)) (l .sum) p _ _ _ q (length (l .keys)) r) in
     c .before .before .before .before .before .before .before .before .before .before .before .before .before .value .kept .1 .1 .1 .1 .0 ∙ l .inv .3
 
--- src/lib.rt:335:32
 object-returns-5 : (t : ℕ) → object-lts.Need-returns-5 (
   skip-spaces-reads.Asked,
   skip-spaces-reads.Learnt,
@@ -1919,9 +1863,8 @@ object-returns-5 t c =
     let h : l .n < length (l .keys) = omega (arith, n, objects.key-room (now (a .s)) (a .at) (a .depth) (l .i) (take (l .n) (l .keys)) (l .sum) p _ _ _ q (length (l .keys)) r) in
     let f = c .before .before .before .before .before .before .before .f .given .0 .0 in
     let z = scans-value (now (a .s)) (read (a .depth) (drop (c .before .before .before .before .before .before .before .before .before .before .before .before .before .before .before .before .before .before .end .given .0 .0) (now (a .s)))) f (rw (c .before .before .before .before .before .before .before .f .given .1) at (c .before .before .before .before .before .before .before .before .before .before .before .before .before .value .ensures)) in
-    objects.sticks (now (a .s)) (a .at) (a .depth) (l .i) (take (l .n) (l .keys)) (l .sum) p _ _ _ q f z _ (rw (c .before .e3 .given .1) at (c .before .before .before .after-item .ensures))
+    (objects.sticks (now (a .s)) (a .at) (a .depth) (l .i) (take (l .n) (l .keys)) (l .sum) p _ _ _ q f z _ (rw (c .before .e3 .given .1) at (c .before .before .before .after-item .ensures)), tt)
 
--- src/lib.rt:212:21
 value-shared-slice-read-b : (t : ℕ) → value-lts.Need-shared-slice-read-b (
   array-below t,
   array.Post,
@@ -1932,7 +1875,6 @@ value-shared-slice-read-b : (t : ℕ) → value-lts.Need-shared-slice-read-b (
 ) (value-at t) value.Post
 value-shared-slice-read-b t c = c .before .before .if1 .taken
 
--- src/lib.rt:214:33
 value-add-array : (t : ℕ) → value-lts.Need-add-array (
   array-below t,
   array.Post,
@@ -1943,7 +1885,6 @@ value-add-array : (t : ℕ) → value-lts.Need-add-array (
 ) (value-at t) value.Post
 value-add-array t c = omega (arith, c .before .before .before .if1 .taken)
 
--- src/lib.rt:214:41
 value-sub-array : (t : ℕ) → value-lts.Need-sub-array (
   array-below t,
   array.Post,
@@ -1954,7 +1895,6 @@ value-sub-array : (t : ℕ) → value-lts.Need-sub-array (
 ) (value-at t) value.Post
 value-sub-array t c = omega (arith, c .before .before .if2 .taken)
 
--- src/lib.rt:214:17
 value-array-requires : (t : ℕ) → value-lts.Need-array-requires (
   array-below t,
   array.Post,
@@ -1967,7 +1907,6 @@ value-array-requires t c κs =
     let b = c .before .before .before .before .before .before .before .before .before .pre in
     (omega (arith, b .0, c .before .before .before .before .if2 .taken), record { within = omega (arith, c .before .before .before .before .before .if1 .taken); short = b .1 .short; enough = omega (arith, b .1 .enough); sorting = b .1 .sorting })
 
--- src/lib.rt:214:17
 value-same-length : (t : ℕ) → value-lts.Need-same-length (
   array-below t,
   array.Post,
@@ -1978,7 +1917,6 @@ value-same-length : (t : ℕ) → value-lts.Need-same-length (
 ) (value-at t) value.Post
 value-same-length t c = c .before .before .before .before .array .kept .1 .1 .1 .0
 
--- src/lib.rt:214:17
 value-same-length-2 : (t : ℕ) → value-lts.Need-same-length-2 (
   array-below t,
   array.Post,
@@ -1989,7 +1927,6 @@ value-same-length-2 : (t : ℕ) → value-lts.Need-same-length-2 (
 ) (value-at t) value.Post
 value-same-length-2 t c = c .before .before .before .before .array .kept .1 .1 .1 .1 .0
 
--- src/lib.rt:214:17
 value-returns : (t : ℕ) → value-lts.Need-returns (
   array-below t,
   array.Post,
@@ -2000,7 +1937,6 @@ value-returns : (t : ℕ) → value-lts.Need-returns (
 ) (value-at t) value.Post
 value-returns t c = is-array _ _ _ _ (c .before .before .before .before .before .before .before .before .before .before .if1 .taken) (c .before .before .before .before .before .before .before .before .before .if2 .taken) (c .before .before .before .before .before .before .before .if3 .taken) (c .before .before .before .before .array .ensures)
 
--- src/lib.rt:217:34
 value-add-object : (t : ℕ) → value-lts.Need-add-object (
   array-below t,
   array.Post,
@@ -2011,7 +1947,6 @@ value-add-object : (t : ℕ) → value-lts.Need-add-object (
 ) (value-at t) value.Post
 value-add-object t c = omega (arith, c .before .before .before .before .if1 .taken)
 
--- src/lib.rt:217:42
 value-sub-object : (t : ℕ) → value-lts.Need-sub-object (
   array-below t,
   array.Post,
@@ -2022,7 +1957,6 @@ value-sub-object : (t : ℕ) → value-lts.Need-sub-object (
 ) (value-at t) value.Post
 value-sub-object t c = omega (arith, c .before .before .before .if2 .taken)
 
--- src/lib.rt:217:17
 value-object-requires : (t : ℕ) → value-lts.Need-object-requires (
   array-below t,
   array.Post,
@@ -2035,7 +1969,6 @@ value-object-requires t c κs =
     let b = c .before .before .before .before .before .before .before .before .before .before .pre in
     (omega (arith, b .0, c .before .before .before .before .before .if2 .taken), (record { within = omega (arith, c .before .before .before .before .before .before .if1 .taken); short = b .1 .short; enough = omega (arith, b .1 .enough); sorting = b .1 .sorting }, omega (arith, b .1 .enough)))
 
--- src/lib.rt:217:17
 value-same-length-3 : (t : ℕ) → value-lts.Need-same-length-3 (
   array-below t,
   array.Post,
@@ -2046,7 +1979,6 @@ value-same-length-3 : (t : ℕ) → value-lts.Need-same-length-3 (
 ) (value-at t) value.Post
 value-same-length-3 t c = c .before .before .before .before .object .kept .1 .1 .1 .0
 
--- src/lib.rt:217:17
 value-same-length-4 : (t : ℕ) → value-lts.Need-same-length-4 (
   array-below t,
   array.Post,
@@ -2057,7 +1989,6 @@ value-same-length-4 : (t : ℕ) → value-lts.Need-same-length-4 (
 ) (value-at t) value.Post
 value-same-length-4 t c = c .before .before .before .before .object .kept .1 .1 .1 .1 .0
 
--- src/lib.rt:217:17
 value-returns-2 : (t : ℕ) → value-lts.Need-returns-2 (
   array-below t,
   array.Post,
@@ -2066,9 +1997,8 @@ value-returns-2 : (t : ℕ) → value-lts.Need-returns-2 (
   scalar-reads.Asked,
   scalar-reads.Learnt,
 ) (value-at t) value.Post
-value-returns-2 t c = is-object _ _ _ _ (c .before .before .before .before .before .before .before .before .before .before .before .if1 .taken) (c .before .before .before .before .before .before .before .before .before .before .if2 .taken) (c .before .before .before .before .before .before .before .if4 .taken) (c .before .before .before .before .object .ensures)
+value-returns-2 t c = is-object _ _ _ _ (c .before .before .before .before .before .before .before .before .before .before .before .if1 .taken) (c .before .before .before .before .before .before .before .before .before .before .if2 .taken) (c .before .before .before .before .before .before .before .if4 .taken) (c .before .before .before .before .object .ensures .0)
 
--- src/lib.rt:221:5
 value-scalar-requires : (t : ℕ) → value-lts.Need-scalar-requires (
   array-below t,
   array.Post,
@@ -2079,7 +2009,6 @@ value-scalar-requires : (t : ℕ) → value-lts.Need-scalar-requires (
 ) (value-at t) value.Post
 value-scalar-requires t c κs = c .before .before .before .before .pre .1 .within
 
--- src/lib.rt:206:1
 value-returns-3 : (t : ℕ) → value-lts.Need-returns-3 (
   array-below t,
   array.Post,

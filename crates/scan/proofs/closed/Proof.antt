@@ -24,7 +24,11 @@ same-length-2 c = search needs
 returns : tie.Need-returns
 returns c =
     let a = c .before .before .before .before .before .before .before .before .before .before .before .args in
-    ap (λ (k : ℕ). Value (record { end = a .end; sum = record { string = a .sum .string; number = a .sum .number; key = k; size = a .sum .size } })) (c .larger .ensures ∙ ap (λ (k : ℕ). max k (a .sum .key)) (c .before .before .before .before .before .order-keys .ensures .1))
+    let o = c .before .before .before .before .before .order-keys in
+    let key = c .larger .ensures ∙ ap (λ (k : ℕ). max k (a .sum .key)) (o .ensures .1) in (
+      λ i. Value (record { end = a .end; count = o .kept .1 .0 i; sum = record { string = a .sum .string; number = a .sum .number; key = key i; size = a .sum .size } }),
+      o .ensures .0,
+    )
 
 pub closed-spec : {M : Type 1} → statement M
 closed-spec =

@@ -1,27 +1,29 @@
+-- `text::canonical` meets its contract. Assumes nothing.
+use borrow.Author.Needs.{needs}
 use mathlib.Core.Path.{sym, _∙_}
 use native.Mathlib.Omega.{arith}
 use denote.Ref.{now}
 use Rattle.text.proofs.Outcome.{refused-number, refused-positive, refused-length, refused-bytes, accepted-number, accepted-size, too-small, done-number, done-length, done-bytes}
-use borrow.Author.Needs.{needs}
 use Rattle.text.proofs.canonical.Statement.{statement}
 use Rattle.text.proofs.canonical.Tie as tie
-use Rattle.text.proofs.canonical.Reads as reads
-use Rattle.text.proofs.canonical.Lts as lts
-use Rattle.text.proofs.check.Reads as check-reads
-use Rattle.text.proofs.refused.Reads as refused-reads
-use Rattle.text.proofs.write_form.Reads as write-form-reads
 
-check-requires : tie.Need-check-requires
-check-requires c κs = search needs
+slice-aggregate-check-with : tie.Need-slice-aggregate-check-with
+slice-aggregate-check-with c = search needs
 
-enum-known-number : tie.Need-enum-known-number
-enum-known-number c = search needs
+slice-aggregate-check-with-2 : tie.Need-slice-aggregate-check-with-2
+slice-aggregate-check-with-2 c = search needs
+
+check-with-requires : tie.Need-check-with-requires
+check-with-requires c κs = record { enough = omega arith; sorting = omega arith }
+
+enum-known-answer : tie.Need-enum-known-answer
+enum-known-answer c = search needs
 
 refused-requires : tie.Need-refused-requires
 refused-requires c κs = search needs
 
-enum-known-size : tie.Need-enum-known-size
-enum-known-size c = search needs
+enum-known-answer-2 : tie.Need-enum-known-answer-2
+enum-known-answer-2 c = search needs
 
 refused-requires-2 : tie.Need-refused-requires-2
 refused-requires-2 c κs = search needs
@@ -31,48 +33,73 @@ same-length c = search needs
 
 returns : tie.Need-returns
 returns c =
-    let e = (sym (c .before .before .before .before .before .before .before .before .check .ensures) ∙ c .before .before .before .before .before .before .size .given .1) in
+    let s = now (c .before .before .before .before .before .before .before .before .before .before .before .before .before .before .before .args .text) in
+    let out = now (c .before .before .before .before .before .before .before .before .before .before .before .before .before .before .before .args .out) in
+    let e = sym (c .before .before .before .before .before .before .before .before .before .before .check-with .ensures .0) ∙ c .before .before .before .before .before .before .answer2 .given .1 in
     let r = c .before .before .refused2 .ensures in
-    let n = too-small (now (c .before .before .before .before .before .before .before .before .before .before .before .args .text)) (now (c .before .before .before .before .before .before .before .before .before .before .before .args .out)) _ e (c .before .before .before .before .if1 .taken) in
-    (r .0 .0 ∙ n, (r .0 .1 ∙ refused-length (now (c .before .before .before .before .before .before .before .before .before .before .before .args .text)) (now (c .before .before .before .before .before .before .before .before .before .before .before .args .out)) 20 (omega arith) n, r .1 ∙ refused-bytes (now (c .before .before .before .before .before .before .before .before .before .before .before .args .text)) (now (c .before .before .before .before .before .before .before .before .before .before .before .args .out)) 20 (omega arith) n))
+    let n = too-small s out _ e (c .before .before .before .before .if1 .taken) in
+    (r .0 .0 ∙ n, (r .0 .1 ∙ refused-length s out 20 (omega arith) n, r .1 ∙ refused-bytes s out 20 (omega arith) n))
+
+slice-aggregate-write-form : tie.Need-slice-aggregate-write-form
+slice-aggregate-write-form c = search needs
+
+slice-aggregate-write-form-2 : tie.Need-slice-aggregate-write-form-2
+slice-aggregate-write-form-2 c = search needs
 
 write-form-requires : tie.Need-write-form-requires
 write-form-requires c κs =
-    let e = (sym (c .before .before .before .before .before .check .ensures) ∙ c .before .before .before .size .given .1) in
-    (accepted-number (now (c .before .before .before .before .before .before .before .before .args .text)) (now (c .before .before .before .before .before .before .before .before .args .out)) _ e, omega (arith, accepted-size (now (c .before .before .before .before .before .before .before .before .args .text)) (now (c .before .before .before .before .before .before .before .before .args .out)) _ e, c .before .if1 .left))
+    let s = now (c .before .before .before .before .before .before .before .before .before .before .before .before .before .before .args .text) in
+    let out = now (c .before .before .before .before .before .before .before .before .before .before .before .before .before .before .args .out) in
+    let k = c .before .before .before .before .before .before .before .before .before .check-with in
+    let g = c .before .before .before .before .before .answer2 .given .1 in
+    let e = sym (k .ensures .0) ∙ g in
+    record {
+      taken = accepted-number s out _ e;
+      fits = omega (arith, accepted-size s out _ e, c .before .before .before .if1 .left);
+      room = record { enough = omega (arith, k .kept .1 .0); sorting = omega (arith, k .kept .1 .0, k .kept .1 .1 .0) };
+      sorted = rw g at (k .ensures .1);
+    }
 
 same-length-2 : tie.Need-same-length-2
 same-length-2 c = search needs
 
 returns-2 : tie.Need-returns-2
 returns-2 c =
-    let e = sym (c .before .before .before .before .before .before .before .check .ensures) ∙ c .before .before .before .before .before .number .given .1 in
+    let s = now (c .before .before .before .before .before .before .before .before .before .before .before .before .before .before .args .text) in
+    let out = now (c .before .before .before .before .before .before .before .before .before .before .before .before .before .before .args .out) in
+    let e = sym (c .before .before .before .before .before .before .before .before .before .check-with .ensures .0) ∙ c .before .before .before .before .before .answer .given .1 in
     let r = c .before .before .refused .ensures in
-    let n = refused-number (now (c .before .before .before .before .before .before .before .before .before .before .args .text)) (now (c .before .before .before .before .before .before .before .before .before .before .args .out)) _ _ e in
-    let h = refused-positive (now (c .before .before .before .before .before .before .before .before .before .before .args .text)) (now (c .before .before .before .before .before .before .before .before .before .before .args .out)) _ _ e in
-    (r .0 .0 ∙ n, (r .0 .1 ∙ refused-length (now (c .before .before .before .before .before .before .before .before .before .before .args .text)) (now (c .before .before .before .before .before .before .before .before .before .before .args .out)) _ h n, r .1 ∙ refused-bytes (now (c .before .before .before .before .before .before .before .before .before .before .args .text)) (now (c .before .before .before .before .before .before .before .before .before .before .args .out)) _ h n))
+    let n = refused-number s out _ _ e in
+    let h = refused-positive s out _ _ e in
+    (r .0 .0 ∙ n, (r .0 .1 ∙ refused-length s out _ h n, r .1 ∙ refused-bytes s out _ h n))
 
 same-length-3 : tie.Need-same-length-3
 same-length-3 c = search needs
 
 returns-3 : tie.Need-returns-3
 returns-3 c =
-    let e = (sym (c .before .before .before .before .before .before .before .before .check .ensures) ∙ c .before .before .before .before .before .before .size .given .1) in
-    let h = c .before .before .before .before .if1 .left in
-    let r = c .before .before .write-form .ensures in
-    (r .0 .0 ∙ done-number (now (c .before .before .before .before .before .before .before .before .before .before .before .args .text)) (now (c .before .before .before .before .before .before .before .before .before .before .before .args .out)) _ e h, (r .0 .1 ∙ done-length (now (c .before .before .before .before .before .before .before .before .before .before .before .args .text)) (now (c .before .before .before .before .before .before .before .before .before .before .before .args .out)) _ e h, r .1 ∙ done-bytes (now (c .before .before .before .before .before .before .before .before .before .before .before .args .text)) (now (c .before .before .before .before .before .before .before .before .before .before .before .args .out)) _ e h))
+    let s = now (c .before .before .before .before .before .before .before .before .before .before .before .before .before .before .before .before .before .before .before .args .text) in
+    let out = now (c .before .before .before .before .before .before .before .before .before .before .before .before .before .before .before .before .before .before .before .args .out) in
+    let e = sym (c .before .before .before .before .before .before .before .before .before .before .before .before .before .before .check-with .ensures .0) ∙ c .before .before .before .before .before .before .before .before .before .before .answer2 .given .1 in
+    let h = c .before .before .before .before .before .before .before .before .if1 .left in
+    let r = c .before .before .before .before .write-form .ensures in
+    (r .0 .0 ∙ done-number s out _ e h, (r .0 .1 ∙ done-length s out _ e h, r .1 ∙ done-bytes s out _ e h))
 
 pub canonical-spec : {M : Type 1} → statement M
 canonical-spec =
     tie.close
     (tie.spec
-    check-requires
-    enum-known-number
+    slice-aggregate-check-with
+    slice-aggregate-check-with-2
+    check-with-requires
+    enum-known-answer
     refused-requires
-    enum-known-size
+    enum-known-answer-2
     refused-requires-2
     same-length
     returns
+    slice-aggregate-write-form
+    slice-aggregate-write-form-2
     write-form-requires
     same-length-2
     returns-2

@@ -12,7 +12,7 @@ use lib.ListN.{length, drop}
 use Rattle.json.specs.Read.{readChars, char, escape, stuck}
 use Rattle.json.specs.Measure.{measure, add}
 use Rattle.json.proofs.CharSteps.{chars-end, char-close, char-escape, char-plain, char-control}
-use Rattle.json.proofs.Plain.{plain-run, add-plain}
+use Rattle.json.proofs.Plain.{plain-run, add-plain, end-fits}
 use Rattle.json.proofs.Weights.{add-add, add-none, add-close, add-stuck, measure-plain, scans-token, scans-none}
 use Rattle.json.proofs.string.chars.Statement.{statement}
 use Rattle.json.proofs.string.chars.Tie as tie
@@ -107,17 +107,23 @@ add-next c = omega arith
 plain-end-requires : tie.Need-plain-end-requires Inv-loop μ-loop
 plain-end-requires c κs = omega arith
 
+-- what was passed ends in the text
+passed : (c : tie.After-plain-end Inv-loop μ-loop) → c .plain-end .result ≤ length (text (c .before .before .before .before .before .before))
+passed c =
+    let l = c .before .before .before .before .before .before in
+    rw (c .plain-end .ensures) (end-fits (text l) (l .loop .i + 1) (omega arith))
+
 sub-size : tie.Need-sub-size Inv-loop μ-loop
-sub-size c = c .plain-end .ensures .up
+sub-size c = omega (arith, c .plain-end .ensures)
 
 add-size-2 : tie.Need-add-size-2 Inv-loop μ-loop
-add-size-2 c = omega (arith, c .plain-end .ensures .up, c .plain-end .ensures .fits)
+add-size-2 c = let fits = passed c in omega (arith, c .plain-end .ensures)
 
 add-size-3 : tie.Need-add-size-3 Inv-loop μ-loop
-add-size-3 c = omega (arith, c .plain-end .ensures .up, c .plain-end .ensures .fits)
+add-size-3 c = let fits = passed c in omega (arith, c .plain-end .ensures)
 
 loop-less-2 : tie.Need-loop-less-2 Inv-loop μ-loop
-loop-less-2 c = omega (arith, c .plain-end .ensures .up)
+loop-less-2 c = omega (arith, c .plain-end .ensures)
 
 loop-again-2 : tie.Need-loop-again-2 Inv-loop μ-loop
 loop-again-2 c =
@@ -129,9 +135,9 @@ loop-again-2 c =
     let read = char-plain (text l) (l .loop .i) (else1 .before .before .loop-test .taken) q e (else3 .if3 .left) in
     let p = c .plain-end .ensures in
     let r = c .plain-end .result in (
-      omega (arith, p .up),
-      p .fits,
-      omega (arith, p .up),
+      omega (arith, p),
+      passed c,
+      omega (arith, p),
       passes l r _ _
           (ap measure read
           ∙ measure-plain _ _ q e (else3 .if3 .left)

@@ -8,7 +8,7 @@ skip-spaces-requires : tie.Need-skip-spaces-requires
 skip-spaces-requires c κs = search needs
 
 returns : tie.Need-returns
-returns c = λ d t p. root-at _ d _ t (c .skip-spaces .ensures .1 .1) p
+returns c = let e = c .skip-spaces .ensures .1 in (λ d t p. root-at _ d _ t (e .1) p, e)
 
 pub root-spec : {M : Type 1} → statement M
 root-spec = tie.close (tie.spec skip-spaces-requires returns)

@@ -1,4 +1,4 @@
--- The cycle of `write_value`, `write_array`, `write_object` and `write_member`: each meets its contract. The measure goes by the depth.
+-- The cycle of `write_value`, `write_array`, `write_object`, `write_members` and `write_member`: each meets its contract. The measure goes by the depth.
 -- Both loops keep that what is written, with what is left, is the canonical form of the whole. Assumes nothing.
 use borrow.Author.Needs.{needs}
 use Prim.Native.Nat.{ℕ, _+_, _-_, _*_, _≤_, _<_}
@@ -20,16 +20,19 @@ use Rattle.canonical.proofs.Objects
 use Rattle.canonical.proofs.MemberParts
 use Rattle.canonical.proofs.write_array.Reads as write-array
 use Rattle.canonical.proofs.write_array.Kinds as write-array-kinds
-use Rattle.canonical.proofs.+write_array+write_member+write_object+write_value.Lts-write_array as write-array-lts
+use Rattle.canonical.proofs.+write_array+write_member+write_members+write_object+write_value.Lts-write_array as write-array-lts
 use Rattle.canonical.proofs.write_member.Reads as write-member
 use Rattle.canonical.proofs.write_member.Kinds as write-member-kinds
-use Rattle.canonical.proofs.+write_array+write_member+write_object+write_value.Lts-write_member as write-member-lts
+use Rattle.canonical.proofs.+write_array+write_member+write_members+write_object+write_value.Lts-write_member as write-member-lts
+use Rattle.canonical.proofs.write_members.Reads as write-members
+use Rattle.canonical.proofs.write_members.Kinds as write-members-kinds
+use Rattle.canonical.proofs.+write_array+write_member+write_members+write_object+write_value.Lts-write_members as write-members-lts
 use Rattle.canonical.proofs.write_object.Reads as write-object
 use Rattle.canonical.proofs.write_object.Kinds as write-object-kinds
-use Rattle.canonical.proofs.+write_array+write_member+write_object+write_value.Lts-write_object as write-object-lts
+use Rattle.canonical.proofs.+write_array+write_member+write_members+write_object+write_value.Lts-write_object as write-object-lts
 use Rattle.canonical.proofs.write_value.Reads as write-value
 use Rattle.canonical.proofs.write_value.Kinds as write-value-kinds
-use Rattle.canonical.proofs.+write_array+write_member+write_object+write_value.Lts-write_value as write-value-lts
+use Rattle.canonical.proofs.+write_array+write_member+write_members+write_object+write_value.Lts-write_value as write-value-lts
 use Rattle.canonical.proofs.separate.Reads as separate-reads
 use Rattle.canonical.proofs.sorted_keys.Reads as sorted-keys-reads
 use Rattle.canonical.proofs.write_scalar.Reads as write-scalar-reads
@@ -37,20 +40,23 @@ use Rattle.printer.proofs.write_string.Reads as write-string-reads
 use Rattle.view.proofs.value.item_value.Reads as item-value-reads
 use Rattle.view.proofs.value.kind.Reads as kind-reads
 use Rattle.view.proofs.value.read_item.Reads as read-item-reads
-use Rattle.canonical.proofs.+write_array+write_member+write_object+write_value.{statement}
-use Rattle.canonical.proofs.+write_array+write_member+write_object+write_value.Tie.{close}
+use Rattle.canonical.proofs.+write_array+write_member+write_members+write_object+write_value.{statement}
+use Rattle.canonical.proofs.+write_array+write_member+write_members+write_object+write_value.Tie.{close}
 
 abbrev μ-write-array : Measures 4 write-array-kinds.ps ℕ
-μ-write-array κs a = 3 * (a .1 .1 .0) + 1
+μ-write-array κs a = 4 * (a .1 .1 .0) + 1
 
 abbrev μ-write-member : Measures 4 write-member-kinds.ps ℕ
-μ-write-member κs a = 3 * (a .1 .1 .0) + 3
+μ-write-member κs a = 4 * (a .1 .1 .0) + 3
+
+abbrev μ-write-members : Measures 4 write-members-kinds.ps ℕ
+μ-write-members κs a = 4 * (a .1 .1 .0)
 
 abbrev μ-write-object : Measures 4 write-object-kinds.ps ℕ
-μ-write-object κs a = 3 * (a .1 .1 .0) + 1
+μ-write-object κs a = 4 * (a .1 .1 .0) + 1
 
 abbrev μ-write-value : Measures 4 write-value-kinds.ps ℕ
-μ-write-value κs a = 3 * (a .1 .1 .0) + 2
+μ-write-value κs a = 4 * (a .1 .1 .0) + 2
 
 abbrev write-array-at : ℕ → In 4 write-array-kinds.ps
 write-array-at t =
@@ -71,6 +77,18 @@ write-member-below t =
     write-member-kinds.ps
     (falls 4 write-member-kinds.ps _<_ μ-write-member t)
     write-member.Pre
+
+abbrev write-members-at : ℕ → In 4 write-members-kinds.ps
+write-members-at t =
+    and 4 write-members-kinds.ps (is 4 write-members-kinds.ps μ-write-members t) write-members.Pre
+
+abbrev write-members-below : ℕ → In 4 write-members-kinds.ps
+write-members-below t =
+    and
+    4
+    write-members-kinds.ps
+    (falls 4 write-members-kinds.ps _<_ μ-write-members t)
+    write-members.Pre
 
 abbrev write-object-at : ℕ → In 4 write-object-kinds.ps
 write-object-at t =
@@ -112,15 +130,11 @@ write-member-calls t = (
   write-value.Post,
 )
 
+abbrev write-members-calls : ℕ → write-members-lts.Claims
+write-members-calls t = (separate-reads.Asked, separate-reads.Learnt, write-member-below t, write-member.Post)
+
 abbrev write-object-calls : ℕ → write-object-lts.Claims
-write-object-calls t = (
-  sorted-keys-reads.Asked,
-  sorted-keys-reads.Learnt,
-  separate-reads.Asked,
-  separate-reads.Learnt,
-  write-member-below t,
-  write-member.Post,
-)
+write-object-calls t = (sorted-keys-reads.Asked, sorted-keys-reads.Learnt, write-members-below t, write-members.Post)
 
 abbrev write-value-calls : ℕ → write-value-lts.Claims
 write-value-calls t = (
@@ -358,61 +372,48 @@ write-member-returns t c =
     let b = d .before .before .before .before .before .before in
     MemberParts.completed (b .pre .1) _ _ (d .write-string .ensures) _ (i .item-value .ensures) _ _ (w .write-value .ensures)
 
-abbrev write-object-Inv-loop : write-object-lts.InvT-loop
-write-object-Inv-loop s at depth out₀ keys₀ spare₀ count n₀ i₀ out keys spare n i =
+abbrev write-members-Inv-loop : write-members-lts.InvT-loop
+write-members-Inv-loop s at depth count out₀ keys₀ spare₀ n₀ i₀ out keys spare n i =
     Objects.Progress s at depth out₀ keys₀ spare₀ out keys count n i × (i ≤ count) × (length spare ≡ length spare₀)
 
-abbrev write-object-μ-loop : write-object-lts.MeasureT-loop
-write-object-μ-loop s at depth out₀ keys₀ spare₀ count n₀ i₀ out keys spare n i = count - i
+abbrev write-members-μ-loop : write-members-lts.MeasureT-loop
+write-members-μ-loop s at depth count out₀ keys₀ spare₀ n₀ i₀ out keys spare n i = count - i
 
--- a need or a place of `write_object`, at the measure t
-abbrev In-object : ℕ → (write-object-lts.Claims → In 4 write-object-kinds.ps → Out 4 write-object-kinds.ps write-object-kinds.r
-    → write-object-lts.InvT-loop → write-object-lts.MeasureT-loop → Type 0) → Type 0
-In-object t F = F (write-object-calls t) (write-object-at t) write-object.Post write-object-Inv-loop write-object-μ-loop
+-- a need or a place of `write_members`, at the measure t
+abbrev In-members : ℕ → (write-members-lts.Claims → In 4 write-members-kinds.ps → Out 4 write-members-kinds.ps write-members-kinds.r
+    → write-members-lts.InvT-loop → write-members-lts.MeasureT-loop → Type 0) → Type 0
+In-members t F = F (write-members-calls t) (write-members-at t) write-members.Post write-members-Inv-loop write-members-μ-loop
 
-write-object-sorted-keys-requires : (t : ℕ) → In-object t write-object-lts.Need-sorted-keys-requires
-write-object-sorted-keys-requires t c κs = Objects.keys-room (c .before .before .before .before .before .before .pre .1)
+write-members-slice-write-out : (t : ℕ) → In-members t write-members-lts.Need-slice-write-out
+write-members-slice-write-out t c = Objects.mark-fits (c .before .before .before .before .pre .1)
 
-write-object-slice-write-out : (t : ℕ) → In-object t write-object-lts.Need-slice-write-out
-write-object-slice-write-out t c =
-    Objects.mark-fits (c .before .before .before .before .before .before .before .before .before .before .before .pre .1)
+write-members-loop-holds : (t : ℕ) → In-members t write-members-lts.Need-loop-holds
+write-members-loop-holds t c = (Objects.started (c .before .before .before .before .pre .1), omega arith, refl)
 
-write-object-loop-holds : (t : ℕ) → In-object t write-object-lts.Need-loop-holds
-write-object-loop-holds t c =
-    let k = c .before .before .before .before in
-    let f = k .sorted-keys in
-    let p = k .before .before .before .before .before .before .before .pre .1 in
-    (Objects.started p _ _ _ (f .kept .1 .1 .1 .0) (f .kept .1 .1 .1 .1 .0) (f .ensures), omega arith, refl)
+abbrev members-entry : (t : ℕ) → In-members t write-members-lts.At-loop → In-members t write-members-lts.Start
+members-entry t l = l .before .before .before .before .before
 
-abbrev object-entry : (t : ℕ) → In-object t write-object-lts.At-loop → In-object t write-object-lts.Start
-object-entry t l = l .before .before .before .before .before .before .before .before .before .before .before .before
-
--- the keys are as many as those that were lent
-keys-length : (t : ℕ) (l : In-object t write-object-lts.At-loop)
-    → length (l .loop .keys) ≡ length (now (object-entry t l .args .keys))
-keys-length t l = l .loop .inv .0 .same ∙ l .before .before .before .before .before .sorted-keys .kept .1 .1 .1 .0
-
-write-object-mul-key : (t : ℕ) → In-object t write-object-lts.Need-mul-key
-write-object-mul-key t c =
+write-members-mul-key : (t : ℕ) → In-members t write-members-lts.Need-mul-key
+write-members-mul-key t c =
     let l = c .before in
-    omega (arith, l .loop .inv .0 .within, keys-length t l, object-entry t l .good)
+    omega (arith, l .loop .inv .0 .within, l .loop .inv .0 .same, members-entry t l .good)
 
-write-object-slice-read-key : (t : ℕ) → In-object t write-object-lts.Need-slice-read-key
-write-object-slice-read-key t c = omega (arith, c .before .before .loop .inv .0 .within)
+write-members-slice-read-key : (t : ℕ) → In-members t write-members-lts.Need-slice-read-key
+write-members-slice-read-key t c = omega (arith, c .before .before .loop .inv .0 .within)
 
-write-object-cast-key : (t : ℕ) → In-object t write-object-lts.Need-cast-key
-write-object-cast-key t c = omega (arith, c .slice-known6 .given (c .before .before .loop .i))
+write-members-cast-key : (t : ℕ) → In-members t write-members-lts.Need-cast-key
+write-members-cast-key t c = omega (arith, c .slice-known4 .given (c .before .before .loop .i))
 
-write-object-separate-requires : (t : ℕ) → In-object t write-object-lts.Need-separate-requires
-write-object-separate-requires t c κs =
+write-members-separate-requires : (t : ℕ) → In-members t write-members-lts.Need-separate-requires
+write-members-separate-requires t c κs =
     let n = c .before .before in
     Objects.comma-fits (n .before .loop .inv .0) (n .loop-test .taken)
 
-write-object-sub-write-member : (t : ℕ) → In-object t write-object-lts.Need-sub-write-member
-write-object-sub-write-member t c = omega (arith, c .before .before .before .before .before .before .loop .inv .0 .some)
+write-members-sub-write-member : (t : ℕ) → In-members t write-members-lts.Need-sub-write-member
+write-members-sub-write-member t c = omega (arith, c .before .before .before .before .before .before .loop .inv .0 .some)
 
-write-object-sub-write-member-2 : (t : ℕ) → In-object t write-object-lts.Need-sub-write-member-2
-write-object-sub-write-member-2 t c =
+write-members-sub-write-member-2 : (t : ℕ) → In-members t write-members-lts.Need-sub-write-member-2
+write-members-sub-write-member-2 t c =
     let d = c .before .before in
     let n = d .before .before .before in
     let l = n .before in
@@ -420,60 +421,60 @@ write-object-sub-write-member-2 t c =
     let w = d .separate .ensures .1 _ _ (p .size) (p .written) in
     Objects.part-fits p (n .loop-test .taken) _ _ (d .separate .ensures .0) w
 
-write-object-part-write-member-start : (t : ℕ) → In-object t write-object-lts.Need-part-write-member-start
-write-object-part-write-member-start t c = write-object-sub-write-member-2 t c
+write-members-part-write-member-start : (t : ℕ) → In-members t write-members-lts.Need-part-write-member-start
+write-members-part-write-member-start t c = write-members-sub-write-member-2 t c
 
-write-object-part-write-member-end : (t : ℕ) → In-object t write-object-lts.Need-part-write-member-end
-write-object-part-write-member-end t c = search needs
+write-members-part-write-member-end : (t : ℕ) → In-members t write-members-lts.Need-part-write-member-end
+write-members-part-write-member-end t c = search needs
 
-write-object-mul-write-member : (t : ℕ) → In-object t write-object-lts.Need-mul-write-member
-write-object-mul-write-member t c =
+write-members-mul-write-member : (t : ℕ) → In-members t write-members-lts.Need-mul-write-member
+write-members-mul-write-member t c =
     let l = c .before .before .before .before .before .before .before in
-    omega (arith, l .loop .inv .0 .within, keys-length t l, object-entry t l .good)
+    omega (arith, l .loop .inv .0 .within, l .loop .inv .0 .same, members-entry t l .good)
 
-write-object-sub-write-member-3 : (t : ℕ) → In-object t write-object-lts.Need-sub-write-member-3
-write-object-sub-write-member-3 t c = c .before .before .before .before .before .before .before .loop .inv .0 .within
+write-members-sub-write-member-3 : (t : ℕ) → In-members t write-members-lts.Need-sub-write-member-3
+write-members-sub-write-member-3 t c = c .before .before .before .before .before .before .before .loop .inv .0 .within
 
-write-object-part-write-member-start-2 : (t : ℕ) → In-object t write-object-lts.Need-part-write-member-start-2
-write-object-part-write-member-start-2 t c = c .before .before .before .before .before .before .before .loop .inv .0 .within
+write-members-part-write-member-start-2 : (t : ℕ) → In-members t write-members-lts.Need-part-write-member-start-2
+write-members-part-write-member-start-2 t c = c .before .before .before .before .before .before .before .loop .inv .0 .within
 
-write-object-part-write-member-end-2 : (t : ℕ) → In-object t write-object-lts.Need-part-write-member-end-2
-write-object-part-write-member-end-2 t c = search needs
+write-members-part-write-member-end-2 : (t : ℕ) → In-members t write-members-lts.Need-part-write-member-end-2
+write-members-part-write-member-end-2 t c = search needs
 
-write-object-write-member-requires : (t : ℕ) → In-object t write-object-lts.Need-write-member-requires
-write-object-write-member-requires t c κs =
+write-members-write-member-requires : (t : ℕ) → In-members t write-members-lts.Need-write-member-requires
+write-members-write-member-requires t c κs =
     let d = c .before .before .before .before .before in
     let n = d .before .before .before in
     let l = n .before in
     let p = l .loop .inv .0 in
     let w = d .separate .ensures .1 _ _ (p .size) (p .written) in
     let e = Objects.member p (n .loop-test .taken) _ _ (d .separate .ensures .0) w in
-    (omega (arith, object-entry t l .pre .0, p .some), e _ (l .loop .inv .2))
+    (omega (arith, members-entry t l .pre .0, p .some), e _ (l .loop .inv .2))
 
-write-object-add-n : (t : ℕ) → In-object t write-object-lts.Need-add-n
-write-object-add-n t c =
+write-members-add-n : (t : ℕ) → In-members t write-members-lts.Need-add-n
+write-members-add-n t c =
     let e = c .before .before .before .before .before .before in
     let d = e .before .before .before .before .before .before in
     let n = d .before .before .before in
     let l = n .before in
     let p = l .loop .inv .0 in
-    let b = object-entry t l in
+    let b = members-entry t l in
     let w = d .separate .ensures .1 _ _ (p .size) (p .written) in
     let f = Objects.next-fits p (n .loop-test .taken) _ _ (d .separate .ensures .0) w _ _ (e .write-member .ensures) in
     omega (arith, f, length-set (now (b .args .out)) 0 0x7B, b .good)
 
-write-object-add-i : (t : ℕ) → In-object t write-object-lts.Need-add-i
-write-object-add-i t c =
+write-members-add-i : (t : ℕ) → In-members t write-members-lts.Need-add-i
+write-members-add-i t c =
     let l = c .before .before .before .before .before .before .before .before .before .before .before .before .before .before .before .before in
-    omega (arith, l .loop .inv .0 .within, keys-length t l, object-entry t l .good)
+    omega (arith, l .loop .inv .0 .within, l .loop .inv .0 .same, members-entry t l .good)
 
-write-object-loop-less : (t : ℕ) → In-object t write-object-lts.Need-loop-less
-write-object-loop-less t c =
+write-members-loop-less : (t : ℕ) → In-members t write-members-lts.Need-loop-less
+write-members-loop-less t c =
     let e = c .before .before .before .before .before .before in
     omega (arith, e .before .before .before .before .before .before .before .before .before .loop-test .taken)
 
-write-object-loop-again : (t : ℕ) → In-object t write-object-lts.Need-loop-again
-write-object-loop-again t c =
+write-members-loop-again : (t : ℕ) → In-members t write-members-lts.Need-loop-again
+write-members-loop-again t c =
     let e = c .before .before .before .before .before .before in
     let d = e .before .before .before .before .before .before in
     let n = d .before .before .before in
@@ -486,28 +487,54 @@ write-object-loop-again t c =
       m .kept .1 .1 .1 .1 .1 .0 ∙ l .loop .inv .2,
     )
 
-write-object-slice-write-out-2 : (t : ℕ) → In-object t write-object-lts.Need-slice-write-out-2
-write-object-slice-write-out-2 t c = Objects.end-fits (c .before .loop .inv .0) (c .loop-test .left)
+write-members-slice-write-out-2 : (t : ℕ) → In-members t write-members-lts.Need-slice-write-out-2
+write-members-slice-write-out-2 t c = Objects.end-fits (c .before .loop .inv .0) (c .loop-test .left)
 
-write-object-add-result : (t : ℕ) → In-object t write-object-lts.Need-add-result
-write-object-add-result t c =
+write-members-add-result : (t : ℕ) → In-members t write-members-lts.Need-add-result
+write-members-add-result t c =
     let p = c .before .loop .inv .0 in
-    let b = object-entry t (c .before) in
+    let b = members-entry t (c .before) in
     omega (arith, Objects.end-fits p (c .loop-test .left), Written.same-length (p .written), length-set (now (b .args .out)) 0 0x7B, b .good)
 
-write-object-same-length : (t : ℕ) → In-object t write-object-lts.Need-same-length
-write-object-same-length t c =
-    let b = object-entry t (c .before) in
+write-members-same-length : (t : ℕ) → In-members t write-members-lts.Need-same-length
+write-members-same-length t c =
+    let b = members-entry t (c .before) in
     simp length-set (Written.same-length (c .before .loop .inv .0 .written) ∙ length-set (now (b .args .out)) 0 0x7B)
 
+write-members-same-length-2 : (t : ℕ) → In-members t write-members-lts.Need-same-length-2
+write-members-same-length-2 t c = c .before .loop .inv .0 .same
+
+write-members-same-length-3 : (t : ℕ) → In-members t write-members-lts.Need-same-length-3
+write-members-same-length-3 t c = c .before .loop .inv .2
+
+write-members-returns : (t : ℕ) → In-members t write-members-lts.Need-returns
+write-members-returns t c = λ v h. from-mark _ 0x7B _ (Objects.finished (c .before .loop .inv .0) (c .loop-test .left) v h)
+
+-- a need or a place of `write_object`, at the measure t
+abbrev In-object : ℕ → (write-object-lts.Claims → In 4 write-object-kinds.ps → Out 4 write-object-kinds.ps write-object-kinds.r → Type 0) → Type 0
+In-object t F = F (write-object-calls t) (write-object-at t) write-object.Post
+
+write-object-sorted-keys-requires : (t : ℕ) → In-object t write-object-lts.Need-sorted-keys-requires
+write-object-sorted-keys-requires t c κs = Objects.keys-room (c .before .before .before .before .before .before .pre .1)
+
+write-object-write-members-requires : (t : ℕ) → In-object t write-object-lts.Need-write-members-requires
+write-object-write-members-requires t c κs =
+    let k = c .before .before .before .before .before .before .before in
+    let f = k .sorted-keys in
+    let b = k .before .before .before .before .before .before .before in
+    (omega (arith, b .pre .0), Objects.keys-given (b .pre .1) _ _ _ (f .kept .1 .1 .1 .0) (f .kept .1 .1 .1 .1 .0) (f .ensures))
+
+write-object-same-length : (t : ℕ) → In-object t write-object-lts.Need-same-length
+write-object-same-length t c = search needs
+
 write-object-same-length-2 : (t : ℕ) → In-object t write-object-lts.Need-same-length-2
-write-object-same-length-2 t c = keys-length t (c .before)
+write-object-same-length-2 t c = search needs
 
 write-object-same-length-3 : (t : ℕ) → In-object t write-object-lts.Need-same-length-3
-write-object-same-length-3 t c = c .before .loop .inv .2 ∙ c .before .before .before .before .before .before .sorted-keys .kept .1 .1 .1 .1 .0
+write-object-same-length-3 t c = search needs
 
 write-object-returns : (t : ℕ) → In-object t write-object-lts.Need-returns
-write-object-returns t c = λ v h. from-mark _ 0x7B _ (Objects.finished (c .before .loop .inv .0) (c .loop-test .left) v h)
+write-object-returns t c = c .before .before .before .before .before .before .write-members .ensures
 
 -- a need or a place of `write_value`, at the measure t
 abbrev In-value : ℕ → (write-value-lts.Claims → In 4 write-value-kinds.ps → Out 4 write-value-kinds.ps write-value-kinds.r → Type 0) → Type 0
@@ -588,9 +615,9 @@ write-value-same-length-7 t c = search needs
 write-value-returns-3 : (t : ℕ) → In-value t write-value-lts.Need-returns-3
 write-value-returns-3 t c = c .before .before .write-scalar .ensures _
 
-pub +write-array+write-member+write-object+write-value-spec : {M : Type 1} → statement M
-+write-array+write-member+write-object+write-value-spec =
-    close μ-write-array μ-write-member μ-write-object μ-write-value (λ t. write-array-lts.spec (write-array-calls t) (write-array-at t)
+pub +write-array+write-member+write-members+write-object+write-value-spec : {M : Type 1} → statement M
++write-array+write-member+write-members+write-object+write-value-spec =
+    close μ-write-array μ-write-member μ-write-members μ-write-object μ-write-value (λ t. write-array-lts.spec (write-array-calls t) (write-array-at t)
     write-array.Post
     write-array-Inv-loop
     write-array-μ-loop
@@ -631,32 +658,39 @@ pub +write-array+write-member+write-object+write-value-spec : {M : Type 1} → s
     (write-member-same-length-2 t)
     (write-member-same-length-3 t)
     (write-member-returns t))
+    (λ t. write-members-lts.spec (write-members-calls t) (write-members-at t)
+    write-members.Post
+    write-members-Inv-loop
+    write-members-μ-loop
+    (write-members-slice-write-out t)
+    (write-members-loop-holds t)
+    (write-members-mul-key t)
+    (write-members-slice-read-key t)
+    (write-members-cast-key t)
+    (write-members-separate-requires t)
+    (write-members-sub-write-member t)
+    (write-members-sub-write-member-2 t)
+    (write-members-part-write-member-start t)
+    (write-members-part-write-member-end t)
+    (write-members-mul-write-member t)
+    (write-members-sub-write-member-3 t)
+    (write-members-part-write-member-start-2 t)
+    (write-members-part-write-member-end-2 t)
+    (write-members-write-member-requires t)
+    (write-members-add-n t)
+    (write-members-add-i t)
+    (write-members-loop-less t)
+    (write-members-loop-again t)
+    (write-members-slice-write-out-2 t)
+    (write-members-add-result t)
+    (write-members-same-length t)
+    (write-members-same-length-2 t)
+    (write-members-same-length-3 t)
+    (write-members-returns t))
     (λ t. write-object-lts.spec (write-object-calls t) (write-object-at t)
     write-object.Post
-    write-object-Inv-loop
-    write-object-μ-loop
     (write-object-sorted-keys-requires t)
-    (write-object-slice-write-out t)
-    (write-object-loop-holds t)
-    (write-object-mul-key t)
-    (write-object-slice-read-key t)
-    (write-object-cast-key t)
-    (write-object-separate-requires t)
-    (write-object-sub-write-member t)
-    (write-object-sub-write-member-2 t)
-    (write-object-part-write-member-start t)
-    (write-object-part-write-member-end t)
-    (write-object-mul-write-member t)
-    (write-object-sub-write-member-3 t)
-    (write-object-part-write-member-start-2 t)
-    (write-object-part-write-member-end-2 t)
-    (write-object-write-member-requires t)
-    (write-object-add-n t)
-    (write-object-add-i t)
-    (write-object-loop-less t)
-    (write-object-loop-again t)
-    (write-object-slice-write-out-2 t)
-    (write-object-add-result t)
+    (write-object-write-members-requires t)
     (write-object-same-length t)
     (write-object-same-length-2 t)
     (write-object-same-length-3 t)

@@ -1,0 +1,33 @@
+-- The arrays for the keys of a text's objects, and the keys that the checking of a text leaves in them for the writing of its form.
+use Prim.Native.Nat.{ℕ, _≤_}
+use mathlib.Core.Path.{_≡_}
+use mathlib.Core.List.{List}
+use lib.ListN.{length}
+use Rattle.json.specs.Read.{readText}
+use Rattle.scan.specs.Scanned.{KeysOf}
+use Rattle.text.specs.Question.{textNumber}
+use Rattle.text.specs.Answer.{form}
+use Rattle.text.specs.declared.Checked.{Checked}
+use Rattle.text.specs.declared.Checked.the-variants.{Accepted, Refused}
+use Rattle.text.specs.declared.Known.{Known}
+
+-- room for the keys of any text that is not too long
+pub record KeyRoom (keys spare : List ℕ) : Type 0 where
+  pub enough : 4096 ≤ length keys
+  pub sorting : length keys ≤ length spare
+
+-- where a text is taken: if its value is an object, n keys are left that are its own, sorted
+abbrev pub RootKeys : List ℕ → Checked → ℕ → List ℕ → Type 0
+RootKeys s (Accepted m) n keys = KeysOf s (readText 8 s) n keys
+RootKeys s (Refused k at) n keys = Unit {0}
+
+-- what is known of a text that is refused
+abbrev pub refusedText : ℕ → ℕ → Known
+refusedText k at = record { answer = Refused k at; count = 0 }
+
+-- a text that is taken, with room for its form, and the n keys that checking it left
+pub record FormReady (s : List ℕ) (n : ℕ) (out keys spare : List ℕ) : Type 0 where
+  pub taken : textNumber s ≡ 0
+  pub fits : length (form s) ≤ length out
+  pub room : KeyRoom keys spare
+  pub sorted : KeysOf s (readText 8 s) n keys
