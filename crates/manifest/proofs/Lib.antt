@@ -1,0 +1,13 @@
+pub mod Among
+pub mod Counting
+pub mod Different
+pub mod Entries
+pub mod Finding
+pub mod Forming
+pub mod Kinded
+pub mod Names
+pub mod Numbers
+pub mod Objects
+pub mod Ruling
+pub mod Tallying
+pub mod Versions

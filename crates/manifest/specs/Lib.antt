@@ -1,0 +1,9 @@
+pub mod Accessors
+pub mod Entries
+pub mod Fields
+pub mod Founds
+pub mod Members
+pub mod Numbers
+pub mod Questions
+pub mod Rules
+pub mod Tallies

@@ -1,0 +1,38 @@
+// Reads manifests from standard input, one to a line, and prints the number that each gets by questions 1 to 8: the lowest that applies.
+// Aliases that stand twice in one group are not asked for here.
+use text::Checked;
+
+fn number_of(s: &[u8]) -> usize {
+    match text::check(s) {
+        Checked::Refused(number, _) => number,
+        Checked::Accepted(_) => {
+            let at = view::value::root(s);
+            if !manifest::rule::is_well_fielded(s, at, 8) {
+                return 7;
+            }
+            if !manifest::form::is_well_formed(s, at) {
+                return 8;
+            }
+            0
+        }
+    }
+}
+
+fn show_all(s: &[u8]) {
+    let mut start = 0;
+    let mut i = 0;
+    while i < s.len() {
+        if s[i] == b'\n' {
+            io::print_decimal(1, number_of(&s[start..i]) as u64);
+            io::write_all(1, b"\n");
+            start = i + 1;
+        }
+        i += 1;
+    }
+}
+
+fn main() {
+    let mut buffer = io::large_buffer();
+    let n = io::read_full(0, &mut buffer);
+    show_all(&buffer[..n]);
+}

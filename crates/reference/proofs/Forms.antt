@@ -1,0 +1,159 @@
+-- What the definitions of algorithms, digests, aliases, layer references, rules and Image IDs say, case by case.
+-- Assumes nothing.
+use Prim.Native.Nat.{ℕ, _≤_, _<_}
+use mathlib.Core.Path.{_≡_, refl, ap, sym, _∙_}
+use mathlib.Core.List.{List, [], _∷_}
+use mathlib.Core.Bool.{Bool, true, false, not, _&&_, and-false}
+use native.Mathlib.Omega.{arith}
+use lib.Dec.{leb, eqb}
+use lib.ListN.{length}
+use borrow.Author.Tests.{le-leb, lt-leb, eq-eqb, ne-eqb}
+use Rattle.laws.specs.Order.{same}
+use Rattle.json.specs.Measure.{every}
+use Rattle.reference.specs.Algorithms.{hexDigits, nameOf, named}
+use Rattle.reference.specs.Aliases.{star, isReserved, isDigestLength, isNameLength, isAlias}
+use Rattle.reference.specs.Digests.{isLowerHex, isDigest}
+use Rattle.reference.specs.Parts.{isDivided, firstPart, parts}
+use Rattle.reference.specs.Readings.{Counts}
+use Rattle.reference.specs.References.{Layer, no-layer, digestLayer, aliasLayer, signerWord, layerOf, layer, Rule, no-rule, ruleUnder, ruleOf, rule, Id, no-id, idUnder, idOf, imageId}
+use Rattle.reference.specs.declared.algorithm.Algorithm.{Algorithm}
+use Rattle.reference.specs.declared.algorithm.Algorithm.the-variants.{Sha224, Sha256, Sha384}
+use Rattle.reference.specs.declared.algorithm.Known.{Known}
+use Rattle.reference.specs.declared.algorithm.Known.the-variants.{Is, Unknown}
+use Rattle.reference.specs.declared.part.Part.{Part}
+use Rattle.reference.proofs.Parts.{some-part}
+use Rattle.reference.proofs.Counting.{first-undivided}
+
+-- algorithms by name
+module _ (h : List ℕ) where
+  pub named-first : same h (nameOf Sha224) ≡ true → named h ≡ Is Sha224
+  unfolding named
+  named-first e = rw (e, named)
+
+  module _ (e : same h (nameOf Sha224) ≡ false) where
+    pub named-second : same h (nameOf Sha256) ≡ true → named h ≡ Is Sha256
+    unfolding named
+    named-second f = rw (e, named) (rw f)
+
+    module _ (f : same h (nameOf Sha256) ≡ false) where
+      pub named-third : same h (nameOf Sha384) ≡ true → named h ≡ Is Sha384
+      unfolding named
+      named-third g = rw (e, named) (rw f (rw g))
+
+      pub named-none : same h (nameOf Sha384) ≡ false → named h ≡ Unknown
+      unfolding named
+      named-none g = rw (e, named) (rw f (rw g))
+
+-- a digest by what is counted of it
+pub digest-counted : (a : Algorithm) (c : List ℕ) (p : Part) → Counts c p → (eqb (p .length) (hexDigits a) && p .hex) ≡ isDigest a (firstPart c)
+unfolding isDigest
+digest-counted a c p k = rw (k .size, k .hex)
+
+-- lengths of names
+module _ (n : ℕ) (hex : Bool) where
+  pub no-bytes : n < 1 → isNameLength n hex ≡ false
+  unfolding isNameLength
+  no-bytes h = rw (lt-leb _ _ h)
+
+  pub too-many : 1 ≤ n → 255 < n → isNameLength n hex ≡ false
+  unfolding isNameLength
+  too-many l h = rw (le-leb _ _ l, lt-leb _ _ h)
+
+  pub some-bytes : 1 ≤ n → n ≤ 255 → isNameLength n hex ≡ not (hex && isDigestLength n)
+  unfolding isNameLength
+  some-bytes l h = rw (le-leb _ _ l, le-leb _ _ h)
+
+-- an alias by what is counted of it
+module _ (c : List ℕ) (p : Part) (k : Counts c p) where
+  pub alias-length : isNameLength (p .length) (p .hex) ≡ true → not (isReserved (firstPart c)) ≡ isAlias (firstPart c)
+  unfolding isAlias
+  alias-length e = rw (← k .size, ← k .hex, e, first-undivided c)
+
+  pub no-alias-length : isNameLength (p .length) (p .hex) ≡ false → isAlias (firstPart c) ≡ false
+  unfolding isAlias
+  no-alias-length e = rw (← k .size, ← k .hex, e)
+
+pub divided-alias : (c : List ℕ) → isDivided c ≡ true → isAlias c ≡ false
+unfolding isAlias
+divided-alias c e = rw (e, and-false)
+
+-- layer references by their parts
+module _ (c : List ℕ) where
+  pub layer-one : parts c ≡ c ∷ [] → layer c ≡ no-layer
+  unfolding layer layerOf
+  layer-one e = rw (e, layer)
+
+  pub layer-two : (h d : List ℕ) → parts c ≡ h ∷ d ∷ [] → layer c ≡ digestLayer (named h) d
+  unfolding layer layerOf
+  layer-two h d e = rw (e, layer)
+
+  pub layer-three : (w h s : List ℕ) → parts c ≡ w ∷ h ∷ s ∷ [] → layer c ≡ no-layer
+  unfolding layer layerOf
+  layer-three w h s e = rw (e, layer)
+
+  pub layer-four : (w h s n : List ℕ) → parts c ≡ w ∷ h ∷ s ∷ n ∷ [] → layer c ≡ aliasLayer (same w signerWord) (named h) s n
+  unfolding layer layerOf
+  layer-four w h s n e = rw (e, layer)
+
+  pub layer-five : (w h s n d : List ℕ) → parts c ≡ w ∷ h ∷ s ∷ n ∷ parts d → layer c ≡ no-layer
+  unfolding layer layerOf
+  layer-five w h s n d e =
+      let q = some-part d in
+      rw (e ∙ ap (λ (x : List (List ℕ)). w ∷ h ∷ s ∷ n ∷ x) (q .2), layer)
+
+-- rules and Image IDs by their parts
+module _ (c : List ℕ) where
+  pub rule-one : parts c ≡ c ∷ [] → rule c ≡ no-rule
+  unfolding rule ruleOf
+  rule-one e = rw (e, rule)
+
+  pub rule-two : (h s : List ℕ) → parts c ≡ h ∷ s ∷ [] → rule c ≡ no-rule
+  unfolding rule ruleOf
+  rule-two h s e = rw (e, rule)
+
+  pub rule-three : (h s m : List ℕ) → parts c ≡ h ∷ s ∷ m ∷ [] → rule c ≡ ruleUnder (named h) s m
+  unfolding rule ruleOf
+  rule-three h s m e = rw (e, rule)
+
+  pub rule-four : (h s m d : List ℕ) → parts c ≡ h ∷ s ∷ m ∷ parts d → rule c ≡ no-rule
+  unfolding rule ruleOf
+  rule-four h s m d e =
+      let q = some-part d in
+      rw (e ∙ ap (λ (x : List (List ℕ)). h ∷ s ∷ m ∷ x) (q .2), rule)
+
+  pub id-one : parts c ≡ c ∷ [] → imageId c ≡ no-id
+  unfolding imageId idOf
+  id-one e = rw (e, imageId)
+
+  pub id-two : (h s : List ℕ) → parts c ≡ h ∷ s ∷ [] → imageId c ≡ no-id
+  unfolding imageId idOf
+  id-two h s e = rw (e, imageId)
+
+  pub id-three : (h s m : List ℕ) → parts c ≡ h ∷ s ∷ m ∷ [] → imageId c ≡ idUnder (named h) s m
+  unfolding imageId idOf
+  id-three h s m e = rw (e, imageId)
+
+  pub id-four : (h s m d : List ℕ) → parts c ≡ h ∷ s ∷ m ∷ parts d → imageId c ≡ no-id
+  unfolding imageId idOf
+  id-four h s m d e =
+      let q = some-part d in
+      rw (e ∙ ap (λ (x : List (List ℕ)). h ∷ s ∷ m ∷ x) (q .2), imageId)
+
+-- a number of digits that some digest has
+pub known-length : (k n r : ℕ) → r ≡ k → n ≡ r → isDigestLength k ≡ true → eqb n r ≡ isDigestLength n
+known-length k n r e f h = eq-eqb n r f ∙ sym (ap isDigestLength (f ∙ e) ∙ h)
+
+pub other-length : (n : ℕ) → (n ≡ hexDigits Sha224 → ⊥) → (n ≡ hexDigits Sha256 → ⊥) → (n ≡ hexDigits Sha384 → ⊥) → eqb n 128 ≡ isDigestLength n
+unfolding isDigestLength
+other-length n a b c = rw (ne-eqb n (hexDigits Sha224) a, ne-eqb n (hexDigits Sha256) b, ne-eqb n (hexDigits Sha384) c)
+
+pub lengths-known : (isDigestLength (hexDigits Sha224) ≡ true) × (isDigestLength (hexDigits Sha256) ≡ true) × (isDigestLength (hexDigits Sha384) ≡ true)
+unfolding isDigestLength
+lengths-known = (refl, refl, refl)
+
+-- a digest, by the test of its length
+pub digest-test : (a : Algorithm) (n r : ℕ) (hex : Bool) → r ≡ hexDigits a → n ≡ r → hex ≡ (eqb n (hexDigits a) && hex)
+digest-test a n r hex e f = rw (eq-eqb n (hexDigits a) (f ∙ e))
+
+pub no-digest-test : (a : Algorithm) (n r : ℕ) (hex : Bool) → r ≡ hexDigits a → (n ≡ r → ⊥) → false ≡ (eqb n (hexDigits a) && hex)
+no-digest-test a n r hex e f = rw (ne-eqb n (hexDigits a) (λ g. f (g ∙ sym e)))

@@ -1,0 +1,275 @@
+-- Reading a reference part by part, by positions of the text.
+-- Assumes nothing.
+use Prim.Native.Nat.{ℕ}
+use mathlib.Core.Path.{_≡_, refl, ap, sym, _∙_}
+use mathlib.Core.List.{List, [], _∷_}
+use mathlib.Core.Bool.{Bool, true, false, _&&_, _||_}
+use lib.ListN.{drop}
+use Rattle.laws.specs.Order.{same}
+use Rattle.strings.specs.InString.{Inside, contentFrom}
+use Rattle.reference.specs.Algorithms.{named}
+use Rattle.reference.specs.Aliases.{star, isAlias}
+use Rattle.reference.specs.Digests.{isDigest}
+use Rattle.reference.specs.Parts.{isDivided, firstPart, afterPart, parts}
+use Rattle.reference.specs.Readings.{Counts, PartAt, Divided, LayerReads, signerForm, manifestForm, SignerInside, ManifestInside, RuleUnder, RuleReads, PlainPart, IdUnder, IdReads}
+use Rattle.reference.specs.References.{no-layer, layer-digest, layer-alias, digestLayer, aliasLayer, signerWord, layer, any-signer, signer, signerOf, isSigner, any-manifest, manifest, self-alias, manifestOf, isManifest, accepts, no-rule, ruleUnder, rule, no-id, image-id, idUnder, imageId}
+use Rattle.reference.specs.declared.algorithm.Algorithm.{Algorithm}
+use Rattle.reference.specs.declared.algorithm.Known.{Known}
+use Rattle.reference.specs.declared.algorithm.Known.the-variants.{Is, Unknown}
+use Rattle.reference.specs.declared.part.Part.{Part}
+use Rattle.reference.specs.declared.rule.Rule.{Rule}
+use Rattle.reference.specs.declared.rule.Rule.the-variants.{Accepts, Bad as NoRule}
+use Rattle.reference.specs.declared.id.Id.{Id}
+use Rattle.reference.specs.declared.id.Id.the-variants.{Image, Bad as NoId}
+use Rattle.reference.proofs.Counting.{first-whole}
+use Rattle.reference.proofs.Parts.{is-last, last-parts, more-parts, before}
+use Rattle.reference.proofs.Forms.{layer-two, layer-four, rule-three, id-three}
+
+-- a test that holds, or else another one
+pub or-taken : (a b r : Bool) → r ≡ a → r ≡ true → r ≡ (a || b)
+or-taken a b r e f = rw (← e, f)
+
+pub or-left : (a b x r : Bool) → x ≡ a → x ≡ false → r ≡ b → r ≡ (a || b)
+or-left a b x r e f g = rw (← e, f) g
+
+module _ (s : List ℕ) (i : ℕ) (p : Part) (k : PartAt s i p) where
+  pub at-last : p .last ≡ true → parts (contentFrom s i) ≡ contentFrom s i ∷ []
+  at-last e = last-parts (contentFrom s i) p (k .counts) e
+
+  pub at-more : p .last ≡ false → parts (contentFrom s i) ≡ firstPart (contentFrom s i) ∷ parts (contentFrom s (p .next))
+  at-more e = more-parts (contentFrom s i) p (k .counts) (contentFrom s (p .next)) (k .rest) e
+
+  -- the last part is the whole content
+  pub whole : p .last ≡ true → firstPart (contentFrom s i) ≡ contentFrom s i
+  whole e = first-whole (contentFrom s i) (is-last (contentFrom s i) p (k .counts) e)
+
+-- SIGNER and MANIFEST of a rule
+module _ (x : List ℕ) where
+  pub signer-any : same x star ≡ true → any-signer ≡ signerOf x
+  unfolding signerOf
+  signer-any e = rw (e, signerOf)
+
+  pub signer-one : same x star ≡ false → signer x ≡ signerOf x
+  unfolding signerOf
+  signer-one e = rw (e, signerOf)
+
+  module _ (a : Algorithm) where
+    pub manifest-any : same x star ≡ true → any-manifest ≡ manifestOf a x
+    unfolding manifestOf
+    manifest-any e = rw (e, manifestOf)
+
+    pub manifest-one : same x star ≡ false → isDigest a x ≡ true → manifest x ≡ manifestOf a x
+    unfolding manifestOf
+    manifest-one e f = rw (e, manifestOf) (rw f)
+
+    pub manifest-alias : same x star ≡ false → isDigest a x ≡ false → self-alias x ≡ manifestOf a x
+    unfolding manifestOf
+    manifest-alias e f = rw (e, manifestOf) (rw f)
+
+-- a rule under an algorithm
+module _ (a : Algorithm) (x y : List ℕ) where
+  pub rule-no-signer : isSigner a x ≡ false → ruleUnder (Is a) x y ≡ no-rule
+  unfolding ruleUnder
+  rule-no-signer e = rw (e, ruleUnder)
+
+  pub rule-no-manifest : isSigner a x ≡ true → isManifest a y ≡ false → ruleUnder (Is a) x y ≡ no-rule
+  unfolding ruleUnder
+  rule-no-manifest e f = rw (e, ruleUnder) (rw f)
+
+  pub rule-accepts : isSigner a x ≡ true → isManifest a y ≡ true → ruleUnder (Is a) x y ≡ accepts a (signerOf x) (manifestOf a y)
+  unfolding ruleUnder
+  rule-accepts e f = rw (e, ruleUnder) (rw f)
+
+rule-unknown : (x y : List ℕ) → ruleUnder Unknown x y ≡ no-rule
+unfolding ruleUnder
+rule-unknown x y = refl
+
+rule-reads : (s : List ℕ) (i j k : ℕ) (a : Algorithm) (r : Rule) → rule (contentFrom s i) ≡ ruleUnder (Is a) (firstPart (contentFrom s j)) (contentFrom s k)
+    → RuleUnder s a j k r → RuleReads s i r
+rule-reads s i j k a (Accepts b g m) e u = (u .0, u .1, e ∙ u .2)
+rule-reads s i j k a NoRule e u = e ∙ u
+
+-- a layer reference under an algorithm
+module _ (a : Algorithm) where
+  pub digest-good : (d : List ℕ) → isDigest a d ≡ true → digestLayer (Is a) d ≡ layer-digest a d
+  unfolding digestLayer
+  digest-good d e = rw (e, digestLayer)
+
+  pub digest-bad : (d : List ℕ) → isDigest a d ≡ false → digestLayer (Is a) d ≡ no-layer
+  unfolding digestLayer
+  digest-bad d e = rw (e, digestLayer)
+
+  module _ (x n : List ℕ) where
+    pub alias-good : isDigest a x ≡ true → isAlias n ≡ true → aliasLayer true (Is a) x n ≡ layer-alias a x n
+    unfolding aliasLayer
+    alias-good e f = rw (e, aliasLayer) (rw f)
+
+    pub alias-no-signer : isDigest a x ≡ false → aliasLayer true (Is a) x n ≡ no-layer
+    unfolding aliasLayer
+    alias-no-signer e = rw (e, aliasLayer)
+
+    pub alias-no-name : isDigest a x ≡ true → isAlias n ≡ false → aliasLayer true (Is a) x n ≡ no-layer
+    unfolding aliasLayer
+    alias-no-name e f = rw (e, aliasLayer) (rw f)
+
+pub digest-unknown : (d : List ℕ) → digestLayer Unknown d ≡ no-layer
+unfolding digestLayer
+digest-unknown d = refl
+
+pub alias-unknown : (w : Bool) (x n : List ℕ) → aliasLayer w Unknown x n ≡ no-layer
+unfolding aliasLayer
+alias-unknown true x n = refl
+alias-unknown false x n = refl
+
+pub alias-no-word : (k : Known) (x n : List ℕ) → aliasLayer false k x n ≡ no-layer
+unfolding aliasLayer
+alias-no-word k x n = refl
+
+-- an Image ID under an algorithm
+module _ (a : Algorithm) (x y : List ℕ) where
+  pub id-no-signer : isDigest a x ≡ false → idUnder (Is a) x y ≡ no-id
+  unfolding idUnder
+  id-no-signer e = rw (e, idUnder)
+
+  pub id-no-manifest : isDigest a x ≡ true → isDigest a y ≡ false → idUnder (Is a) x y ≡ no-id
+  unfolding idUnder
+  id-no-manifest e f = rw (e, idUnder) (rw f)
+
+  pub id-good : isDigest a x ≡ true → isDigest a y ≡ true → idUnder (Is a) x y ≡ image-id a x y
+  unfolding idUnder
+  id-good e f = rw (e, idUnder) (rw f)
+
+pub id-unknown : (x y : List ℕ) → idUnder Unknown x y ≡ no-id
+unfolding idUnder
+id-unknown x y = refl
+
+-- two, three and four parts
+module _ (s : List ℕ) (i : ℕ) (p q : Part) (d : Divided s i p q) where
+  pub two-parts : q .last ≡ true → parts (contentFrom s i) ≡ firstPart (contentFrom s i) ∷ contentFrom s (p .next) ∷ []
+  two-parts e = before _ _ _ _ (at-more s i p (d .first) (d .more)) (at-last s (p .next) q (d .second) e)
+
+  module _ (r : Part) (f : Divided s (p .next) q r) where
+    pub three-parts : r .last ≡ true
+        → parts (contentFrom s i) ≡ firstPart (contentFrom s i) ∷ firstPart (contentFrom s (p .next)) ∷ contentFrom s (q .next) ∷ []
+    three-parts e =
+        before _ _ _ _ (at-more s i p (d .first) (d .more))
+        (before _ _ _ _ (at-more s (p .next) q (f .first) (f .more)) (at-last s (q .next) r (f .second) e))
+
+    pub past-three : r .last ≡ false
+        → parts (contentFrom s i) ≡ firstPart (contentFrom s i) ∷ firstPart (contentFrom s (p .next)) ∷ firstPart (contentFrom s (q .next)) ∷ parts (contentFrom s (r .next))
+    past-three e =
+        before _ _ _ _ (at-more s i p (d .first) (d .more))
+        (before _ _ _ _ (at-more s (p .next) q (f .first) (f .more)) (at-more s (q .next) r (f .second) e))
+
+    module _ (t : Part) (g : Divided s (q .next) r t) where
+      pub four-parts : t .last ≡ true
+          → parts (contentFrom s i) ≡ firstPart (contentFrom s i) ∷ firstPart (contentFrom s (p .next)) ∷ firstPart (contentFrom s (q .next)) ∷ contentFrom s (r .next) ∷ []
+      four-parts e =
+          past-three (g .more)
+          ∙ ap (λ (x : List (List ℕ)). firstPart (contentFrom s i) ∷ firstPart (contentFrom s (p .next)) ∷ firstPart (contentFrom s (q .next)) ∷ x)
+          (at-last s (r .next) t (g .second) e)
+
+      pub past-four : t .last ≡ false
+          → parts (contentFrom s i) ≡ firstPart (contentFrom s i) ∷ firstPart (contentFrom s (p .next)) ∷ firstPart (contentFrom s (q .next)) ∷ firstPart (contentFrom s (r .next)) ∷ parts (contentFrom s (t .next))
+      past-four e =
+          past-three (g .more)
+          ∙ ap (λ (x : List (List ℕ)). firstPart (contentFrom s i) ∷ firstPart (contentFrom s (p .next)) ∷ firstPart (contentFrom s (q .next)) ∷ x)
+          (at-more s (r .next) t (g .second) e)
+
+      -- signer/HASH/SIGNER/ALIAS
+      pub layer-by-alias : (k : Known) → t .last ≡ true → k ≡ named (firstPart (contentFrom s (p .next)))
+          → layer (contentFrom s i)
+          ≡ aliasLayer (same (firstPart (contentFrom s i)) signerWord) k (firstPart (contentFrom s (q .next))) (contentFrom s (r .next))
+      layer-by-alias k e h =
+          layer-four (contentFrom s i) _ _ _ _ (four-parts e)
+          ∙ ap (λ (x : Known). aliasLayer (same (firstPart (contentFrom s i)) signerWord) x (firstPart (contentFrom s (q .next))) (contentFrom s (r .next))) (sym h)
+
+      pub by-no-word : t .last ≡ true → same (firstPart (contentFrom s i)) signerWord ≡ false → layer (contentFrom s i) ≡ no-layer
+      by-no-word e f =
+          layer-by-alias (named (firstPart (contentFrom s (p .next)))) e refl
+          ∙ ap (λ (x : Bool). aliasLayer x (named (firstPart (contentFrom s (p .next)))) (firstPart (contentFrom s (q .next))) (contentFrom s (r .next))) f
+          ∙ alias-no-word _ _ _
+
+      pub by-unknown : (k : Known) → t .last ≡ true → k ≡ named (firstPart (contentFrom s (p .next))) → k ≡ Unknown → layer (contentFrom s i) ≡ no-layer
+      by-unknown k e h f =
+          layer-by-alias k e h
+          ∙ ap (λ (x : Known). aliasLayer (same (firstPart (contentFrom s i)) signerWord) x (firstPart (contentFrom s (q .next))) (contentFrom s (r .next))) f
+          ∙ alias-unknown _ _ _
+
+      pub by-known : (k : Known) (a : Algorithm) → t .last ≡ true → k ≡ named (firstPart (contentFrom s (p .next))) → k ≡ Is a
+          → same (firstPart (contentFrom s i)) signerWord ≡ true
+          → layer (contentFrom s i) ≡ aliasLayer true (Is a) (firstPart (contentFrom s (q .next))) (contentFrom s (r .next))
+      by-known k a e h f w =
+          layer-by-alias k e h
+          ∙ ap (λ (x : Known). aliasLayer (same (firstPart (contentFrom s i)) signerWord) x (firstPart (contentFrom s (q .next))) (contentFrom s (r .next))) f
+          ∙ ap (λ (x : Bool). aliasLayer x (Is a) (firstPart (contentFrom s (q .next))) (contentFrom s (r .next))) w
+
+    -- HASH/SIGNER/MANIFEST
+    rule-by-parts : (k : Known) → r .last ≡ true → k ≡ named (firstPart (contentFrom s i))
+        → rule (contentFrom s i) ≡ ruleUnder k (firstPart (contentFrom s (p .next))) (contentFrom s (q .next))
+    rule-by-parts k e h =
+        rule-three (contentFrom s i) _ _ _ (three-parts e)
+        ∙ ap (λ (x : Known). ruleUnder x (firstPart (contentFrom s (p .next))) (contentFrom s (q .next))) (sym h)
+
+    module _ (k : Known) (e : r .last ≡ true) (h : k ≡ named (firstPart (contentFrom s i))) where
+      pub rule-none : k ≡ Unknown → rule (contentFrom s i) ≡ no-rule
+      rule-none u =
+          rule-by-parts k e h ∙ ap (λ (x : Known). ruleUnder x (firstPart (contentFrom s (p .next))) (contentFrom s (q .next))) u ∙ rule-unknown _ _
+
+      pub rule-known : (a : Algorithm) → k ≡ Is a → (y : Rule) → RuleUnder s a (p .next) (q .next) y → RuleReads s i y
+      rule-known a u y v =
+          rule-reads s i (p .next) (q .next) a y
+          (rule-by-parts k e h ∙ ap (λ (x : Known). ruleUnder x (firstPart (contentFrom s (p .next))) (contentFrom s (q .next))) u) v
+
+  -- HASH/FSLAYER
+  pub layer-by-digest : (k : Known) → q .last ≡ true → k ≡ named (firstPart (contentFrom s i))
+      → layer (contentFrom s i) ≡ digestLayer k (contentFrom s (p .next))
+  layer-by-digest k e h =
+      layer-two (contentFrom s i) _ _ (two-parts e) ∙ ap (λ (x : Known). digestLayer x (contentFrom s (p .next))) (sym h)
+
+-- the parts of an Image ID
+module _ (s : List ℕ) (p : Part) (a : PlainPart s 0 p) where
+  pub plain-one : p .last ≡ true → parts s ≡ s ∷ []
+  plain-one e = last-parts s p (a .counts) e
+
+  module _ (e : p .last ≡ false) (q : Part) (b : PlainPart s (p .next) q) where
+    plain-first : parts s ≡ firstPart s ∷ parts (drop (p .next) s)
+    plain-first = more-parts s p (a .counts) (drop (p .next) s) (a .rest) e
+
+    pub plain-two : q .last ≡ true → parts s ≡ firstPart s ∷ drop (p .next) s ∷ []
+    plain-two f = before _ _ _ _ plain-first (last-parts (drop (p .next) s) q (b .counts) f)
+
+    module _ (f : q .last ≡ false) (r : Part) (c : PlainPart s (q .next) r) where
+      plain-second : parts s ≡ firstPart s ∷ firstPart (drop (p .next) s) ∷ parts (drop (q .next) s)
+      plain-second = before _ _ _ _ plain-first (more-parts (drop (p .next) s) q (b .counts) (drop (q .next) s) (b .rest) f)
+
+      pub plain-past : r .last ≡ false → parts s ≡ firstPart s ∷ firstPart (drop (p .next) s) ∷ firstPart (drop (q .next) s) ∷ parts (drop (r .next) s)
+      plain-past g =
+          plain-second
+          ∙ ap (λ (x : List (List ℕ)). firstPart s ∷ firstPart (drop (p .next) s) ∷ x)
+          (more-parts (drop (q .next) s) r (c .counts) (drop (r .next) s) (c .rest) g)
+
+      module _ (g : r .last ≡ true) (k : Known) (h : k ≡ named (firstPart s)) where
+        pub id-by-parts : imageId s ≡ idUnder k (firstPart (drop (p .next) s)) (drop (q .next) s)
+        id-by-parts =
+            id-three s _ _ _ (plain-second ∙ ap (λ (x : List (List ℕ)). firstPart s ∷ firstPart (drop (p .next) s) ∷ x) (last-parts (drop (q .next) s) r (c .counts) g))
+            ∙ ap (λ (x : Known). idUnder x (firstPart (drop (p .next) s)) (drop (q .next) s)) (sym h)
+
+        pub id-none : k ≡ Unknown → imageId s ≡ no-id
+        id-none u = id-by-parts ∙ ap (λ (x : Known). idUnder x (firstPart (drop (p .next) s)) (drop (q .next) s)) u ∙ id-unknown _ _
+
+        pub id-reads : (x : Algorithm) → k ≡ Is x → (y : Id) → IdUnder x (firstPart (drop (p .next) s)) (firstPart (drop (q .next) s)) (p .next) (q .next) y → IdReads s y
+        id-reads x u (Image b i j) v =
+            known ∙ v .2 ∙ rw (v .0, v .1, last)
+          where
+            last : firstPart (drop (q .next) s) ≡ drop (q .next) s
+            last = first-whole (drop (q .next) s) (is-last (drop (q .next) s) r (c .counts) g)
+
+            known : imageId s ≡ idUnder (Is x) (firstPart (drop (p .next) s)) (firstPart (drop (q .next) s))
+            known =
+                id-by-parts ∙ ap (λ (z : Known). idUnder z (firstPart (drop (p .next) s)) (drop (q .next) s)) u
+                ∙ ap (idUnder (Is x) (firstPart (drop (p .next) s))) (sym last)
+        id-reads x u NoId v =
+            id-by-parts ∙ ap (λ (z : Known). idUnder z (firstPart (drop (p .next) s)) (drop (q .next) s)) u
+            ∙ ap (idUnder (Is x) (firstPart (drop (p .next) s))) (sym (first-whole (drop (q .next) s) (is-last (drop (q .next) s) r (c .counts) g)))
+            ∙ v

@@ -1,0 +1,60 @@
+-- `reference::layer::by_digest` meets its contract.
+-- Assumes nothing.
+use mathlib.Core.Path.{ap, sym, _∙_}
+use denote.Ref.{now}
+use Rattle.strings.specs.InString.{contentFrom}
+use Rattle.reference.specs.Digests.{isDigest}
+use Rattle.reference.specs.References.{digestLayer}
+use Rattle.reference.specs.declared.algorithm.Known.{Known}
+use Rattle.reference.proofs.Forms.{digest-counted}
+use Rattle.reference.proofs.Steps.{whole, layer-by-digest, digest-good, digest-bad, digest-unknown}
+use borrow.Author.Needs.{needs}
+use Rattle.reference.proofs.layer.by_digest.Statement.{statement}
+use Rattle.reference.proofs.layer.by_digest.Tie as tie
+
+named-requires : tie.Need-named-requires
+named-requires c κs = search needs
+
+enum-told : tie.Need-enum-told
+enum-told c = search needs
+
+enum-known-a : tie.Need-enum-known-a
+enum-known-a c = search needs
+
+is-digest-requires : tie.Need-is-digest-requires
+is-digest-requires c κs = search needs
+
+returns : tie.Need-returns
+returns c =
+    let n = c .before .before in
+    let a = n .before .before in
+    layer-by-digest _ _ _ _ (a .pre .0) _ (a .pre .1) (n .named .ensures)
+    ∙ ap (λ (k : Known). digestLayer k (contentFrom (now (a .args .s)) (a .args .first .next))) (c .enum-told .given .1)
+    ∙ digest-unknown _
+
+returns-2 : tie.Need-returns-2
+returns-2 c =
+    let h = c .before .before .before in
+    let n = h .before .before in
+    let a = n .before .before in
+    let w = whole _ _ _ (a .pre .0 .second) (a .pre .1) in (
+      a .pre .0 .first .inside,
+      layer-by-digest _ _ _ _ (a .pre .0) _ (a .pre .1) (n .named .ensures)
+          ∙ ap (λ (k : Known). digestLayer k (contentFrom (now (a .args .s)) (a .args .first .next))) (h .a .given .1)
+          ∙ digest-good _ _ (sym (c .before .is-digest .ensures ∙ digest-counted _ _ (a .args .second) (a .pre .0 .second .counts) ∙ ap (isDigest _) w) ∙ c .if1 .taken),
+    )
+
+returns-3 : tie.Need-returns-3
+returns-3 c =
+    let h = c .before .before .before in
+    let n = h .before .before in
+    let a = n .before .before in
+    let w = whole _ _ _ (a .pre .0 .second) (a .pre .1) in
+    layer-by-digest _ _ _ _ (a .pre .0) _ (a .pre .1) (n .named .ensures)
+    ∙ ap (λ (k : Known). digestLayer k (contentFrom (now (a .args .s)) (a .args .first .next))) (h .a .given .1)
+    ∙ digest-bad _ _ (sym (c .before .is-digest .ensures ∙ digest-counted _ _ (a .args .second) (a .pre .0 .second .counts) ∙ ap (isDigest _) w) ∙ c .if1 .left)
+
+pub by-digest-spec : {M : Type 1} → statement M
+by-digest-spec =
+    tie.close
+    (tie.spec named-requires enum-told enum-known-a is-digest-requires returns returns-2 returns-3)

@@ -1,0 +1,55 @@
+-- `reference::rule::manifest_of` meets its contract: the last part is the whole content.
+-- Assumes nothing.
+use mathlib.Core.Path.{ap, sym, _∙_}
+use mathlib.Core.List.{List}
+use Prim.Native.Nat.{ℕ}
+use Rattle.laws.specs.Order.{same}
+use Rattle.reference.specs.Aliases.{star}
+use Rattle.reference.specs.Digests.{isDigest}
+use Rattle.reference.proofs.Forms.{digest-counted}
+use Rattle.reference.proofs.Steps.{whole, manifest-any, manifest-one, manifest-alias}
+use borrow.Author.Needs.{needs}
+use Rattle.reference.proofs.rule.manifest_of.Statement.{statement}
+use Rattle.reference.proofs.rule.manifest_of.Tie as tie
+
+slice-aggregate-is : tie.Need-slice-aggregate-is
+slice-aggregate-is c = search needs
+
+is-requires : tie.Need-is-requires
+is-requires c κs = search needs
+
+returns : tie.Need-returns
+returns c =
+    let a = c .before .before .before .before in
+    let w = whole _ _ _ (a .pre .1) (a .pre .2) in
+    (tt, manifest-any _ (a .args .a) (sym (c .before .is .ensures ∙ ap (λ (x : List ℕ). same x star) w) ∙ c .if1 .taken))
+
+is-digest-requires : tie.Need-is-digest-requires
+is-digest-requires c κs = search needs
+
+returns-2 : tie.Need-returns-2
+returns-2 c =
+    let e = c .before .before in
+    let a = e .before .before .before .before in
+    let w = whole _ _ _ (a .pre .1) (a .pre .2) in (
+      a .pre .0,
+      manifest-one _ (a .args .a)
+          (sym (e .before .is .ensures ∙ ap (λ (x : List ℕ). same x star) w) ∙ e .if1 .left)
+          (sym (c .before .is-digest .ensures ∙ digest-counted (a .args .a) _ (a .args .p) (a .pre .1 .counts) ∙ ap (isDigest (a .args .a)) w) ∙ c .if2 .taken),
+    )
+
+returns-3 : tie.Need-returns-3
+returns-3 c =
+    let e = c .before .before in
+    let a = e .before .before .before .before in
+    let w = whole _ _ _ (a .pre .1) (a .pre .2) in (
+      a .pre .0,
+      manifest-alias _ (a .args .a)
+          (sym (e .before .is .ensures ∙ ap (λ (x : List ℕ). same x star) w) ∙ e .if1 .left)
+          (sym (c .before .is-digest .ensures ∙ digest-counted (a .args .a) _ (a .args .p) (a .pre .1 .counts) ∙ ap (isDigest (a .args .a)) w) ∙ c .if2 .left),
+    )
+
+pub manifest-of-spec : {M : Type 1} → statement M
+manifest-of-spec =
+    tie.close
+    (tie.spec slice-aggregate-is is-requires returns is-digest-requires returns-2 returns-3)

@@ -1,0 +1,22 @@
+-- `reference::rule::signer_of` meets its contract.
+-- Assumes nothing.
+use mathlib.Core.Path.{ap, sym, _∙_}
+use Rattle.reference.proofs.Steps.{signer-any, signer-one}
+use borrow.Author.Needs.{needs}
+use Rattle.reference.proofs.rule.signer_of.Statement.{statement}
+use Rattle.reference.proofs.rule.signer_of.Tie as tie
+
+slice-aggregate-is : tie.Need-slice-aggregate-is
+slice-aggregate-is c = search needs
+
+is-requires : tie.Need-is-requires
+is-requires c κs = search needs
+
+returns : tie.Need-returns
+returns c = (tt, signer-any _ (sym (c .before .is .ensures) ∙ c .if1 .taken))
+
+returns-2 : tie.Need-returns-2
+returns-2 c = (c .before .before .before .before .pre .0, signer-one _ (sym (c .before .is .ensures) ∙ c .if1 .left))
+
+pub signer-of-spec : {M : Type 1} → statement M
+signer-of-spec = tie.close (tie.spec slice-aggregate-is is-requires returns returns-2)

@@ -1,0 +1,22 @@
+-- Digests as lower-case hexadecimal digits, and the bytes that they stand for (document 01, "References, names and rules").
+use Prim.Native.Nat.{ℕ, _+_, _*_}
+use mathlib.Core.List.{List, [], _∷_}
+use mathlib.Core.Bool.{Bool, _&&_, _||_}
+use lib.Dec.{eqb}
+use lib.ListN.{length}
+use Rattle.json.specs.Bytes.{between, hexValue}
+use Rattle.json.specs.Measure.{every}
+use Rattle.reference.specs.Algorithms.{hexDigits}
+use Rattle.reference.specs.declared.algorithm.Algorithm.{Algorithm}
+
+unfoldable pub isLowerHex : ℕ → Bool
+isLowerHex b = between 0x30 0x39 b || between 0x61 0x66 b
+
+unfoldable pub isDigest : Algorithm → List ℕ → Bool
+isDigest a d = eqb (length d) (hexDigits a) && every isLowerHex d
+
+-- two digits to a byte, the first one for its upper half
+unfoldable pub digestOf : List ℕ → List ℕ
+digestOf [] = []
+digestOf (h ∷ []) = []
+digestOf (h ∷ l ∷ s) = (hexValue h * 16 + hexValue l) ∷ digestOf s

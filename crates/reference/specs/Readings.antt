@@ -1,0 +1,111 @@
+-- What the readers answer about a string of a text, by positions in the text: the content from a position on stands for the part there.
+use Prim.Native.Nat.{ℕ, _≤_, _<_}
+use mathlib.Core.Path.{_≡_}
+use mathlib.Core.List.{List, [], _∷_, _++_}
+use mathlib.Core.Bool.{true, false, not}
+use lib.ListN.{length, drop}
+use Rattle.json.specs.Measure.{every}
+use Rattle.strings.specs.InString.{Inside, contentFrom}
+use Rattle.reference.specs.Digests.{isLowerHex}
+use Rattle.reference.specs.Parts.{isDivided, firstPart, afterPart}
+use Rattle.reference.specs.References.{layer, layer-digest, layer-alias, no-layer, Signer as SignerForm, any-signer, signer, Manifest as ManifestForm, any-manifest, manifest, self-alias, rule, ruleUnder, accepts, no-rule, imageId, idUnder, image-id, no-id}
+use Rattle.reference.specs.declared.algorithm.Algorithm.{Algorithm}
+use Rattle.reference.specs.declared.algorithm.Known.the-variants.{Is}
+use Rattle.reference.specs.declared.part.Part.{Part}
+use Rattle.reference.specs.declared.part.Char.{Char}
+use Rattle.reference.specs.declared.layer.Layer.{Layer}
+use Rattle.reference.specs.declared.layer.Layer.the-variants.{Digest as LayerDigest, Alias as LayerAlias, Bad as NoLayer}
+use Rattle.reference.specs.declared.rule.Signer.{Signer}
+use Rattle.reference.specs.declared.rule.Signer.the-variants.{Any as AnySigner, Digest as SignerDigest}
+use Rattle.reference.specs.declared.rule.Manifest.{Manifest}
+use Rattle.reference.specs.declared.rule.Manifest.the-variants.{Any as AnyManifest, Digest as ManifestDigest, Alias as SelfAlias}
+use Rattle.reference.specs.declared.rule.Rule.{Rule}
+use Rattle.reference.specs.declared.rule.Rule.the-variants.{Accepts, Bad as NoRule}
+use Rattle.reference.specs.declared.id.Id.{Id}
+use Rattle.reference.specs.declared.id.Id.the-variants.{Image, Bad as NoId}
+
+-- what is counted of the first part of the content c
+pub record Counts (c : List ℕ) (p : Part) : Type 0 where
+  pub size : p .length ≡ length (firstPart c)
+  pub hex : p .hex ≡ every isLowerHex (firstPart c)
+  pub last : p .last ≡ not (isDivided c)
+
+-- The content from position k on begins with these bytes: a character, or one byte of it, and it is a `/` exactly if they are one.
+pub record CharAt (s : List ℕ) (k : ℕ) (u : Char) : Type 0 where
+  pub bytes : List ℕ
+  pub begins : contentFrom s k ≡ bytes ++ contentFrom s (u .next)
+  pub inside : Inside s (u .next)
+  pub size : u .length ≡ length bytes
+  pub few : u .length ≤ 4
+  pub later : k < u .next
+  pub divides : u .scalar ≡ 0x2F → bytes ≡ 0x2F ∷ []
+  pub no-divider : (u .scalar ≡ 0x2F → ⊥) → isDivided bytes ≡ false
+  pub hex : every isLowerHex bytes ≡ isLowerHex (u .scalar)
+
+-- the part at position i of a text's string, and the position after it
+pub record PartAt (s : List ℕ) (i : ℕ) (p : Part) : Type 0 where
+  pub counts : Counts (contentFrom s i) p
+  pub inside : Inside s (p .next)
+  pub rest : contentFrom s (p .next) ≡ afterPart (contentFrom s i)
+
+-- a part that is not the last, and the one after it
+pub record Divided (s : List ℕ) (i : ℕ) (p q : Part) : Type 0 where
+  pub here : Inside s i
+  pub first : PartAt s i p
+  pub more : p .last ≡ false
+  pub second : PartAt s (p .next) q
+
+-- a layer reference: the positions of its digest, or of its signer and its alias
+abbrev pub LayerReads : List ℕ → ℕ → Layer → Type 0
+LayerReads s i (LayerDigest a p) = Inside s p × (layer (contentFrom s i) ≡ layer-digest a (contentFrom s p))
+LayerReads s i (LayerAlias a p q) =
+    Inside s p × Inside s q × (layer (contentFrom s i) ≡ layer-alias a (firstPart (contentFrom s p)) (contentFrom s q))
+LayerReads s i NoLayer = layer (contentFrom s i) ≡ no-layer
+
+-- what a SIGNER and a MANIFEST stand for
+abbrev pub signerForm : List ℕ → Signer → SignerForm
+signerForm s AnySigner = any-signer
+signerForm s (SignerDigest p) = signer (firstPart (contentFrom s p))
+
+abbrev pub manifestForm : List ℕ → Manifest → ManifestForm
+manifestForm s AnyManifest = any-manifest
+manifestForm s (ManifestDigest p) = manifest (contentFrom s p)
+manifestForm s (SelfAlias p) = self-alias (contentFrom s p)
+
+-- the positions that they hold stand in a string
+abbrev pub SignerInside : List ℕ → Signer → Type 0
+SignerInside s AnySigner = Unit {0}
+SignerInside s (SignerDigest p) = Inside s p
+
+abbrev pub ManifestInside : List ℕ → Manifest → Type 0
+ManifestInside s AnyManifest = Unit {0}
+ManifestInside s (ManifestDigest p) = Inside s p
+ManifestInside s (SelfAlias p) = Inside s p
+
+-- a rule of that algorithm, with SIGNER at position i and MANIFEST at position j
+abbrev pub RuleUnder : List ℕ → Algorithm → ℕ → ℕ → Rule → Type 0
+RuleUnder s a i j (Accepts b g m) =
+    SignerInside s g × ManifestInside s m
+    × (ruleUnder (Is a) (firstPart (contentFrom s i)) (contentFrom s j) ≡ accepts b (signerForm s g) (manifestForm s m))
+RuleUnder s a i j NoRule = ruleUnder (Is a) (firstPart (contentFrom s i)) (contentFrom s j) ≡ no-rule
+
+-- a rule
+abbrev pub RuleReads : List ℕ → ℕ → Rule → Type 0
+RuleReads s i (Accepts a g m) =
+    SignerInside s g × ManifestInside s m × (rule (contentFrom s i) ≡ accepts a (signerForm s g) (manifestForm s m))
+RuleReads s i NoRule = rule (contentFrom s i) ≡ no-rule
+
+-- the part at position i of a list of bytes, and the position after it
+pub record PlainPart (s : List ℕ) (i : ℕ) (p : Part) : Type 0 where
+  pub counts : Counts (drop i s) p
+  pub rest : drop (p .next) s ≡ afterPart (drop i s)
+
+-- an Image ID of that algorithm whose signer and manifest are c and d, at the positions i and j
+abbrev pub IdUnder : Algorithm → List ℕ → List ℕ → ℕ → ℕ → Id → Type 0
+IdUnder a c d i j (Image b p q) = (p ≡ i) × (q ≡ j) × (idUnder (Is a) c d ≡ image-id b c d)
+IdUnder a c d i j NoId = idUnder (Is a) c d ≡ no-id
+
+-- an Image ID: the positions of its signer and its manifest digest
+abbrev pub IdReads : List ℕ → Id → Type 0
+IdReads s (Image a p q) = imageId s ≡ image-id a (firstPart (drop p s)) (drop q s)
+IdReads s NoId = imageId s ≡ no-id

@@ -1,0 +1,77 @@
+// Image IDs: HASH/SIGNER/MANIFEST, both digests.
+use crate::algorithm::Algorithm;
+use crate::algorithm::Known;
+use crate::part;
+use crate::part::Part;
+ghost use mathlib.Core.Path.{_≡_};
+ghost use mathlib.Core.List.{List};
+ghost use Prim.Native.Nat.{ℕ};
+ghost use lib.ListN.{length};
+ghost use Rattle.reference.specs.Algorithms.{named as namedBy};
+ghost use Rattle.reference.specs.Parts.{firstPart};
+ghost use Rattle.reference.specs.Readings.{Counts, IdUnder, IdReads};
+
+// An image's algorithm with the positions of its signer's and its manifest's digest, or none.
+pub enum Id {
+    Image {
+        algorithm: Algorithm,
+        signer: usize,
+        manifest: usize,
+    },
+    Bad,
+}
+
+pub fn read(id: &[u8]) -> Id
+    ensures { λ r. ⌜ IdReads (now (id .entry)) r ⌝ }
+{
+    let hash = part::read_plain(id, 0);
+    if hash.last {
+        return Id::Bad;
+    }
+    let signer = part::read_plain(id, hash.next);
+    if signer.last {
+        return Id::Bad;
+    }
+    let manifest = part::read_plain(id, signer.next);
+    if !manifest.last {
+        return Id::Bad;
+    }
+    match named(id, hash.length) {
+        Known::Unknown => Id::Bad,
+        Known::Is(a) => under(a, hash.next, signer, manifest),
+    }
+}
+
+// The algorithm that the first part names, which has `len` bytes.
+fn named(id: &[u8], len: usize) -> Known
+    requires { ⌜ len ≡ length (firstPart (now id)) ⌝ }
+    ensures { λ r. ⌜ r ≡ namedBy (firstPart (now (id .entry))) ⌝ }
+{
+    if part::is_plain(id, 0, len, b"sha224") {
+        return Known::Is(Algorithm::Sha224);
+    }
+    if part::is_plain(id, 0, len, b"sha256") {
+        return Known::Is(Algorithm::Sha256);
+    }
+    if part::is_plain(id, 0, len, b"sha384") {
+        return Known::Is(Algorithm::Sha384);
+    }
+    Known::Unknown
+}
+
+// The Image ID of an algorithm with SIGNER at a position, and MANIFEST after it.
+fn under(a: Algorithm, i: usize, signer: Part, manifest: Part) -> Id
+    ensures { λ r. ⌜ ((c d : List ℕ) → Counts c signer → Counts d manifest → IdUnder a (firstPart c) (firstPart d) i (signer .next) r) ⌝ }
+{
+    if !crate::digest::is_digest(a, signer.length, signer.hex) {
+        return Id::Bad;
+    }
+    if !crate::digest::is_digest(a, manifest.length, manifest.hex) {
+        return Id::Bad;
+    }
+    Id::Image {
+        algorithm: a,
+        signer: i,
+        manifest: signer.next,
+    }
+}
