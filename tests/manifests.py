@@ -1,4 +1,4 @@
-"""Compares the program `manifests` with an independent implementation of questions 7 and 8 on generated manifests, good
+"""Compares the program `manifests` with an independent implementation of questions 7 to 9 on generated manifests, good
 ones, ones that break one rule and ones that break several. Called with the program's path."""
 
 import json
@@ -21,7 +21,7 @@ A, B, C = "0a" * 28, "1b" * 32, "2c" * 48
 KA = "\u0915"
 NAMES = ["a", "Job:1", "Job:10", "", ".", "..", "*", "**", "a/b", "a b", 'q"', "b\\", KA, KA * 22, KA * 21 + "\u0916",
          KA * 85, KA * 86, "x" * 255, "x" * 256, A, B, C, "d" * 128, "d" * 55, A.upper()]
-GOOD_NAMES = ["a", "Job:1", "Job:10", "**", "a b", 'q"', KA, "d" * 55]
+GOOD_NAMES = ["a", "Job:1", "Job:10", "**", "a b", 'q"', KA, KA * 22, KA * 21 + "\u0916", "d" * 55, "x" * 255]
 WORDS = ["sha224", "sha256", "sha384", "sha512", "signer", "*", "", "x", A, B, C, A[1:], A.upper()]
 GOOD_LAYERS = ["sha224/" + A, "sha256/" + B, "sha384/" + C, "signer/sha224/%s/ink" % A, "signer/sha256/%s/%s" % (B, KA)]
 GOOD_RULES = ["sha224/*/*", "sha256/%s/*" % B, "sha384/*/" + C, "sha224/%s/Job:1" % A, "sha256/*/" + KA]
@@ -46,6 +46,8 @@ def few(make, most=4):
 
 def group(keys):
     names = lambda: few(lambda: one_of(GOOD_NAMES if below(12) else NAMES), 3)
+    if below(60) == 0:
+        return {"sha224/%056x" % i: [] for i in range(63 + below(3))}
     return {(keys() if below(10) else one_of(["", "..", "x"])): names() for _ in range(below(4))}
 
 
@@ -114,7 +116,7 @@ def compare(program, texts, values):
 
 def main():
     program = sys.argv[1]
-    seen = {0: 0, 7: 0, 8: 0}
+    seen = {0: 0, 7: 0, 8: 0, 9: 0}
     texts, values, size = [], [], 0
     for i in range(COUNT):
         v = manifest()
@@ -129,7 +131,8 @@ def main():
             size += len(t) + 1
     for n in compare(program, texts, values):
         seen[n] += 1
-    print("manifests: %d manifests alike: %d get 0, %d get 7, %d get 8" % (sum(seen.values()), seen[0], seen[7], seen[8]))
+    print("manifests: %d manifests alike: %s"
+          % (sum(seen.values()), ", ".join("%d get %d" % (seen[n], n) for n in sorted(seen))))
 
 
 main()

@@ -1,5 +1,4 @@
-// Reads manifests from standard input, one to a line, and prints the number that each gets by questions 1 to 8: the lowest that applies.
-// Aliases that stand twice in one group are not asked for here.
+// Reads manifests from standard input, one to a line, and prints the number that each gets by questions 1 to 9: the lowest that applies.
 use text::Checked;
 
 fn number_of(s: &[u8]) -> usize {
@@ -7,13 +6,7 @@ fn number_of(s: &[u8]) -> usize {
         Checked::Refused(number, _) => number,
         Checked::Accepted(_) => {
             let at = view::value::root(s);
-            if !manifest::rule::is_well_fielded(s, at, 8) {
-                return 7;
-            }
-            if !manifest::form::is_well_formed(s, at) {
-                return 8;
-            }
-            0
+            manifest::check::check(s, at)
         }
     }
 }
