@@ -1,6 +1,6 @@
 # make report   the canonical form of an example manifest, through a C host
 # make test     the gate: proofs, must-fail edits, tests
-# make bench    the library beside serde_json and Python's json
+# make bench    the library beside serde_json and Python's json, and checking beside canonical
 #
 # ACON_LIB=FILE uses another archive than the one that rt makes (not in `make test`).
 
@@ -23,4 +23,5 @@ test:
 	.ci/run
 
 bench: archive
+	rt staticlib manifest_text
 	ACON_LIB=$(ACON_LIB) bench/run

@@ -37,8 +37,8 @@ def falling_keys(size):
 
 
 def long_keys(size):
-    """Falling keys that differ late, so that each comparison is long."""
-    return joined("{", ('"%s%s":0' % ("sha256/" * 7, word) for word in numbered(3)), "}", size)
+    """Falling keys that differ late, so that each comparison is long. A member has 60 bytes, which fill 1 KB to three bytes."""
+    return joined("{", ('"%sof/%s":0' % ("sha256/" * 7, word) for word in numbered(3)), "}", size)
 
 
 def nested(size):
@@ -94,8 +94,27 @@ def digest(r, algorithm):
     return "%0*x" % (bits // 4, r.getrandbits(bits))
 
 
-def large_manifest():
-    """A manifest such as a vendor would write, indented by two, just under 16 KB."""
+def indented(value):
+    return json.dumps(value, indent=2, ensure_ascii=False)
+
+
+def canonical(value):
+    return json.dumps(value, sort_keys=True, separators=(",", ":"), ensure_ascii=False)
+
+
+def grown(manifest, grow, write):
+    """The last manifest that fits 16 KB as it is written; `grow` adds to it and says whether it could."""
+    text = last = write(manifest)
+    while len(text.encode()) <= LARGE:
+        last = text
+        if not grow(manifest):
+            break
+        text = write(manifest)
+    return last
+
+
+def vendor_manifest(write):
+    """A manifest such as a vendor would write, just under 16 KB."""
     r = random.Random(1)
     algorithms = ["sha384", "sha384", "sha256", "sha224"]
     layers = []
@@ -125,22 +144,90 @@ def large_manifest():
         "maxInstances": 4,
         "policy": {"rejectUnaccepted": True, "accepts": []},
     }
-    accepts = manifest["policy"]["accepts"]
-    text = json.dumps(manifest, indent=2, ensure_ascii=False)
-    while len(text.encode()) <= LARGE:
-        last = text
+
+    def grow(m):
+        accepts = m["policy"]["accepts"]
         a = algorithms[len(accepts) % 4]
         accepts.append("%s/%s/%s:%d" % (a, digest(r, a), TITLES[len(accepts) % 8], len(accepts)))
-        text = json.dumps(manifest, indent=2, ensure_ascii=False)
-    return last
+        return len(accepts) < 64
+    return grown(manifest, grow, write)
+
+
+def worked_manifest():
+    here = os.path.dirname(os.path.abspath(__file__))
+    with open(os.path.join(here, "manifest.json"), encoding="utf-8") as f:
+        return f.read()
+
+
+def long_strings():
+    """Few strings, most of them long: the cheapest of 16 KB."""
+    manifest = json.loads(worked_manifest())
+    manifest["env"] = []
+
+    def grow(m):
+        m["env"].append("SERVICE_%02d=%s" % (len(m["env"]), "https://node.example.org:8443/api/v1/" * 6))
+        return len(m["env"]) < 64
+    return grown(manifest, grow, canonical)
+
+
+def many_aliases(name):
+    """Aliases, all different and in no order, 64 to a layer: as many as fit."""
+    r = random.Random(2)
+    names = [name(i) for i in range(4096)]
+    r.shuffle(names)
+    contents = {}
+
+    def grow(m):
+        layer = next((k for k, v in contents.items() if len(v) < 64), None)
+        if layer is None:
+            if len(contents) == 64:
+                return False
+            layer = "sha224/" + digest(r, "sha224")
+            contents[layer] = []
+        contents[layer].append(names.pop())
+        return True
+    return grown({"aconSpecVersion": [1, 0], "aliases": {"contents": contents}}, grow, canonical)
+
+
+def two_letters(i):
+    letters = [chr(c) for c in range(0x23, 0x7F) if chr(c) not in "/\\*."]
+    return letters[i // len(letters)] + letters[i % len(letters)]
+
+
+def many_rules():
+    """64 rules, 64 layers by alias and 64 user IDs."""
+    r = random.Random(3)
+    manifest = {
+        "aconSpecVersion": [1, 0],
+        "layers": ["signer/sha224/%s/%s" % (digest(r, "sha224"), "x" * (i % 50 + 1)) for i in range(64)],
+        "policy": {"accepts": ["sha224/%s/%s" % (digest(r, "sha224"), "y" * (i % 50 + 1)) for i in range(64)]},
+        "uids": list(range(1, 65)),
+        "logFDs": list(range(3, 67)),
+        "env": [],
+    }
+
+    def grow(m):
+        m["env"].append("V%02d=" % len(m["env"]) + "z" * 40)
+        return len(m["env"]) < 64
+    return grown(manifest, grow, canonical)
+
+
+def checked():
+    """The manifests that are checked: name and text. All but the first are canonical."""
+    yield "worked manifest", worked_manifest()
+    yield "its canonical form", canonical(json.loads(worked_manifest()))
+    yield "plain, 16 KB", vendor_manifest(canonical)
+    yield "long strings, 16 KB", long_strings()
+    yield "short aliases, 16 KB", many_aliases(two_letters)
+    yield "long aliases, 16 KB", many_aliases(lambda i: "%s%04d" % ("a" * 251, i))
+    yield "escaped aliases, 16 KB", many_aliases(lambda i: '\\"%04d' % i)
+    yield "rules, layers, numbers, 16 KB", many_rules()
 
 
 def inputs():
     """Name, size in KB or None, text."""
-    here = os.path.dirname(os.path.abspath(__file__))
-    with open(os.path.join(here, "manifest.json"), encoding="utf-8") as f:
-        yield "manifest", None, f.read()
-    yield "manifest of 16 KB", None, large_manifest()
+    yield "manifest", None, worked_manifest()
+    yield "manifest of 16 KB", None, vendor_manifest(indented)
     for name, make in CASES:
         yield name, 1, make(SMALL)
         yield name, 16, make(LARGE)
@@ -150,18 +237,25 @@ def file_name(name, kilobytes):
     return name.replace(" ", "-") + ("" if kilobytes is None else "-%d" % kilobytes) + ".json"
 
 
+def write(folder, file, text):
+    """Writes one text; gives its path."""
+    data = text.encode()
+    assert len(data) <= LARGE
+    os.makedirs(folder, exist_ok=True)
+    path = os.path.join(folder, file)
+    with open(path, "wb") as f:
+        f.write(data)
+    return path
+
+
 def write_all(folder):
     """Writes each input; gives (name, size in KB or None, path)."""
-    os.makedirs(folder, exist_ok=True)
-    made = []
-    for name, kilobytes, text in inputs():
-        data = text.encode()
-        assert len(data) <= LARGE
-        path = os.path.join(folder, file_name(name, kilobytes))
-        with open(path, "wb") as f:
-            f.write(data)
-        made.append((name, kilobytes, path))
-    return made
+    return [(name, kilobytes, write(folder, file_name(name, kilobytes), text)) for name, kilobytes, text in inputs()]
+
+
+def write_checked(folder):
+    """Writes each manifest that is checked; gives (name, path)."""
+    return [(name, write(folder, name.replace(" ", "-").replace(",", "") + ".json", text)) for name, text in checked()]
 
 
 if __name__ == "__main__":

@@ -63,6 +63,26 @@ def version(*command):
     return subprocess.run(command, stdout=subprocess.PIPE, check=True).stdout.decode().splitlines()[0]
 
 
+def report_checks(folder):
+    """Questions 7 to 9, as what 1 to 9 take less what 1 to 6 take."""
+    made = inputs.write_checked(os.path.join(folder, "manifests"))
+    speed = lines(os.path.join(folder, "check"), str(SAMPLES), *(path for _, path in made))
+    cost = {}
+    print()
+    print("Checking a manifest: microseconds for one call, median of %d samples" % SAMPLES)
+    print("%-30s %6s %10s %8s %8s %8s %10s" % ("manifest", "bytes", "canonical", "1 to 6", "1 to 9", "7 to 9", "7-9/plain"))
+    for name, path in made:
+        form, text, both = (ns / 1000 for ns in speed[path])
+        cost[name] = form, both - text
+        share = "%10.2f" % (cost[name][1] / cost["plain, 16 KB"][1]) if "plain, 16 KB" in cost else ""
+        print("%-30s %6d %10.2f %8.2f %8.2f %8.2f %s" % (name, os.path.getsize(path), form, text, both, both - text, share))
+    print()
+    form, _ = cost["worked manifest"]
+    print("Questions 7 to 9 of the worked manifest in canonical form, over making that form: %.2f" % (cost["its canonical form"][1] / form))
+    worst, name = max((own / cost["plain, 16 KB"][1], name) for name, (_, own) in cost.items())
+    print("Worst manifest of 16 KB over the plain one: %.2f (%s)" % (worst, name))
+
+
 def main():
     folder = sys.argv[1]
     made = inputs.write_all(os.path.join(folder, "inputs"))
@@ -104,6 +124,7 @@ def main():
     print()
     print("Worst case over the manifest of 16 KB: %.2f (%s)" % worst)
     print("Most stack: %d bytes" % max(row[4] for row in rows.values()))
+    report_checks(folder)
 
 
 main()

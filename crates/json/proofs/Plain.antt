@@ -12,7 +12,7 @@ use lib.Dec.{leb, eqb}
 use lib.ListN.{length, take, drop, getD, length-drop, drop-of-length-le}
 use lib.Seq.{take-suc, getD-drop, drop-drop}
 use Rattle.json.specs.Read.{Read, readChars, char}
-use Rattle.json.specs.Measure.{Weight, measure, add, isPlain, plainLength, every, isNot}
+use Rattle.json.specs.Measure.{Weight, measure, add, isPlain, plainLength, every, isNot, isUnmarked}
 use Rattle.json.proofs.CharSteps.{char-plain}
 use Rattle.json.proofs.Grammar.Answer.{by-test}
 use Rattle.json.proofs.Places.{drop-next}
@@ -69,6 +69,24 @@ module _ (p : ℕ → Bool) where
       and-swap (p x) (every p xs) (q x) (every q xs)
       ∙ ap (λ (t : Bool). (p x && q x) && t) (every-both q r h xs)
       ∙ ap (λ (t : Bool). t && every r xs) (sym (h x))
+
+-- a test that holds of each byte of a list holds of one
+pub every-at : (p : ℕ → Bool) (xs : List ℕ) (n : ℕ) → every p xs ≡ true → n < length xs → p (getD xs n 0) ≡ true
+unfolding every
+every-at p [] n e h = absurd (omega arith)
+every-at p (x ∷ xs) zero e h = and-eq-true-iff (p x) (every p xs) .0 e .0
+every-at p (x ∷ xs) (suc n) e h = every-at p xs n (and-eq-true-iff (p x) (every p xs) .0 e .1) (omega arith)
+
+-- the two tests of an unmarked byte
+pub every-unmarked : (xs : List ℕ) → every (isNot 0x22) xs && every (isNot 0x5C) xs ≡ every isUnmarked xs
+unfolding isNot isUnmarked
+every-unmarked xs = every-both (isNot 0x22) (isNot 0x5C) isUnmarked (λ b. refl) xs
+
+pub unmarked : (b : ℕ) → isUnmarked b ≡ true → (b ≡ 0x22 → ⊥) × (b ≡ 0x5C → ⊥)
+unfolding isUnmarked
+unmarked b e =
+    let p = and-eq-true-iff (not (eqb b 0x22)) (not (eqb b 0x5C)) .0 e in
+    (eqb-false b 0x22 (not-true (eqb b 0x22) (p .0)), eqb-false b 0x5C (not-true (eqb b 0x5C) (p .1)))
 
 -- the four tests of a plain byte, each made of all bytes
 pub every-plain : (xs : List ℕ)

@@ -69,3 +69,7 @@ every p (b ∷ s) = p b && every p s
 -- a byte is not m
 unfoldable pub isNot : ℕ → ℕ → Bool
 isNot m b = not (eqb b m)
+
+-- a byte is neither a quotation mark nor a backslash
+unfoldable pub isUnmarked : ℕ → Bool
+isUnmarked b = not (eqb b 0x22) && not (eqb b 0x5C)

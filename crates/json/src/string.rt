@@ -19,7 +19,7 @@ ghost use Rattle.json.specs.Read.{readChars, char, escape, prepend, read
 ghost use Rattle.json.specs.Content.{isSurrogate, anyControl, escaped, refusedString};
 ghost use Rattle.json.specs.Scan.{Scans};
 ghost use Rattle.json.specs.Size.{contentSize, stringSize, Within, Closed};
-ghost use Rattle.json.specs.Measure.{Hexes, Escapes, Lows, isPlain, plainLength, every, isNot};
+ghost use Rattle.json.specs.Measure.{Hexes, Escapes, Lows, isPlain, plainLength, every, isNot, isUnmarked};
 
 // Four hexadecimal digits: their number, or the position of the first byte that is no digit.
 pub enum Hex {
@@ -184,7 +184,7 @@ fn none_below_space(s: &[u8], at: usize) -> bool
 }
 
 // None of the sixteen bytes at `at` is m.
-fn none_is(s: &[u8], at: usize, m: u8) -> bool
+pub fn none_is(s: &[u8], at: usize, m: u8) -> bool
     requires { ⌜ at + 16 ≤ length (now s) ⌝ }
     ensures { λ r. ⌜ r ≡ every (isNot m) (take 16 (drop at (now (s .entry)))) ⌝ }
 {
@@ -195,6 +195,14 @@ fn none_is(s: &[u8], at: usize, m: u8) -> bool
         n += 1;
     }
     all
+}
+
+// None of the sixteen bytes at `at` is a quotation mark or a backslash.
+pub fn unmarked16(s: &[u8], at: usize) -> bool
+    requires { ⌜ at + 16 ≤ length (now s) ⌝ }
+    ensures { λ r. ⌜ r ≡ every isUnmarked (take 16 (drop at (now (s .entry)))) ⌝ }
+{
+    none_is(s, at, 0x22) & none_is(s, at, 0x5C)
 }
 
 // The sixteen bytes at `at` are plain.

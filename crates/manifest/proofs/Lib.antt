@@ -8,11 +8,15 @@ pub mod Grouping
 pub mod Groups
 pub mod Forming
 pub mod Kinded
+pub mod Located
+pub mod Matched
 pub mod Names
 pub mod Numbering
 pub mod Numbers
 pub mod Objects
+pub mod Placing
 pub mod Repeating
 pub mod Ruling
+pub mod SelfNames
 pub mod Tallying
 pub mod Versions

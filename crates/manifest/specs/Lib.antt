@@ -5,6 +5,7 @@ pub mod Founds
 pub mod Members
 pub mod Names
 pub mod Numbers
+pub mod Places
 pub mod Questions
 pub mod Rules
 pub mod Tallies

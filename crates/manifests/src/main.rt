@@ -1,22 +1,10 @@
 // Reads manifests from standard input, one to a line, and prints the number that each gets by questions 1 to 9: the lowest that applies.
-use text::Checked;
-
-fn number_of(s: &[u8]) -> usize {
-    match text::check(s) {
-        Checked::Refused(number, _) => number,
-        Checked::Accepted(_) => {
-            let at = view::value::root(s);
-            manifest::check::check(s, at)
-        }
-    }
-}
-
 fn show_all(s: &[u8]) {
     let mut start = 0;
     let mut i = 0;
     while i < s.len() {
         if s[i] == b'\n' {
-            io::print_decimal(1, number_of(&s[start..i]) as u64);
+            io::print_decimal(1, manifest_text::number(&s[start..i]) as u64);
             io::write_all(1, b"\n");
             start = i + 1;
         }

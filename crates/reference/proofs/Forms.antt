@@ -4,21 +4,18 @@ use Prim.Native.Nat.{ℕ, _≤_, _<_}
 use mathlib.Core.Path.{_≡_, refl, ap, sym, _∙_}
 use mathlib.Core.List.{List, [], _∷_}
 use mathlib.Core.Bool.{Bool, true, false, not, _&&_, and-false}
-use native.Mathlib.Omega.{arith}
-use lib.Dec.{leb, eqb}
+use lib.Dec.{eqb}
 use lib.ListN.{length}
 use borrow.Author.Tests.{le-leb, lt-leb, eq-eqb, ne-eqb}
 use Rattle.laws.specs.Order.{same}
-use Rattle.json.specs.Measure.{every}
 use Rattle.reference.specs.Algorithms.{hexDigits, nameOf, named}
-use Rattle.reference.specs.Aliases.{star, isReserved, isDigestLength, isNameLength, isAlias}
-use Rattle.reference.specs.Digests.{isLowerHex, isDigest}
+use Rattle.reference.specs.Aliases.{isReserved, isDigestLength, isNameLength, isAlias}
+use Rattle.reference.specs.Digests.{isDigest}
 use Rattle.reference.specs.Parts.{isDivided, firstPart, parts}
 use Rattle.reference.specs.Readings.{Counts}
-use Rattle.reference.specs.References.{Layer, no-layer, digestLayer, aliasLayer, signerWord, layerOf, layer, Rule, no-rule, ruleUnder, ruleOf, rule, Id, no-id, idUnder, idOf, imageId}
+use Rattle.reference.specs.References.{no-layer, digestLayer, aliasLayer, signerWord, layerOf, layer, no-rule, ruleUnder, ruleOf, rule, no-id, idUnder, idOf, imageId}
 use Rattle.reference.specs.declared.algorithm.Algorithm.{Algorithm}
 use Rattle.reference.specs.declared.algorithm.Algorithm.the-variants.{Sha224, Sha256, Sha384}
-use Rattle.reference.specs.declared.algorithm.Known.{Known}
 use Rattle.reference.specs.declared.algorithm.Known.the-variants.{Is, Unknown}
 use Rattle.reference.specs.declared.part.Part.{Part}
 use Rattle.reference.proofs.Parts.{some-part}

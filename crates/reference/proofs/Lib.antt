@@ -1,4 +1,6 @@
 pub mod Counting
+pub mod Blocks
+pub mod Hex
 pub mod Parts
 pub mod Forms
 pub mod Names

@@ -1,9 +1,9 @@
 -- A name is one of a list of names exactly if it stands there with all its bytes.
 -- Assumes nothing.
 use Prim.Native.Nat.{ℕ}
-use mathlib.Core.Path.{_≡_, refl, sym, _∙_}
+use mathlib.Core.Path.{_≡_}
 use mathlib.Core.List.{List, [], _∷_}
-use mathlib.Core.Bool.{Bool, true, false, _||_}
+use mathlib.Core.Bool.{true}
 use Rattle.laws.specs.Order.{same}
 use Rattle.laws.proofs.Order.{by-test, false-true, same-refl, same-eq}
 use Rattle.reference.specs.Matches.{isOneOf}

@@ -3,15 +3,15 @@
 use Prim.Native.Nat.{ℕ}
 use mathlib.Core.Path.{_≡_, refl, ap, sym, _∙_}
 use mathlib.Core.List.{List, [], _∷_}
-use mathlib.Core.Bool.{Bool, true, false, _&&_, _||_}
+use mathlib.Core.Bool.{Bool, true, false, _||_}
 use lib.ListN.{drop}
 use Rattle.laws.specs.Order.{same}
-use Rattle.strings.specs.InString.{Inside, contentFrom}
+use Rattle.strings.specs.InString.{contentFrom}
 use Rattle.reference.specs.Algorithms.{named}
 use Rattle.reference.specs.Aliases.{star, isAlias}
 use Rattle.reference.specs.Digests.{isDigest}
-use Rattle.reference.specs.Parts.{isDivided, firstPart, afterPart, parts}
-use Rattle.reference.specs.Readings.{Counts, PartAt, Divided, LayerReads, signerForm, manifestForm, SignerInside, ManifestInside, RuleUnder, RuleReads, PlainPart, IdUnder, IdReads}
+use Rattle.reference.specs.Parts.{firstPart, parts}
+use Rattle.reference.specs.Readings.{PartAt, Divided, RuleUnder, RuleReads, PlainPart, IdUnder, IdReads}
 use Rattle.reference.specs.References.{no-layer, layer-digest, layer-alias, digestLayer, aliasLayer, signerWord, layer, any-signer, signer, signerOf, isSigner, any-manifest, manifest, self-alias, manifestOf, isManifest, accepts, no-rule, ruleUnder, rule, no-id, image-id, idUnder, imageId}
 use Rattle.reference.specs.declared.algorithm.Algorithm.{Algorithm}
 use Rattle.reference.specs.declared.algorithm.Known.{Known}

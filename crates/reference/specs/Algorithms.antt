@@ -1,7 +1,7 @@
 -- The digest algorithms: digest lengths and names from document 01, "References, names and rules", their bytes from "The room".
 use Prim.Native.Nat.{ℕ, _*_}
 use mathlib.Core.List.{List, [], _∷_}
-use mathlib.Core.Bool.{Bool, true, false}
+use mathlib.Core.Bool.{true, false}
 use lib.Dec.{eqb}
 use Rattle.laws.specs.Order.{same}
 use Rattle.reference.specs.declared.algorithm.Algorithm.{Algorithm}

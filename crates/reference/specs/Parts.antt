@@ -1,8 +1,10 @@
 -- The parts of a reference are divided by `/` (document 01, "References, names and rules").
 use Prim.Native.Nat.{ℕ}
 use mathlib.Core.List.{List, [], _∷_}
-use mathlib.Core.Bool.{Bool, true, false}
-use lib.Dec.{eqb}
+use mathlib.Core.Bool.{Bool, true, false, _&&_}
+use lib.Dec.{eqb, leb}
+use lib.ListN.{length, take}
+use Rattle.json.specs.Measure.{every, isNot, isUnmarked}
 
 -- some `/` is there
 unfoldable pub isDivided : List ℕ → Bool
@@ -28,3 +30,7 @@ longer b (p ∷ ps) = (b ∷ p) ∷ ps
 unfoldable pub parts : List ℕ → List (List ℕ)
 parts [] = [] ∷ []
 parts (b ∷ s) = elim (eqb b 0x2F) [ true ↦ [] ∷ parts s | false ↦ longer b (parts s) ]
+
+-- at least sixteen bytes, of which none ends a string's content or a part, or begins an escape
+unfoldable pub isBlock : List ℕ → Bool
+isBlock s = leb 16 (length s) && (every isUnmarked (take 16 s) && every (isNot 0x2F) (take 16 s))

@@ -1,18 +1,19 @@
 -- What the readers answer about a string of a text, by positions in the text: the content from a position on stands for the part there.
-use Prim.Native.Nat.{ℕ, _≤_, _<_}
+use Prim.Native.Nat.{ℕ, _+_, _≤_, _<_}
 use mathlib.Core.Path.{_≡_}
 use mathlib.Core.List.{List, [], _∷_, _++_}
 use mathlib.Core.Bool.{true, false, not}
 use lib.ListN.{length, drop}
 use Rattle.json.specs.Measure.{every}
 use Rattle.strings.specs.InString.{Inside, contentFrom}
-use Rattle.reference.specs.Digests.{isLowerHex}
+use Rattle.reference.specs.Digests.{isLowerHex, isDigest}
 use Rattle.reference.specs.Parts.{isDivided, firstPart, afterPart}
 use Rattle.reference.specs.References.{layer, layer-digest, layer-alias, no-layer, Signer as SignerForm, any-signer, signer, Manifest as ManifestForm, any-manifest, manifest, self-alias, rule, ruleUnder, accepts, no-rule, imageId, idUnder, image-id, no-id}
 use Rattle.reference.specs.declared.algorithm.Algorithm.{Algorithm}
 use Rattle.reference.specs.declared.algorithm.Known.the-variants.{Is}
 use Rattle.reference.specs.declared.part.Part.{Part}
 use Rattle.reference.specs.declared.part.Char.{Char}
+use Rattle.reference.specs.declared.part.Start.{Start}
 use Rattle.reference.specs.declared.layer.Layer.{Layer}
 use Rattle.reference.specs.declared.layer.Layer.the-variants.{Digest as LayerDigest, Alias as LayerAlias, Bad as NoLayer}
 use Rattle.reference.specs.declared.rule.Signer.{Signer}
@@ -42,6 +43,15 @@ pub record CharAt (s : List ℕ) (k : ℕ) (u : Char) : Type 0 where
   pub no-divider : (u .scalar ≡ 0x2F → ⊥) → isDivided bytes ≡ false
   pub hex : every isLowerHex bytes ≡ isLowerHex (u .scalar)
 
+-- some bytes at the start of the part at position i, and the position after them
+pub record StartAt (s : List ℕ) (i : ℕ) (p : Start) : Type 0 where
+  pub bytes : List ℕ
+  pub begins : contentFrom s i ≡ bytes ++ contentFrom s (p .next)
+  pub inside : Inside s (p .next)
+  pub size : p .next ≡ i + length bytes
+  pub undivided : isDivided bytes ≡ false
+  pub hex : p .hex ≡ every isLowerHex bytes
+
 -- the part at position i of a text's string, and the position after it
 pub record PartAt (s : List ℕ) (i : ℕ) (p : Part) : Type 0 where
   pub counts : Counts (contentFrom s i) p
@@ -54,6 +64,15 @@ pub record Divided (s : List ℕ) (i : ℕ) (p q : Part) : Type 0 where
   pub first : PartAt s i p
   pub more : p .last ≡ false
   pub second : PartAt s (p .next) q
+
+-- a digest of that algorithm is the part at position i, of a text's string and of plain bytes
+pub record DigestAt (s : List ℕ) (i : ℕ) (a : Algorithm) : Type 0 where
+  pub inside : Inside s i
+  pub digest : isDigest a (firstPart (contentFrom s i)) ≡ true
+
+pub record PlainDigest (s : List ℕ) (i : ℕ) (a : Algorithm) : Type 0 where
+  pub within : i ≤ length s
+  pub digest : isDigest a (firstPart (drop i s)) ≡ true
 
 -- a layer reference: the positions of its digest, or of its signer and its alias
 abbrev pub LayerReads : List ℕ → ℕ → Layer → Type 0

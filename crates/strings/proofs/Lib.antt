@@ -1,7 +1,9 @@
+pub mod Alike
 pub mod Contents
 pub mod Cursors
 pub mod Escapes
 pub mod Names
 pub mod Orders
 pub mod Positions
+pub mod Twins
 pub mod Views

@@ -10,7 +10,8 @@ use lib.Seq.{drop-nil}
 use lib.Dec.{eqb, ltb}
 use Rattle.laws.specs.Order.{leq}
 use Rattle.laws.proofs.Order.{by-test, false-true, leq-less, leq-same, leq-more, Step, less, equal, more, step}
-use Rattle.strings.specs.InString.{InString, Inside}
+use Rattle.utf8.specs.Scalar.{encode}
+use Rattle.strings.specs.InString.{InString, Inside, Escapes}
 use Rattle.strings.specs.Cursor.{Left, Readable, Given, Gives}
 use Rattle.strings.specs.Compare.{order, differs}
 use Rattle.strings.specs.declared.Cursor.{Cursor}
@@ -156,6 +157,20 @@ module _ (s t : List ℕ) (i j : ℕ) {P Q : List ℕ → Type 0} (keep : Tracks
             ∙ by-test (ltb (getD s i 0) (getD t j 0))
             (λ l. order-less (getD s i 0) (getD t j 0) (g .0) (h .0) (ltb-true (getD s i 0) (getD t j 0) l) ∙ rw (differs, e, f, l))
             (λ l. order-more (getD s i 0) (getD t j 0) (g .0) (h .0) (strict (ltb-false (getD s i 0) (getD t j 0) l)) ∙ rw (differs, e, f, l))
+
+-- two contents that begin with the same bytes
+order-append : (xs ys zs : List ℕ) → order (xs ++ ys) (xs ++ zs) ≡ order ys zs
+order-append [] ys zs = refl
+order-append (x ∷ xs) ys zs = order-same x x (xs ++ ys) (xs ++ zs) refl ∙ order-append xs ys zs
+
+-- both go on behind escapes of the same character
+pub both-escaped : (s t : List ℕ) (i j m n c : ℕ) {P Q : List ℕ → Type 0} → Tracks P Q (InString s i) (InString t j)
+    → Escapes s i m c → Escapes t j n c → Tracks P Q (InString s m) (InString t n)
+both-escaped s t i j m n c keep e f x y p q =
+    let k = keep x y p q in
+    let g = e .stands (k .0) (k .2) in
+    let h = f .stands (k .1) (k .3) in
+    (g .0, h .0, g .2, h .2, k .4 ∙ ap (λ (z : List ℕ). order z (k .1)) (g .1) ∙ ap (order (encode c ++ g .0)) (h .1) ∙ order-append (encode c) (g .0) (h .0))
 
 -- what the order says of two contents
 pub data Ordered (xs ys : List ℕ) : Order → Type 0 where

@@ -6,10 +6,11 @@ ghost use mathlib.Core.List.{List, []};
 ghost use mathlib.Core.Bool.{true, _||_};
 ghost use lib.Dec.{eqb};
 ghost use Prim.Native.Nat.{ℕ, _+_, _<_, _≤_};
-ghost use lib.ListN.{length, getD};
+ghost use lib.ListN.{length, getD, take, drop};
+ghost use Rattle.laws.specs.Order.{same};
 ghost use Rattle.json.specs.Grammar.{hexNumber};
 ghost use Rattle.strings.specs.InString.{InString, Inside, HexAt, EscapeAt, HighAt, Escapes};
-ghost use Rattle.strings.specs.Compare.{order, differs};
+ghost use Rattle.strings.specs.Compare.{order, differs, alike, sameEscape};
 ghost use Rattle.strings.specs.Cursor.{Left, Readable, Gives, Encodes, weight};
 
 // The number of the four hexadecimal digits at `at`.
@@ -216,8 +217,8 @@ fn compare_cursors(s: &[u8], a: Cursor, t: &[u8], b: Cursor) -> Order
 }
 
 // The order of two strings' contents from position i of s and position j of t on. Bytes that stand for themselves are compared
-// in place; at the first escape the cursors take over.
-pub fn compare(s: &[u8], i: usize, t: &[u8], j: usize) -> Order
+// in place, and so are escapes of two bytes that are the same; at any other escape the cursors take over.
+fn compare_bytes(s: &[u8], i: usize, t: &[u8], j: usize) -> Order
     requires { ⌜ Inside (now s) i × Inside (now t) j ⌝ }
     ensures { λ r. ⌜ ((x y : List ℕ) → InString (now (s .entry)) i x → InString (now (t .entry)) j y → r ≡ order x y) ⌝ }
 {
@@ -226,6 +227,10 @@ pub fn compare(s: &[u8], i: usize, t: &[u8], j: usize) -> Order
         let x = s[i + k];
         let y = t[j + k];
         if either_escapes(x, y) {
+            if same_escape(s, i + k, t, j + k) {
+                k += 2;
+                continue;
+            }
             return compare_cursors(s, Cursor::new(i + k), t, Cursor::new(j + k));
         }
         if x != y {
@@ -238,11 +243,76 @@ pub fn compare(s: &[u8], i: usize, t: &[u8], j: usize) -> Order
     }
 }
 
+// The same sixteen bytes stand at i of s and at j of t.
+fn same16(s: &[u8], i: usize, t: &[u8], j: usize) -> bool
+    requires { ⌜ (i + 16 ≤ length (now s)) × (j + 16 ≤ length (now t)) ⌝ }
+    ensures { λ r. ⌜ r ≡ same (take 16 (drop i (now (s .entry)))) (take 16 (drop j (now (t .entry)))) ⌝ }
+{
+    let mut all = true;
+    let mut n = 0;
+    while n < 16 {
+        all &= s[i + n] == t[j + n];
+        n += 1;
+    }
+    all
+}
+
+// At i of s and at j of t the same sixteen bytes stand, none of them a quotation mark or a backslash.
+fn alike16(s: &[u8], i: usize, t: &[u8], j: usize) -> bool
+    requires { ⌜ (i ≤ length (now s)) × (j ≤ length (now t)) ⌝ }
+    ensures { λ r. ⌜ r ≡ alike 16 (drop i (now (s .entry))) (drop j (now (t .entry))) ⌝ }
+{
+    if s.len() - i < 16 {
+        return false;
+    }
+    if t.len() - j < 16 {
+        return false;
+    }
+    if !same16(s, i, t, j) {
+        return false;
+    }
+    json::string::unmarked16(s, i)
+}
+
+// The order of two strings' contents from position i of s and position j of t on: sixteen bytes at a time while they are alike. Most
+// strings differ at once, so that is looked at first.
+pub fn compare(s: &[u8], i: usize, t: &[u8], j: usize) -> Order
+    requires { ⌜ Inside (now s) i × Inside (now t) j ⌝ }
+    ensures { λ r. ⌜ ((x y : List ℕ) → InString (now (s .entry)) i x → InString (now (t .entry)) j y → r ≡ order x y) ⌝ }
+{
+    if s[i] != t[j] {
+        return compare_bytes(s, i, t, j);
+    }
+    let mut k = 0;
+    while alike16(s, i + k, t, j + k) {
+        k += 16;
+    }
+    compare_bytes(s, i + k, t, j + k)
+}
+
 // One of the bytes begins an escape.
 fn either_escapes(x: u8, y: u8) -> bool
     ensures { λ r. ⌜ r ≡ (eqb x 0x5C || eqb y 0x5C) ⌝ }
 {
     x == b'\\' || y == b'\\'
+}
+
+// The same escape of two bytes stands at p of s and at q of t. A canonical text has no others.
+fn same_escape(s: &[u8], p: usize, t: &[u8], q: usize) -> bool
+    requires { ⌜ Inside (now s) p × Inside (now t) q ⌝ }
+    ensures { λ r. ⌜ r ≡ sameEscape (now (s .entry)) p (now (t .entry)) q ⌝ }
+{
+    if s[p] != b'\\' {
+        return false;
+    }
+    if t[q] != b'\\' {
+        return false;
+    }
+    let letter = s[p + 1];
+    if letter == b'u' {
+        return false;
+    }
+    letter == t[q + 1]
 }
 
 // The order of two contents that begin with different bytes of the text, where a quotation mark is the end of a content.

@@ -7,21 +7,18 @@ use native.Mathlib.Omega.{arith}
 use lib.ListN.{length, drop, getD, length-drop}
 use Rattle.json.specs.Bytes.{isSpace}
 use Rattle.json.specs.Syntax.{Char, Member}
-use Rattle.json.specs.Grammar.{Space, Word, String, Items, Listed, Pair, Value as Derives}
-use Rattle.json.specs.Read.{spaces, readString}
-use Rattle.json.specs.Content.{refusedString}
-use Rattle.json.specs.Scan.{Scans}
-use Rattle.json.specs.Size.{Within, stringSize}
-use Rattle.json.specs.declared.Scan.{Scan}
+use Rattle.json.specs.Grammar.{Space, Word, Chars, String, Items, Listed, Pair, Value as Derives}
+use Rattle.json.specs.Read.{spaces}
 use Rattle.json.proofs.Places.{drop-next}
 use Rattle.json.proofs.Grammar.Ends.{Inside, inside-length}
 use Rattle.json.proofs.Grammar.Rests.{value-inside, value-ends, pair-inside}
 use Rattle.json.proofs.Grammar.Bytes.{both-ways, starts}
-use Rattle.json.proofs.Grammar.Complete.{Stops, Closes, isFirst, bracket-closes, brace-closes, comma-stops, comma-no-space, space-stops, spaces-complete, first-no-space, value-first, string-begins, string-complete}
-use Rattle.view.specs.Place.{endOf}
+use Rattle.json.proofs.Grammar.Complete.{Stops, Closes, isFirst, bracket-closes, brace-closes, comma-stops, comma-no-space, space-stops, spaces-complete, first-no-space, value-first, string-begins}
+use Rattle.strings.specs.InString.{Inside as InsideString}
+use Rattle.view.specs.Place.{StringEndsAt}
 use Rattle.view.specs.Listed.{Tree, DerivesItem, endMark, ListAt, SomeItem, ItemValue}
 use Rattle.view.proofs.Values.{begins}
-use Rattle.view.proofs.Scalars.{token-end, token-later}
+use Rattle.view.proofs.Passing.{chars-inside, string-chars}
 
 closes : (object : Bool) → Closes (endMark object)
 closes false = bracket-closes
@@ -114,35 +111,32 @@ colon-no-space : isSpace 0x3A ≡ false
 unfolding isSpace
 colon-no-space = refl
 
--- A member's value stands after its key, which ends at position e as `scan` tells, and a colon at position c.
-module _ (s : List ℕ) (p : ℕ) (scan : Scan) (w : Within p scan) (h : Scans refusedString stringSize s (readString (drop p s)) scan)
-    (e : ℕ) (is : e ≡ endOf scan) where
-  key-end : (cs : List Char) (l : List ℕ) → String (drop p s) cs l → (e ≤ length s) × (l ≡ drop e s)
-  key-end cs l k = rw is (token-end refusedString stringSize s scan _ cs l h (string-complete k))
+-- the chars of a member's key
+pair-chars : (s : List ℕ) (p d : ℕ) {m : Member} {r : List ℕ} → Pair (Derives d) (drop p s) m r → (cs : List Char) × (l : List ℕ) × Chars (drop (p + 1) s) cs l
+pair-chars s p d (Pair.pair {s₁ = l} {cs = cs} k q c i j) = (cs, l, string-chars s p cs l k)
 
-  key-later : (cs : List Char) (l : List ℕ) → String (drop p s) cs l → p < e
-  key-later cs l k = rw is (token-later refusedString stringSize s p scan _ cs l w h (string-complete k))
+pub key-inside : (s : List ℕ) (p : ℕ) (object : Bool) → not object ≡ false → SomeItem s p object → InsideString s (p + 1)
+key-inside s p true n here = let k = pair-chars s p (here .depth) (here .derives) in chars-inside s (p + 1) (k .0) (k .1) (k .2)
+key-inside s p false n here = both-ways refl n
 
-  pair-key-end : (d : ℕ) {m : Member} {r : List ℕ} → Pair (Derives d) (drop p s) m r → (p < e) × (e ≤ length s)
-  pair-key-end d (Pair.pair {s₁ = l} {cs = cs} k q c i j) = (key-later cs l k, key-end cs l k .0)
+-- A member's value stands after its key, which ends at position e, and a colon at position c.
+module _ (s : List ℕ) (p e : ℕ) (ends : StringEndsAt s (p + 1) e) where
+  key-end : (cs : List Char) (l : List ℕ) → String (drop p s) cs l → l ≡ drop e s
+  key-end cs l k = ends .rest cs l (string-chars s p cs l k)
 
   module _ (c : ℕ) (after : spaces (drop e s) ≡ drop c s) where
     pair-colon : (d : ℕ) {m : Member} {r : List ℕ} → Pair (Derives d) (drop p s) m r → c < length s
     pair-colon d (Pair.pair {s₁ = l} {s₃ = n} {cs = cs} k q (Word.more {b} f Word.end) i j) =
-        let g : spaces l ≡ drop c s = ap spaces (key-end cs l k .1) ∙ after in
+        let g : spaces l ≡ drop c s = ap spaces (key-end cs l k) ∙ after in
         begins s c b n (sym g ∙ spaces-complete q (rw f colon-no-space)) .within
 
     pair-value : (v : ℕ) → spaces (drop (c + 1) s) ≡ drop v s → (d : ℕ) (m : Member) (r : List ℕ) → Pair (Derives d) (drop p s) m r
         → Derives d (drop v s) (m .value) r
     pair-value v x d m r (Pair.pair {s₁ = l} {s₃ = n} {s₄ = o} {cs = cs} {t = t} k q (Word.more {b} f Word.end) i j) =
-        let g : spaces l ≡ drop c s = ap spaces (key-end cs l k .1) ∙ after in
+        let g : spaces l ≡ drop c s = ap spaces (key-end cs l k) ∙ after in
         let y = begins s c b n (sym g ∙ spaces-complete q (rw f colon-no-space)) .next in
         let z : o ≡ drop v s = sym (spaces-complete i (first-no-space o (value-first d o t r j))) ∙ ap spaces (sym y) ∙ x in
         rw (← z) j
-
-  pub member-end : (object : Bool) → not object ≡ false → SomeItem s p object → (p < e) × (e ≤ length s)
-  member-end true n here = pair-key-end (here .depth) (here .derives)
-  member-end false n here = both-ways refl n
 
   pub member-colon : (object : Bool) → not object ≡ false → SomeItem s p object → (c : ℕ) → spaces (drop e s) ≡ drop c s → c < length s
   member-colon true n here c a = pair-colon c a (here .depth) (here .derives)

@@ -1,5 +1,8 @@
 pub mod Values
 pub mod ByKind
+pub mod Passing
+pub mod Nesting
+pub mod Counting
 pub mod Scalars
 pub mod Items
 pub mod Steps

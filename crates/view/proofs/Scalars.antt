@@ -9,17 +9,19 @@ use lib.ListN.{length, drop, getD, length-drop}
 use lib.Seq.{drop-drop}
 use Rattle.json.specs.Syntax.{Syntax, Numeral, Char}
 use Rattle.json.specs.Grammar.{Word, Number, String, Scalar}
-use Rattle.json.specs.Read.{Read, found, stuck, readString, readNumber}
-use Rattle.json.specs.Content.{refusedString, refusedNumber}
+use Rattle.json.specs.Read.{Read, found, stuck, readNumber}
+use Rattle.json.specs.Content.{refusedNumber}
 use Rattle.json.specs.Scan.{Scans}
-use Rattle.json.specs.Size.{Within, stringSize, numeralSize}
+use Rattle.json.specs.Size.{Within, numeralSize}
 use Rattle.json.specs.declared.Scan.{Scan}
 use Rattle.json.specs.declared.Scan.the-variants.{Token, NoToken}
 use Rattle.json.proofs.Grammar.Ends.{inside-length}
 use Rattle.json.proofs.Grammar.Rests.{scalar-inside}
-use Rattle.json.proofs.Grammar.Complete.{string-complete, number-complete}
-use Rattle.view.specs.Place.{EndsAt, ScalarAt, endOf}
+use Rattle.json.proofs.Grammar.Complete.{number-complete}
+use Rattle.strings.specs.InString.{Inside}
+use Rattle.view.specs.Place.{EndsAt, StringEndsAt, ScalarAt, endOf}
 use Rattle.view.proofs.Values.{begins, Numeric, numeric, number-numeric}
+use Rattle.view.proofs.Passing.{chars-inside, string-chars}
 
 -- a word has as many bytes as it says
 word-end : {w l r : List ℕ} → Word w l r → (r ≡ drop (length w) l) × (length w ≤ length l)
@@ -57,14 +59,14 @@ view-of s at l t r e (Scalar.is-string {cs = cs} p) = at-string cs (string-first
 
 -- where a token that was found ends
 module _ {A : Type 0} (refused : A → Bool) (size : A → ℕ) (s : List ℕ) where
-  pub token-end : (scan : Scan) (x : Read A) (a : A) (r : List ℕ) → Scans refused size s x scan → x ≡ found a r
+  token-end : (scan : Scan) (x : Read A) (a : A) (r : List ℕ) → Scans refused size s x scan → x ≡ found a r
       → (endOf scan ≤ length s) × (r ≡ drop (endOf scan) s)
   token-end (Token e f n) (found b q) a r h p = (h .0 .0, cc)
   token-end (Token e f n) (stuck q) a r h p = absurd h
   token-end (NoToken e) (found b q) a r h p = absurd h
   token-end (NoToken e) (stuck q) a r h p = let z : _≡_ {A = ℕ} 0 1 = cc in absurd (omega arith)
 
-  pub token-later : (at : ℕ) (scan : Scan) (x : Read A) (a : A) (r : List ℕ) → Within at scan → Scans refused size s x scan → x ≡ found a r
+  token-later : (at : ℕ) (scan : Scan) (x : Read A) (a : A) (r : List ℕ) → Within at scan → Scans refused size s x scan → x ≡ found a r
       → at < endOf scan
   token-later at (Token e f n) x a r w h p = w .0
   token-later at (NoToken e) (found b q) a r w h p = absurd h
@@ -115,22 +117,24 @@ module _ (s : List ℕ) (at : ℕ) (here : ScalarAt s at) where
   pub ends-five : getD s at 0 ≡ 0x66 → EndsAt s at 0 (at + 5)
   ends-five k = record { later = omega arith; within = five s at _ _ seen k .1; rest = λ t r p h. five s at _ r (view t r p) k .0 }
 
-  module _ (scan : Scan) (within : Within at scan) where
-    pub ends-string : getD s at 0 ≡ 0x22 → Scans refusedString stringSize s (readString (drop at s)) scan → EndsAt s at 0 (endOf scan)
-    ends-string k h =
-        let p = string-here s at _ _ seen k in
-        record {
-          later = token-later refusedString stringSize s at scan _ _ _ within h (string-complete (p .1));
-          within = token-end refusedString stringSize s scan _ _ _ h (string-complete (p .1)) .0;
-          rest = λ t r q _. token-end refusedString stringSize s scan _ _ _ h (string-complete (string-here s at _ r (view t r q) k .1)) .1;
-        }
+  pub string-inside : getD s at 0 ≡ 0x22 → Inside s (at + 1)
+  string-inside k = let p = string-here s at _ _ seen k in chars-inside s (at + 1) (p .0) (here .rest) (string-chars s at (p .0) (here .rest) (p .1))
 
-    pub ends-number : ((getD s at 0 ≡ 0x6E) ⊎ (getD s at 0 ≡ 0x74) → ⊥) → (getD s at 0 ≡ 0x66 → ⊥) → (getD s at 0 ≡ 0x22 → ⊥)
-        → Scans refusedNumber numeralSize s (readNumber (drop at s)) scan → EndsAt s at 0 (endOf scan)
-    ends-number i j k h =
-        let p = number-here s at _ _ seen i j k in
-        record {
-          later = token-later refusedNumber numeralSize s at scan _ _ _ within h (number-complete (p .1) (here .stops));
-          within = token-end refusedNumber numeralSize s scan _ _ _ h (number-complete (p .1) (here .stops)) .0;
-          rest = λ t r q stops. token-end refusedNumber numeralSize s scan _ _ _ h (number-complete (number-here s at _ r (view t r q) i j k .1) stops) .1;
-        }
+  pub ends-string : (e : ℕ) → StringEndsAt s (at + 1) e → getD s at 0 ≡ 0x22 → EndsAt s at 0 e
+  ends-string e h k =
+      let l = h .later in
+      record {
+        later = omega arith;
+        within = h .within;
+        rest = λ t r q _. let p = string-here s at _ r (view t r q) k in h .rest (p .0) r (string-chars s at (p .0) r (p .1));
+      }
+
+  pub ends-number : (scan : Scan) → Within at scan → ((getD s at 0 ≡ 0x6E) ⊎ (getD s at 0 ≡ 0x74) → ⊥) → (getD s at 0 ≡ 0x66 → ⊥) → (getD s at 0 ≡ 0x22 → ⊥)
+      → Scans refusedNumber numeralSize s (readNumber (drop at s)) scan → EndsAt s at 0 (endOf scan)
+  ends-number scan within i j k h =
+      let p = number-here s at _ _ seen i j k in
+      record {
+        later = token-later refusedNumber numeralSize s at scan _ _ _ within h (number-complete (p .1) (here .stops));
+        within = token-end refusedNumber numeralSize s scan _ _ _ h (number-complete (p .1) (here .stops)) .0;
+        rest = λ t r q stops. token-end refusedNumber numeralSize s scan _ _ _ h (number-complete (number-here s at _ r (view t r q) i j k .1) stops) .1;
+      }

@@ -1,7 +1,8 @@
--- What `skip`, `skip_items` and `read_item` keep: from a value to its items, from one item to the next, and to the end.
+-- What `skip` and `read_item` rest on: from a value to its items, and from one item to the next.
 use Prim.Native.Nat.{ℕ, _+_, _-_, _<_, _≤_}
 use mathlib.Core.Path.{_≡_, refl, sym, ap, _∙_}
-use mathlib.Core.List.{List, [], _∷_}
+use mathlib.Core.Logic.{inl, inr, ⊎-elim}
+use mathlib.Core.List.{List, _∷_}
 use mathlib.Core.Bool.{Bool, true, false}
 use native.Mathlib.Omega.{arith}
 use lib.ListN.{length, drop, getD, length-drop}
@@ -12,9 +13,10 @@ use Rattle.json.proofs.Grammar.Rests.{space-ends, word-inside}
 use Rattle.json.proofs.Grammar.Complete.{Stops}
 use Rattle.content.specs.Value.{content}
 use Rattle.view.specs.Place.{Readable, EndsAt, ScalarAt}
-use Rattle.view.specs.Listed.{Tree, valueTree, DerivesItem, openMark, endMark, ListAt, SomeList, ListEndsAt, SomeItem, ItemValue, Gives}
+use Rattle.view.specs.Listed.{Tree, valueTree, DerivesItem, openMark, endMark, ListAt, SomeList, AnyList, ListEndsAt, SomeItem, ItemValue, Gives}
 use Rattle.view.specs.declared.value.Item.the-variants.{At, End}
 use Rattle.view.proofs.Values.{value-within, opened, is-scalar}
+use Rattle.view.proofs.Nesting.{Opens}
 use Rattle.view.proofs.Items.{item-inside, Started, ended, item, Next, at-mark, at-comma, next}
 
 -- a value: its items, or that it is a scalar
@@ -23,13 +25,13 @@ module _ (s : List ℕ) (at d : ℕ) where
   readable-within p = let h = p .here in value-within s at d (h .tree) (h .rest) (h .derives)
 
   module _ (object : Bool) (mark : getD s at 0 ≡ openMark object) where
-    pub readable-list : Readable s at d → (0 < d) × SomeList s (at + 1) (d - 1) object
+    readable-list : Readable s at d → SomeList s (at + 1) (d - 1) object
     readable-list p =
         let h = p .here in
         let o = opened s at d (h .tree) (h .rest) (h .derives) object mark in
-        (o .some, record { trees = o .trees; rest = h .rest; here = o .items })
+        record { trees = o .trees; rest = h .rest; here = o .items }
 
-    pub list-ends : (e : ℕ) → ListEndsAt s (at + 1) (d - 1) object e → EndsAt s at d e
+    list-ends : (e : ℕ) → ListEndsAt s (at + 1) (d - 1) object e → EndsAt s at d e
     list-ends e l =
         let later = l .later in
         record {
@@ -38,7 +40,22 @@ module _ (s : List ℕ) (at d : ℕ) where
           rest = λ t r p _. let o = opened s at d t r p object mark in l .rest (o .trees) r (o .items);
         }
 
-  module _ (array : getD s at 0 ≡ 0x5B → ⊥) (object : getD s at 0 ≡ 0x7B → ⊥) where
+  -- either opening mark
+  pub readable-nested : Opens (getD s at 0) → Readable s at d → AnyList s (at + 1)
+  readable-nested k p =
+      ⊎-elim (λ e. record { depth = d - 1; object = false; list = readable-list false e p })
+      (λ e. record { depth = d - 1; object = true; list = readable-list true e p }) k
+
+  pub nested-ends : Opens (getD s at 0) → (e : ℕ) → ((x : ℕ) (object : Bool) → ListEndsAt s (at + 1) x object e) → EndsAt s at d e
+  nested-ends k e h = ⊎-elim (λ q. list-ends false q e (h (d - 1) false)) (λ q. list-ends true q e (h (d - 1) true)) k
+
+  module _ (mark : Opens (getD s at 0) → ⊥) where
+    array : getD s at 0 ≡ 0x5B → ⊥
+    array e = mark (inl e)
+
+    object : getD s at 0 ≡ 0x7B → ⊥
+    object e = mark (inr e)
+
     pub readable-scalar : Readable s at d → ScalarAt s at
     readable-scalar p =
         let h = p .here in
@@ -123,18 +140,3 @@ module _ (s : List ℕ) (p v q d : ℕ) (object : Bool) where
   gives-last at ts r a e (taken {ts = us} l h x i n) =
       let w = next-within us r n in
       record { after = l; derives = h; value = x; stops = i; others = at-end us r e n; later = a; within = omega arith }
-
--- what was given of the items
-module _ (s : List ℕ) (at d : ℕ) (object : Bool) (r : List ℕ) where
-  pub given-end : (ts : List (Tree object)) (e : ℕ) → Gives s at d object ts r (End e) → (at < e) × (e ≤ length s) × (r ≡ drop e s)
-  given-end [] e g = g
-  given-end (t ∷ ts) e g = absurd g
-
-  module _ (p v n : ℕ) where
-    pub given-later : (ts : List (Tree object)) → Gives s at d object ts r (At p v n) → (at < n) × (n ≤ length s)
-    given-later [] g = absurd g
-    given-later (t ∷ ts) g = (g .later, g .within)
-
-    pub given-others : (ts : List (Tree object)) → Gives s at d object ts r (At p v n) → (us : List (Tree object)) × ListAt s n d object us r
-    given-others [] g = absurd g
-    given-others (t ∷ ts) g = (ts, g .others)

@@ -39,6 +39,12 @@ pub record SomeList (s : List ℕ) (at depth : ℕ) (object : Bool) : Type 0 whe
   pub rest : List ℕ
   pub here : ListAt s at depth object trees rest
 
+-- the items of an array or an object of some depth, and their end mark
+pub record AnyList (s : List ℕ) (at : ℕ) : Type 0 where
+  pub depth : ℕ
+  pub object : Bool
+  pub list : SomeList s at depth object
+
 -- Position e is the one after the end mark.
 pub record ListEndsAt (s : List ℕ) (at depth : ℕ) (object : Bool) (e : ℕ) : Type 0 where
   pub later : at < e

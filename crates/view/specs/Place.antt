@@ -1,12 +1,14 @@
 -- Where a value stands in a text, and what its content is.
 use Prim.Native.Nat.{ℕ, _<_, _≤_, _^_}
 use mathlib.Core.Path.{_≡_}
-use mathlib.Core.List.{List}
-use mathlib.Core.Bool.{Bool}
-use lib.ListN.{length, drop}
-use Rattle.json.specs.Syntax.{Syntax}
-use Rattle.json.specs.Grammar.{Scalar, Value as Derives}
+use mathlib.Core.List.{List, _∷_}
+use mathlib.Core.Bool.{Bool, _&&_}
+use lib.Dec.{leb}
+use lib.ListN.{length, take, drop}
+use Rattle.json.specs.Syntax.{Syntax, Char}
+use Rattle.json.specs.Grammar.{Chars, Scalar, Value as Derives}
 use Rattle.json.specs.Content.{decimal}
+use Rattle.json.specs.Measure.{isUnmarked, every}
 use Rattle.json.specs.declared.Scan.{Scan}
 use Rattle.json.specs.declared.Scan.the-variants.{Token, NoToken}
 use Rattle.json.proofs.Grammar.Complete.{Stops}
@@ -60,6 +62,22 @@ pub record EndsAt (s : List ℕ) (at depth e : ℕ) : Type 0 where
   pub later : at < e
   pub within : e ≤ length s
   pub rest : (t : Syntax) (r : List ℕ) → Derives depth (drop at s) t r → Stops r → r ≡ drop e s
+
+-- Position e is the one after the closing quotation mark of the string whose chars go on at position `from`.
+pub record StringEndsAt (s : List ℕ) (from e : ℕ) : Type 0 where
+  pub later : from < e
+  pub within : e ≤ length s
+  pub rest : (cs : List Char) (r : List ℕ) → Chars (drop from s) cs r → r ≡ drop e s
+
+-- Position e is the one after the char of a string at position i.
+pub record CharEndsAt (s : List ℕ) (i e : ℕ) : Type 0 where
+  pub later : i < e
+  pub within : e ≤ length s
+  pub rest : (cs : List Char) (r : List ℕ) → Chars (drop i s) cs r → (c : Char) × (ds : List Char) × (cs ≡ c ∷ ds) × Chars (drop e s) ds r
+
+-- n bytes are there, and none of them is a quotation mark or a backslash
+unfoldable pub unmarkedRun : ℕ → List ℕ → Bool
+unmarkedRun n xs = leb n (length xs) && every isUnmarked (take n xs)
 
 -- a value that is neither an array nor an object
 pub record ScalarAt (s : List ℕ) (at : ℕ) : Type 0 where

@@ -4,15 +4,17 @@ use crate::Whole;
 ghost use mathlib.Core.Path.{_≡_};
 ghost use mathlib.Core.List.{List};
 ghost use mathlib.Core.Bool.{Bool};
-ghost use Prim.Native.Nat.{ℕ};
+ghost use Prim.Native.Nat.{ℕ, _≤_};
+ghost use lib.ListN.{length, drop};
 ghost use Rattle.json.specs.Syntax.{Syntax};
 ghost use Rattle.json.specs.Grammar.{Text};
 ghost use Rattle.json.specs.Read.{spaces};
 ghost use Rattle.json.specs.Scan.{At};
 ghost use Rattle.json.specs.Content.{decimal};
+ghost use Rattle.strings.specs.InString.{Inside, EscapeAt};
 ghost use Rattle.content.specs.Value.{Value, boolean as isBoolean, number, content};
-ghost use Rattle.view.specs.Place.{ValueAt, Readable, SomeValue, SomeBoolean, SmallNumber, kindOf, EndsAt, ScalarAt, endOf};
-ghost use Rattle.view.specs.Listed.{Tree, ListAt, SomeList, ListEndsAt, SomeItem, ItemValue, Gives, endMark};
+ghost use Rattle.view.specs.Place.{ValueAt, Readable, SomeValue, SomeBoolean, SmallNumber, kindOf, EndsAt, StringEndsAt, CharEndsAt, unmarkedRun, ScalarAt, endOf};
+ghost use Rattle.view.specs.Listed.{Tree, ListAt, SomeList, AnyList, ListEndsAt, SomeItem, ItemValue, Gives, endMark};
 
 // The value of a whole text: it stands after the first spaces.
 pub fn root(s: &[u8]) -> usize
@@ -88,6 +90,57 @@ fn token_end(r: json::Scan) -> usize
     }
 }
 
+// Sixteen bytes are left from `at` on, and none of them is a quotation mark or a backslash.
+fn unmarked_left(s: &[u8], at: usize) -> bool
+    requires { ⌜ at ≤ length (now s) ⌝ }
+    ensures { λ r. ⌜ r ≡ unmarkedRun 16 (drop at (now (s .entry))) ⌝ }
+{
+    if s.len() - at < 16 {
+        return false;
+    }
+    json::string::unmarked16(s, at)
+}
+
+// The position after the escape at `i`: a \u escape has four digits.
+fn escape_end(s: &[u8], i: usize) -> usize
+    requires { ⌜ EscapeAt (now s) i ⌝ }
+    ensures { λ e. ⌜ CharEndsAt (now (s .entry)) i e ⌝ }
+{
+    if s[i + 1] == b'u' { i + 6 } else { i + 2 }
+}
+
+// The position after the closing quotation mark of the string whose content goes on at `from`, one char at a time.
+fn string_tail(s: &[u8], from: usize) -> usize
+    requires { ⌜ Inside (now s) from ⌝ }
+    ensures { λ e. ⌜ StringEndsAt (now (s .entry)) from e ⌝ }
+{
+    let mut i = from;
+    loop {
+        let b = s[i];
+        if b == b'"' {
+            return i + 1;
+        }
+        if b == b'\\' {
+            i = escape_end(s, i);
+        } else {
+            i += 1;
+        }
+    }
+}
+
+// The position after the closing quotation mark of the string whose content goes on at `from`: sixteen bytes at a time while none
+// of them ends it or begins an escape.
+fn string_end(s: &[u8], from: usize) -> usize
+    requires { ⌜ Inside (now s) from ⌝ }
+    ensures { λ e. ⌜ StringEndsAt (now (s .entry)) from e ⌝ }
+{
+    let mut i = from;
+    while unmarked_left(s, i) {
+        i += 16;
+    }
+    string_tail(s, i)
+}
+
 // The position after a value that is neither an array nor an object.
 fn scalar_end(s: &[u8], at: usize) -> usize
     requires { ⌜ ScalarAt (now s) at ⌝ }
@@ -96,42 +149,43 @@ fn scalar_end(s: &[u8], at: usize) -> usize
     match s[at] {
         b'n' | b't' => at + 4,
         b'f' => at + 5,
-        b'"' => token_end(json::string::string(s, at)),
+        b'"' => string_end(s, at + 1),
         _ => token_end(json::number::number(s, at)),
     }
 }
 
-// The position after a value that is nested at most `depth` deep.
+// The position after the end mark of the array or the object whose items begin at `from`. Brackets are counted, and strings are
+// passed whole, since they may hold brackets; the text was checked, so which brackets belong together need not be asked.
+fn skip_nested(s: &[u8], from: usize) -> usize
+    requires { ⌜ AnyList (now s) from ⌝ }
+    ensures { λ e. ⌜ ((depth : ℕ) (object : Bool) → ListEndsAt (now (s .entry)) from depth object e) ⌝ }
+{
+    let mut i = from;
+    let mut open: usize = 1;
+    while 0 < open {
+        let b = s[i];
+        if b == b'"' {
+            i = string_end(s, i + 1);
+        } else {
+            i += 1;
+            match b {
+                b'[' | b'{' => open += 1,
+                b']' | b'}' => open -= 1,
+                _ => {}
+            }
+        }
+    }
+    i
+}
+
+// The position after a value that is nested at most `depth` deep; only the contract speaks of the depth.
 pub fn skip(s: &[u8], at: usize, depth: usize) -> usize
     requires { ⌜ Readable (now s) at depth ⌝ }
     ensures { λ r. ⌜ EndsAt (now (s .entry)) at depth r ⌝ }
 {
     match s[at] {
-        b'[' => skip_items(s, at + 1, depth - 1, false),
-        b'{' => skip_items(s, at + 1, depth - 1, true),
+        b'[' | b'{' => skip_nested(s, at + 1),
         _ => scalar_end(s, at),
-    }
-}
-
-// The position after the items from `at` on and their end mark.
-fn skip_items(s: &[u8], at: usize, depth: usize, object: bool) -> usize
-    requires { ⌜ SomeList (now s) at depth object ⌝ }
-    ensures { λ r. ⌜ ListEndsAt (now (s .entry)) at depth object r ⌝ }
-{
-    let mut i = at;
-    loop {
-        match read_item(s, i, depth, object) {
-            Item::At {
-                first: _,
-                value: _,
-                next,
-            } => {
-                i = next;
-            }
-            Item::End(end) => {
-                return end;
-            }
-        }
     }
 }
 
@@ -174,7 +228,7 @@ pub fn item_value(s: &[u8], at: usize, object: bool) -> usize
     if !object {
         return at;
     }
-    let end = token_end(json::string::string(s, at));
+    let end = string_end(s, at + 1);
     let colon = json::space::skip_spaces(s, end);
     json::space::skip_spaces(s, colon + 1)
 }

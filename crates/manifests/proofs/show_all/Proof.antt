@@ -20,17 +20,17 @@ loop-holds c = search needs
 shared-slice-read-if1 : tie.Need-shared-slice-read-if1 Inv-loop μ-loop
 shared-slice-read-if1 c = search needs
 
-sub-number-of : tie.Need-sub-number-of Inv-loop μ-loop
-sub-number-of c = search needs
+sub-number : tie.Need-sub-number Inv-loop μ-loop
+sub-number c = search needs
 
-part-number-of-start : tie.Need-part-number-of-start Inv-loop μ-loop
-part-number-of-start c = search needs
+part-number-start : tie.Need-part-number-start Inv-loop μ-loop
+part-number-start c = search needs
 
-part-number-of-end : tie.Need-part-number-of-end Inv-loop μ-loop
-part-number-of-end c = search needs
+part-number-end : tie.Need-part-number-end Inv-loop μ-loop
+part-number-end c = search needs
 
-number-of-requires : tie.Need-number-of-requires Inv-loop μ-loop
-number-of-requires c κs = search needs
+number-requires : tie.Need-number-requires Inv-loop μ-loop
+number-requires c κs = search needs
 
 print-decimal-requires : tie.Need-print-decimal-requires Inv-loop μ-loop
 print-decimal-requires c κs = search needs
@@ -64,10 +64,10 @@ show-all-spec =
     μ-loop
     loop-holds
     shared-slice-read-if1
-    sub-number-of
-    part-number-of-start
-    part-number-of-end
-    number-of-requires
+    sub-number
+    part-number-start
+    part-number-end
+    number-requires
     print-decimal-requires
     slice-aggregate-write-all
     write-all-requires

@@ -1,4 +1,6 @@
-use borrow.Author.Needs.{needs}
+-- `strings::compare` meets its contract. The loop's invariant: k bytes are passed in both, and the order of what is left is the order of
+-- the whole. The measure is how much of s is left.
+-- Assumes nothing.
 use Prim.Native.Nat.{ℕ, _+_, _-_}
 use mathlib.Core.Path.{_≡_, refl, sym, subst, subst₂, _∙_}
 use native.Mathlib.Omega.{arith}
@@ -6,98 +8,75 @@ use native.Mathlib.Nat.{add-zero, add-assoc}
 use lib.ListN.{length}
 use denote.Ref.{now}
 use Rattle.strings.specs.InString.{InString, Inside}
-use Rattle.strings.proofs.Orders.{Tracks, new-left, either-false, inside-within, inside-next, bytes-differ, both-close, both-plain}
+use Rattle.strings.proofs.Orders.{inside-within}
+use Rattle.strings.proofs.Alike.{Both, fits, past}
 use Rattle.strings.proofs.compare.Statement.{statement}
 use Rattle.strings.proofs.compare.Tie as tie
-use Rattle.strings.proofs.compare.Reads as reads
-use Rattle.strings.proofs.compare.Lts as lts
-use Rattle.strings.proofs.Cursor.new.Reads as new-reads
-use Rattle.strings.proofs.compare_cursors.Reads as compare-cursors-reads
-use Rattle.strings.proofs.differ.Reads as differ-reads
-use Rattle.strings.proofs.either_escapes.Reads as either-escapes-reads
 
 abbrev Inv-loop : tie.InvT-loop
-Inv-loop s i t j k₀ k =
-    Inside s (i + k) × Inside t (j + k) × Tracks (InString s i) (InString t j) (InString s (i + k)) (InString t (j + k))
+Inv-loop s i t j k₀ k = Both (InString s i) (InString t j) s (i + k) t (j + k)
 
 abbrev μ-loop : tie.MeasureT-loop
 μ-loop s i t j k₀ k = length s - (i + k)
 
-loop-holds : tie.Need-loop-holds Inv-loop μ-loop
-loop-holds c =
-    let a = c .before .before .args in (
-      subst (Inside (now (a .s))) (sym (add-zero (a .i))) (c .before .before .pre .0),
-      subst (Inside (now (a .t))) (sym (add-zero (a .j))) (c .before .before .pre .1),
-      λ x y p q. (x, y, subst (λ (n : ℕ). InString (now (a .s)) n x) (sym (add-zero (a .i))) p, subst (λ (n : ℕ). InString (now (a .t)) n y) (sym (add-zero (a .j))) q, refl),
-    )
+shared-slice-read-if1 : tie.Need-shared-slice-read-if1 Inv-loop μ-loop
+shared-slice-read-if1 c = inside-within _ _ (c .before .before .before .pre .0)
 
-add-x : tie.Need-add-x Inv-loop μ-loop
-add-x c = omega (arith, inside-within _ _ (c .loop .inv .0))
+shared-slice-read-if1-2 : tie.Need-shared-slice-read-if1-2 Inv-loop μ-loop
+shared-slice-read-if1-2 c = inside-within _ _ (c .before .before .before .before .pre .1)
 
-shared-slice-read-x : tie.Need-shared-slice-read-x Inv-loop μ-loop
-shared-slice-read-x c = inside-within _ _ (c .before .loop .inv .0)
-
-add-y : tie.Need-add-y Inv-loop μ-loop
-add-y c = omega (arith, inside-within _ _ (c .before .loop .inv .1))
-
-shared-slice-read-y : tie.Need-shared-slice-read-y Inv-loop μ-loop
-shared-slice-read-y c = inside-within _ _ (c .before .before .loop .inv .1)
-
-either-escapes-requires : tie.Need-either-escapes-requires Inv-loop μ-loop
-either-escapes-requires c κs = search needs
-
-add-new : tie.Need-add-new Inv-loop μ-loop
-add-new c = omega (arith, inside-within _ _ (c .before .before .before .before .loop .inv .0))
-
-new-requires : tie.Need-new-requires Inv-loop μ-loop
-new-requires c κs = search needs
-
-add-new-2 : tie.Need-add-new-2 Inv-loop μ-loop
-add-new-2 c = omega (arith, inside-within _ _ (c .before .before .before .before .before .loop .inv .1))
-
-new-requires-2 : tie.Need-new-requires-2 Inv-loop μ-loop
-new-requires-2 c κs = search needs
-
-compare-cursors-requires : tie.Need-compare-cursors-requires Inv-loop μ-loop
-compare-cursors-requires c κs =
-    let inv = c .before .before .before .before .before .before .loop .inv in
-    (record { bytes = inv .0 .bytes; left = new-left _ _ _ _ (c .before .new .ensures) (inv .0 .here) }, record { bytes = inv .1 .bytes; left = new-left _ _ _ _ (c .new2 .ensures) (inv .1 .here) })
+compare-bytes-requires : tie.Need-compare-bytes-requires Inv-loop μ-loop
+compare-bytes-requires c κs = c .before .before .before .before .before .pre
 
 returns : tie.Need-returns Inv-loop μ-loop
-returns c =
-    let inv = c .before .before .before .before .before .before .before .loop .inv in
-    λ x y p q. let k = inv .2 x y p q in
-    c .compare-cursors .ensures (k .0) (k .1) (new-left _ _ _ _ (c .before .before .new .ensures) (k .2)) (new-left _ _ _ _ (c .before .new2 .ensures) (k .3)) ∙ sym (k .4)
+returns c = c .compare-bytes .ensures
 
-differ-requires : tie.Need-differ-requires Inv-loop μ-loop
-differ-requires c κs = search needs
+loop-holds : tie.Need-loop-holds Inv-loop μ-loop
+loop-holds c =
+    let a = c .before .before .before .before .before .args in
+    subst₂ (λ (m n : ℕ). Both (InString (now (a .s)) (a .i)) (InString (now (a .t)) (a .j)) (now (a .s)) m (now (a .t)) n) (sym (add-zero (a .i))) (sym (add-zero (a .j)))
+    (c .before .before .before .before .before .pre .0, c .before .before .before .before .before .pre .1, λ x y p q. (x, y, p, q, refl))
 
-returns-2 : tie.Need-returns-2 Inv-loop μ-loop
-returns-2 c =
-    let e = either-false _ _ (sym (c .before .before .before .either-escapes .ensures) ∙ c .before .before .if1 .left) in
-    λ x y p q. c .differ .ensures ∙ bytes-differ _ _ _ _ (c .before .before .before .before .before .before .loop .inv .2) (e .0) (e .1) (c .before .if2 .taken) x y p q
+add-alike16 : tie.Need-add-alike16 Inv-loop μ-loop
+add-alike16 c = omega (arith, inside-within _ _ (c .loop .inv .0))
 
-returns-3 : tie.Need-returns-3 Inv-loop μ-loop
-returns-3 c = both-close _ _ _ _ (c .before .before .before .before .before .before .loop .inv .2) (c .before .if2 .left) (c .if3 .taken)
+add-alike16-2 : tie.Need-add-alike16-2 Inv-loop μ-loop
+add-alike16-2 c = omega (arith, inside-within _ _ (c .loop .inv .1))
+
+alike16-requires : tie.Need-alike16-requires Inv-loop μ-loop
+alike16-requires c κs = (omega (arith, inside-within _ _ (c .loop .inv .0)), omega (arith, inside-within _ _ (c .loop .inv .1)))
 
 add-k : tie.Need-add-k Inv-loop μ-loop
-add-k c = omega (arith, inside-within _ _ (c .before .before .before .before .before .before .loop .inv .0))
+add-k c =
+    let l = c .before .before .loop in
+    let a = c .before .before .before .before .before .before .before .before .args in
+    let w = inside-within (now (a .s)) (a .i + l .k) (l .inv .0) in
+    let f = fits (now (a .s)) (now (a .t)) (a .i + l .k) (a .j + l .k) 16 (sym (c .before .alike16 .ensures) ∙ c .if2 .taken) (omega arith) in
+    omega (arith, c .before .before .before .before .before .before .before .before .good)
 
 loop-less : tie.Need-loop-less Inv-loop μ-loop
-loop-less c = omega (arith, inside-within _ _ (c .before .before .before .before .before .before .loop .inv .0))
+loop-less c = omega (arith, inside-within _ _ (c .before .before .loop .inv .0))
 
 loop-again : tie.Need-loop-again Inv-loop μ-loop
 loop-again c =
-    let a = c .before .before .before .before .before .before .before .before .before .args in
-    let k = c .before .before .before .before .before .before .loop .k in
-    let inv = c .before .before .before .before .before .before .loop .inv in
-    let e = either-false _ _ (sym (c .before .before .before .either-escapes .ensures) ∙ c .before .before .if1 .left) in
-    let f = c .before .if2 .left in (
-      subst (Inside (now (a .s))) (add-assoc (a .i) k 1) (inside-next _ _ (inv .0) (c .if3 .left) (e .0)),
-      subst (Inside (now (a .t))) (add-assoc (a .j) k 1) (inside-next _ _ (inv .1) (λ h. c .if3 .left (f ∙ h)) (e .1)),
-      subst₂ (λ (m n : ℕ). Tracks (InString (now (a .s)) (a .i)) (InString (now (a .t)) (a .j)) (InString (now (a .s)) m) (InString (now (a .t)) n)) (add-assoc (a .i) k 1) (add-assoc (a .j) k 1)
-          (both-plain _ _ _ _ (inv .2) (e .0) (e .1) f (c .if3 .left)),
-    )
+    let l = c .before .before .loop in
+    let a = c .before .before .before .before .before .before .before .before .args in
+    subst₂ (λ (m n : ℕ). Both (InString (now (a .s)) (a .i)) (InString (now (a .t)) (a .j)) (now (a .s)) m (now (a .t)) n) (add-assoc (a .i) (l .k) 16) (add-assoc (a .j) (l .k) 16)
+    (past (now (a .s)) (now (a .t)) (a .i + l .k) (a .j + l .k) 16 (sym (c .before .alike16 .ensures) ∙ c .if2 .taken) (InString (now (a .s)) (a .i)) (InString (now (a .t)) (a .j)) (l .inv))
+
+add-compare-bytes : tie.Need-add-compare-bytes Inv-loop μ-loop
+add-compare-bytes c = omega (arith, inside-within _ _ (c .before .before .loop .inv .0))
+
+add-compare-bytes-2 : tie.Need-add-compare-bytes-2 Inv-loop μ-loop
+add-compare-bytes-2 c = omega (arith, inside-within _ _ (c .before .before .loop .inv .1))
+
+compare-bytes-requires-2 : tie.Need-compare-bytes-requires-2 Inv-loop μ-loop
+compare-bytes-requires-2 c κs = let b = c .before .before .loop .inv in (b .0, b .1)
+
+returns-2 : tie.Need-returns-2 Inv-loop μ-loop
+returns-2 c =
+    let b = c .before .before .before .loop .inv in
+    λ x y p q. let k = b .2 x y p q in c .compare-bytes2 .ensures (k .0) (k .1) (k .2) (k .3) ∙ sym (k .4)
 
 pub compare-spec : {M : Type 1} → statement M
 compare-spec =
@@ -105,21 +84,18 @@ compare-spec =
     (tie.spec
     Inv-loop
     μ-loop
-    loop-holds
-    add-x
-    shared-slice-read-x
-    add-y
-    shared-slice-read-y
-    either-escapes-requires
-    add-new
-    new-requires
-    add-new-2
-    new-requires-2
-    compare-cursors-requires
+    shared-slice-read-if1
+    shared-slice-read-if1-2
+    compare-bytes-requires
     returns
-    differ-requires
-    returns-2
-    returns-3
+    loop-holds
+    add-alike16
+    add-alike16-2
+    alike16-requires
     add-k
     loop-less
-    loop-again)
+    loop-again
+    add-compare-bytes
+    add-compare-bytes-2
+    compare-bytes-requires-2
+    returns-2)

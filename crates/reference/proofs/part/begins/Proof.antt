@@ -1,51 +1,70 @@
 -- `reference::part::begins` meets its contract. The loop's invariant: the content from i on is the first k bytes of the name, and then
--- what is left before the cursor. The measure is what is left of the name. Assumes nothing.
-use Prim.Native.Nat.{ℕ, _-_}
-use mathlib.Core.Path.{_≡_, refl}
-use mathlib.Core.List.{List, _++_}
+-- the content from i + k on. The measure is what is left of the name.
+-- Assumes nothing.
+use borrow.Author.Needs.{needs}
+use Prim.Native.Nat.{ℕ, _+_, _-_}
+use mathlib.Core.Path.{_≡_, sym, ap, subst, _∙_}
+use mathlib.Core.List.{_++_}
 use native.Mathlib.Omega.{arith}
-use borrow.Author.Tests.{not-true, not-false}
+use native.Mathlib.Nat.{add-zero, add-assoc}
+use denote.Ref.{now}
 use lib.ListN.{length, take}
-use Rattle.strings.specs.InString.{contentFrom}
-use Rattle.strings.specs.Cursor.{Left}
+use Rattle.strings.specs.InString.{Inside, contentFrom}
 use Rattle.strings.proofs.Contents.{inside-content}
-use Rattle.strings.proofs.Orders.{given-end, given-byte, new-left}
+use Rattle.strings.proofs.Orders.{inside-within, new-left}
+use Rattle.strings.proofs.Positions.{ends, goes-on}
 use Rattle.reference.proofs.Counting.{begins, too-short, next-same, next-differs}
 use Rattle.reference.proofs.part.begins.Statement.{statement}
 use Rattle.reference.proofs.part.begins.Tie as tie
 
 abbrev Inv-loop : tie.InvT-loop
-Inv-loop s i name c₀ k₀ c k = (r : List ℕ) × Left s c r × (contentFrom s i ≡ take k name ++ r)
+Inv-loop s i name k₀ k = Inside s (i + k) × (contentFrom s i ≡ take k name ++ contentFrom s (i + k))
 
 abbrev μ-loop : tie.MeasureT-loop
-μ-loop s i name c₀ k₀ c k = length name - k
-
-new-requires : tie.Need-new-requires Inv-loop μ-loop
-new-requires c κs = tt
+μ-loop s i name k₀ k = length name - k
 
 loop-holds : tie.Need-loop-holds Inv-loop μ-loop
 loop-holds c =
-    let d = c .before .before .before in
-    (contentFrom (d .args .s .now) (d .args .i), new-left _ _ (c .new .result) _ (c .new .ensures) (inside-content _ _ (d .pre)), refl)
+    let a = c .before .before .args in
+    (subst (Inside (now (a .s))) (sym (add-zero (a .i))) (c .before .before .pre), ap (contentFrom (now (a .s))) (sym (add-zero (a .i))))
 
-next-requires : tie.Need-next-requires Inv-loop μ-loop
-next-requires c κs = record { bytes = c .before .loop .inv .0; left = c .before .loop .inv .1 }
+add-b : tie.Need-add-b Inv-loop μ-loop
+add-b c = omega (arith, inside-within _ _ (c .before .loop .inv .0))
+
+shared-slice-read-b : tie.Need-shared-slice-read-b Inv-loop μ-loop
+shared-slice-read-b c = inside-within _ _ (c .before .before .loop .inv .0)
+
+add-new : tie.Need-add-new Inv-loop μ-loop
+add-new c = omega (arith, inside-within _ _ (c .before .before .before .loop .inv .0))
+
+new-requires : tie.Need-new-requires Inv-loop μ-loop
+new-requires c κs = search needs
+
+cursor-begins-requires : tie.Need-cursor-begins-requires Inv-loop μ-loop
+cursor-begins-requires c κs =
+    let inv = c .before .before .before .before .loop .inv in
+    record { bytes = inv .0 .bytes; left = new-left _ _ _ _ (c .new .ensures) (inv .0 .here) }
 
 returns : tie.Need-returns Inv-loop μ-loop
 returns c =
-    let n = c .before .before in
-    let l = n .before .before .loop in
-    too-short _ _ _ (l .k) (l .inv .2) (n .before .loop-test .taken) (given-end _ _ (n .next .result) (not-true _ (c .if1 .taken)) (n .next .ensures .0 (l .inv .0) (l .inv .1)))
-
-shared-slice-read-if2 : tie.Need-shared-slice-read-if2 Inv-loop μ-loop
-shared-slice-read-if2 c = c .before .before .before .before .loop-test .taken
+    let inv = c .before .before .before .before .before .loop .inv in
+    c .cursor-begins .ensures _ _ (new-left _ _ _ _ (c .before .new .ensures) (inside-content _ _ (inv .0))) (inv .1)
 
 returns-2 : tie.Need-returns-2 Inv-loop μ-loop
 returns-2 c =
-    let n = c .before .before .before .before .before in
-    let l = n .before .before .loop in
-    let b = given-byte _ _ (n .next .result) (not-false _ (c .before .before .before .if1 .left)) (n .next .ensures .0 (l .inv .0) (l .inv .1)) in
-    next-differs _ _ _ (l .k) (l .inv .2) (n .before .loop-test .taken) _ _ (b .1) (c .if2 .taken)
+    let d = c .before .before .before in
+    let l = d .before .loop in
+    too-short _ _ _ (l .k) (l .inv .1) (d .loop-test .taken) (ends _ _ (l .inv .0) (c .if2 .taken))
+
+shared-slice-read-if3 : tie.Need-shared-slice-read-if3 Inv-loop μ-loop
+shared-slice-read-if3 c = search needs
+
+returns-3 : tie.Need-returns-3 Inv-loop μ-loop
+returns-3 c =
+    let d = c .before .before .before .before .before in
+    let l = d .before .loop in
+    let g = goes-on _ _ (l .inv .0) (c .before .before .if2 .left) (c .before .before .before .if1 .left) in
+    next-differs _ _ _ (l .k) (l .inv .1) (d .loop-test .taken) _ _ (g .0) (c .if3 .taken)
 
 add-k : tie.Need-add-k Inv-loop μ-loop
 add-k c = omega arith
@@ -55,13 +74,18 @@ loop-less c = omega arith
 
 loop-again : tie.Need-loop-again Inv-loop μ-loop
 loop-again c =
-    let n = c .before .before .before .before .before .before in
-    let l = n .before .before .loop in
-    let b = given-byte _ _ (n .next .result) (not-false _ (c .before .before .before .before .if1 .left)) (n .next .ensures .0 (l .inv .0) (l .inv .1)) in
-    (b .0, b .2, next-same _ _ _ (l .k) (l .inv .2) (n .before .loop-test .taken) _ _ (b .1) (c .before .if2 .left))
+    let d = c .before .before .before .before .before in
+    let l = d .before .loop in
+    let a = d .before .before .before .before .args in
+    let g = goes-on _ _ (l .inv .0) (c .before .before .if2 .left) (c .before .before .before .if1 .left) in
+    let e = add-assoc (a .i) (l .k) 1 in (
+      subst (Inside (now (a .s))) e (g .1),
+      next-same _ _ _ (l .k) (l .inv .1) (d .loop-test .taken) _ _ (g .0) (c .if3 .left)
+          ∙ ap (λ (n : ℕ). take (l .k + 1) (now (a .name)) ++ contentFrom (now (a .s)) n) e,
+    )
 
-returns-3 : tie.Need-returns-3 Inv-loop μ-loop
-returns-3 c = begins _ _ _ (c .before .loop .k) (c .before .loop .inv .2) (c .loop-test .left)
+returns-4 : tie.Need-returns-4 Inv-loop μ-loop
+returns-4 c = let l = c .before .loop in begins _ _ _ (l .k) (l .inv .1) (c .loop-test .left)
 
 pub begins-spec : {M : Type 1} → statement M
 begins-spec =
@@ -69,13 +93,17 @@ begins-spec =
     (tie.spec
     Inv-loop
     μ-loop
-    new-requires
     loop-holds
-    next-requires
+    add-b
+    shared-slice-read-b
+    add-new
+    new-requires
+    cursor-begins-requires
     returns
-    shared-slice-read-if2
     returns-2
+    shared-slice-read-if3
+    returns-3
     add-k
     loop-less
     loop-again
-    returns-3)
+    returns-4)

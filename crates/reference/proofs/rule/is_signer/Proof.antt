@@ -1,6 +1,6 @@
 -- `reference::rule::is_signer` meets its contract.
 -- Assumes nothing.
-use mathlib.Core.Path.{ap, sym, _∙_}
+use mathlib.Core.Path.{_∙_}
 use Rattle.reference.specs.References.{isSigner}
 use Rattle.reference.proofs.Forms.{digest-counted}
 use Rattle.reference.proofs.Steps.{or-taken, or-left}

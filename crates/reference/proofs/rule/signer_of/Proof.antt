@@ -1,6 +1,6 @@
 -- `reference::rule::signer_of` meets its contract.
 -- Assumes nothing.
-use mathlib.Core.Path.{ap, sym, _∙_}
+use mathlib.Core.Path.{sym, _∙_}
 use Rattle.reference.proofs.Steps.{signer-any, signer-one}
 use borrow.Author.Needs.{needs}
 use Rattle.reference.proofs.rule.signer_of.Statement.{statement}

@@ -1,9 +1,8 @@
 -- `reference::rule::under` meets its contract.
 -- Assumes nothing.
 use mathlib.Core.Path.{ap, sym, _∙_}
-use Rattle.reference.specs.References.{isManifest, accepts}
+use Rattle.reference.specs.References.{isManifest}
 use Rattle.reference.proofs.Steps.{whole, rule-no-signer, rule-no-manifest, rule-accepts}
-use mathlib.Core.Path.{refl}
 use borrow.Author.Needs.{needs}
 use borrow.Author.Tests.{not-true, not-false}
 use Rattle.reference.proofs.rule.under.Statement.{statement}
