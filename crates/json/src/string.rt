@@ -205,6 +205,28 @@ pub fn unmarked16(s: &[u8], at: usize) -> bool
     none_is(s, at, 0x22) & none_is(s, at, 0x5C)
 }
 
+// None of the eight bytes at `at` is m.
+fn none_is_of8(s: &[u8], at: usize, m: u8) -> bool
+    requires { ⌜ at + 8 ≤ length (now s) ⌝ }
+    ensures { λ r. ⌜ r ≡ every (isNot m) (take 8 (drop at (now (s .entry)))) ⌝ }
+{
+    let mut all = true;
+    let mut n = 0;
+    while n < 8 {
+        all &= s[at + n] != m;
+        n += 1;
+    }
+    all
+}
+
+// None of the eight bytes at `at` is a quotation mark or a backslash.
+pub fn unmarked8(s: &[u8], at: usize) -> bool
+    requires { ⌜ at + 8 ≤ length (now s) ⌝ }
+    ensures { λ r. ⌜ r ≡ every isUnmarked (take 8 (drop at (now (s .entry)))) ⌝ }
+{
+    none_is_of8(s, at, 0x22) & none_is_of8(s, at, 0x5C)
+}
+
 // The sixteen bytes at `at` are plain.
 fn plain16(s: &[u8], at: usize) -> bool
     requires { ⌜ at + 16 ≤ length (now s) ⌝ }

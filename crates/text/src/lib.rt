@@ -10,6 +10,7 @@ ghost use Prim.Native.Nat.{_-_, _≤_};
 ghost use lib.ListN.{length, drop};
 ghost use Rattle.json.specs.Syntax.{Syntax};
 ghost use Rattle.json.specs.Read.{readText};
+ghost use Rattle.canonical.specs.Room.{WritableRoot, WritesValue};
 ghost use Rattle.scan.specs.Summary.{summary};
 
 // A text that is taken, with the length of its canonical form; or document 01's number and the offset of the fault.
@@ -144,8 +145,23 @@ fn write_form(
     ensures { λ _. ⌜ now (out .exit) ≡ form (now (text .entry)) ++ drop (length (form (now (text .entry)))) (now (out .entry)) ⌝ }
 {
     let at = view::value::root(text);
-    let length = canonical::write_root(text, at, count, out, keys, spare);
+    let length = write_value(text, at, count, out, keys, spare);
     Answer { number: 0, length }
+}
+
+// The value of the text, by the writer.
+fn write_value(
+    text: &[u8],
+    at: usize,
+    count: usize,
+    out: &mut [u8],
+    keys: &mut [u16],
+    spare: &mut [u16],
+) -> usize
+    requires { ⌜ WritableRoot (now text) at count (now out) (now keys) (now spare) ⌝ }
+    ensures { λ r. ⌜ WritesValue (now (text .entry)) at 8 (now (out .entry)) (now (out .exit)) r ⌝ }
+{
+    canonical::write_root(text, at, count, out, keys, spare)
 }
 
 // The text is taken and is its own canonical form.

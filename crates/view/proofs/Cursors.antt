@@ -7,13 +7,15 @@ use Rattle.json.specs.Syntax.{Syntax, elements, members, Member as MemberTree}
 use Rattle.json.specs.Content.{unescape}
 use Rattle.content.specs.Value.{Values, Fields, array, object, content, contents, fields}
 use Rattle.view.specs.Place.{ValueAt, kindOf}
-use Rattle.view.specs.Listed.{Gives}
-use Rattle.view.specs.Cursor.{ElementsLeft, GivesElement, MembersLeft, GivesMember}
+use Rattle.view.specs.Listed.{Gives, Peeks}
+use Rattle.view.specs.Cursor.{ElementsLeft, GivesElement, MembersLeft, GivesMember, GivesHead}
 use Rattle.view.specs.declared.value.Item.the-variants.{At, End}
+use Rattle.view.specs.declared.value.Peek.the-variants.{At as PeekAt, End as PeekEnd}
 use Rattle.view.specs.declared.Elements.{Elements}
 use Rattle.view.specs.declared.Element.the-variants.{At as ElementAt, End as NoElement}
 use Rattle.view.specs.declared.Members.{Members}
 use Rattle.view.specs.declared.Member.the-variants.{At as MemberAt, End as NoMember}
+use Rattle.view.specs.declared.Head.the-variants.{At as HeadAt, End as NoHead}
 use Rattle.view.proofs.Values.{opened-kind}
 use Rattle.view.proofs.Strings.{member-key}
 
@@ -90,7 +92,32 @@ module _ (s : List ℕ) (c : Members) where
   no-member [] r e g = refl
   no-member (t ∷ ts) r e g = absurd g
 
+  head-of : (ts : List MemberTree) (p v : ℕ) → Peeks s (c .depth) true ts (PeekAt p v) → GivesHead s c (fields (members ts)) (HeadAt p v)
+  unfolding fields members
+  head-of [] p v g = absurd g
+  head-of (m ∷ ts) p v g =
+      let k = member-key s p (c .depth) m (g .after) (g .derives) in
+      record {
+        key = unescape (m .key);
+        first = content (m .value);
+        others = fields (members ts);
+        split = refl;
+        name = k .1;
+        here = record { tree = m .value; rest = g .after; derives = g .value; stops = g .stops; means = refl };
+      }
+
+  no-head : (ts : List MemberTree) → Peeks s (c .depth) true ts PeekEnd → GivesHead s c (fields (members ts)) NoHead
+  unfolding fields members
+  no-head [] g = refl
+  no-head (t ∷ ts) g = absurd g
+
   module _ (fs : Fields) (l : MembersLeft s c fs) where
+    pub gives-head : (p v : ℕ) → Peeks s (c .depth) true (l .trees) (PeekAt p v) → GivesHead s c fs (HeadAt p v)
+    gives-head p v g = rw (l .means) at (head-of (l .trees) p v g)
+
+    pub gives-no-head : Peeks s (c .depth) true (l .trees) PeekEnd → GivesHead s c fs NoHead
+    gives-no-head g = rw (l .means) at (no-head (l .trees) g)
+
     pub gives-member : (p v n : ℕ) → Gives s (c .at) (c .depth) true (l .trees) (l .rest) (At p v n)
         → GivesMember s c fs (MemberAt p v (record { at = n; depth = c .depth }))
     gives-member p v n g = rw (l .means) at (member-of (l .trees) (l .rest) p v n g)

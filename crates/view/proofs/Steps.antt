@@ -13,8 +13,9 @@ use Rattle.json.proofs.Grammar.Rests.{space-ends, word-inside}
 use Rattle.json.proofs.Grammar.Complete.{Stops}
 use Rattle.content.specs.Value.{content}
 use Rattle.view.specs.Place.{Readable, EndsAt, ScalarAt}
-use Rattle.view.specs.Listed.{Tree, valueTree, DerivesItem, openMark, endMark, ListAt, SomeList, AnyList, ListEndsAt, SomeItem, ItemValue, Gives}
+use Rattle.view.specs.Listed.{Tree, valueTree, DerivesItem, openMark, endMark, ListAt, SomeList, AnyList, ListEndsAt, SomeItem, ItemValue, Gives, Peeks}
 use Rattle.view.specs.declared.value.Item.the-variants.{At, End}
+use Rattle.view.specs.declared.value.Peek.the-variants.{At as PeekAt, End as PeekEnd}
 use Rattle.view.proofs.Values.{value-within, opened, is-scalar}
 use Rattle.view.proofs.Nesting.{Opens}
 use Rattle.view.proofs.Items.{item-inside, Started, ended, item, Next, at-mark, at-comma, next}
@@ -88,6 +89,10 @@ module _ (s : List ℕ) (p d : ℕ) (object : Bool) where
   gives-end at ts r a e (ended w f g) = (omega arith, omega arith, g)
   gives-end at ts r a e (item l w n h i j) = absurd (n e)
 
+  pub peeks-end : (ts : List (Tree object)) (r : List ℕ) → getD s p 0 ≡ endMark object → Started s p d object ts r → Peeks s d object ts PeekEnd
+  peeks-end ts r e (ended w f g) = tt
+  peeks-end ts r e (item l w n h i j) = absurd (n e)
+
   module _ (more : getD s p 0 ≡ endMark object → ⊥) where
     pub some-item : (ts : List (Tree object)) (r : List ℕ) → Started s p d object ts r → SomeItem s p object
     some-item ts r (ended w e f) = absurd (more e)
@@ -101,6 +106,10 @@ module _ (s : List ℕ) (p d : ℕ) (object : Bool) where
             value = content (valueTree object t);
             here = record { tree = valueTree object t; rest = l; derives = here .value d t l h; stops = i; means = refl };
           }
+
+      pub peeks-item : (ts : List (Tree object)) (r : List ℕ) → Started s p d object ts r → Peeks s d object ts (PeekAt p v)
+      peeks-item ts r (ended w e f) = absurd (more e)
+      peeks-item ts r (item {t = t} l w n h i j) = record { after = l; derives = h; value = here .value d t l h; stops = i }
 
       pub take : (e q : ℕ) → EndsAt s v d e → spaces (drop e s) ≡ drop q s → (ts : List (Tree object)) (r : List ℕ) → Started s p d object ts r
           → Taken s p v q d object ts r

@@ -14,6 +14,8 @@ use Rattle.view.specs.declared.Element.the-variants.{At as ElementAt, En
 use Rattle.view.specs.declared.Members.{Members}
 use Rattle.view.specs.declared.Member.{Member}
 use Rattle.view.specs.declared.Member.the-variants.{At as MemberAt, End as NoMember}
+use Rattle.view.specs.declared.Head.{Head}
+use Rattle.view.specs.declared.Head.the-variants.{At as HeadAt, End as NoHead}
 
 pub record SomeArray (s : List ℕ) (at depth : ℕ) : Type 0 where
   pub values : Values
@@ -79,3 +81,16 @@ pub record NextMember (s : List ℕ) (c : Members) (fs : Fields) (p q : ℕ) (d 
 abbrev pub GivesMember : List ℕ → Members → Fields → Member → Type 0
 GivesMember s c fs (MemberAt p q d) = NextMember s c fs p q d
 GivesMember s c fs NoMember = fs ≡ no-fields
+
+-- the first of the members fs, by the positions of its key's quotation mark and of its value
+pub record FirstMember (s : List ℕ) (c : Members) (fs : Fields) (p q : ℕ) : Type 0 where
+  pub key : List ℕ
+  pub first : Value
+  pub others : Fields
+  pub split : fs ≡ field key first others
+  pub name : InString s (p + 1) key
+  pub here : ValueAt s q (c .depth) first
+
+abbrev pub GivesHead : List ℕ → Members → Fields → Head → Type 0
+GivesHead s c fs (HeadAt p q) = FirstMember s c fs p q
+GivesHead s c fs NoHead = fs ≡ no-fields

@@ -9,6 +9,8 @@ use Rattle.json.specs.Grammar.{Listed, Pair, Value as Derives}
 use Rattle.json.proofs.Grammar.Complete.{Stops}
 use Rattle.view.specs.declared.value.Item.{Item}
 use Rattle.view.specs.declared.value.Item.the-variants.{At, End}
+use Rattle.view.specs.declared.value.Peek.{Peek}
+use Rattle.view.specs.declared.value.Peek.the-variants.{At as PeekAt, End as PeekEnd}
 
 abbrev pub Tree : Bool → Type 0
 Tree false = Syntax
@@ -81,3 +83,17 @@ Gives s at depth object [] r (End e) = (at < e) × (e ≤ length s) × (r ≡ dr
 Gives s at depth object [] r (At p v n) = ⊥
 Gives s at depth object (t ∷ ts) r (End e) = ⊥
 Gives s at depth object (t ∷ ts) r (At p v n) = FirstAt s at depth object t ts r p v n
+
+-- the item t stands at position p with its value at position v
+pub record HeadOf (s : List ℕ) (depth : ℕ) (object : Bool) (t : Tree object) (p v : ℕ) : Type 0 where
+  pub after : List ℕ
+  pub derives : DerivesItem object depth (drop p s) t after
+  pub value : Derives depth (drop v s) (valueTree object t) after
+  pub stops : Stops after
+
+-- the same of the first of the items ts, and nothing of the others
+abbrev pub Peeks : List ℕ → ℕ → (object : Bool) → List (Tree object) → Peek → Type 0
+Peeks s depth object [] PeekEnd = Unit {0}
+Peeks s depth object [] (PeekAt p v) = ⊥
+Peeks s depth object (t ∷ ts) PeekEnd = ⊥
+Peeks s depth object (t ∷ ts) (PeekAt p v) = HeadOf s depth object t p v

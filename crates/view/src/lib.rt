@@ -4,7 +4,7 @@ ghost use mathlib.Core.Path.{_≡_};
 ghost use Prim.Native.Nat.{_-_};
 ghost use Rattle.content.specs.Value.{Values, Fields, array, object};
 ghost use Rattle.view.specs.Place.{ValueAt};
-ghost use Rattle.view.specs.Cursor.{SomeArray, SomeElements, ElementsLeft, GivesElement, SomeObject, SomeMembers, MembersLeft, GivesMember};
+ghost use Rattle.view.specs.Cursor.{SomeArray, SomeElements, ElementsLeft, GivesElement, SomeObject, SomeMembers, MembersLeft, GivesMember, GivesHead};
 
 // What a value is; a boolean is told apart already.
 pub enum Kind {
@@ -81,6 +81,12 @@ pub enum Member {
     End,
 }
 
+// The next member without what is left after it, or the end.
+pub enum Head {
+    At { key: usize, value: usize },
+    End,
+}
+
 impl Members {
     // The members of the object at `at`, which is nested at most `depth` deep.
     pub fn new(s: &[u8], at: usize, depth: usize) -> Self
@@ -91,6 +97,17 @@ impl Members {
         Members {
             at: at + 1,
             depth: depth - 1,
+        }
+    }
+
+    // What stands next; looking for it does not pass its value.
+    pub fn first(self, s: &[u8]) -> Head
+        requires { ⌜ SomeMembers (now s) self ⌝ }
+        ensures { λ r. ⌜ ((fs : Fields) → MembersLeft (now (s .entry)) self fs → GivesHead (now (s .entry)) self fs r) ⌝ }
+    {
+        match value::peek_item(s, self.at, self.depth, true) {
+            value::Peek::At { first, value } => Head::At { key: first, value },
+            value::Peek::End => Head::End,
         }
     }
 

@@ -14,7 +14,7 @@ ghost use Rattle.json.specs.Content.{decimal};
 ghost use Rattle.strings.specs.InString.{Inside, EscapeAt};
 ghost use Rattle.content.specs.Value.{Value, boolean as isBoolean, number, content};
 ghost use Rattle.view.specs.Place.{ValueAt, Readable, SomeValue, SomeBoolean, SmallNumber, kindOf, EndsAt, StringEndsAt, CharEndsAt, unmarkedRun, ScalarAt, endOf};
-ghost use Rattle.view.specs.Listed.{Tree, ListAt, SomeList, AnyList, ListEndsAt, SomeItem, ItemValue, Gives, endMark};
+ghost use Rattle.view.specs.Listed.{Tree, ListAt, SomeList, AnyList, ListEndsAt, SomeItem, ItemValue, Gives, Peeks, endMark};
 
 // The value of a whole text: it stands after the first spaces.
 pub fn root(s: &[u8]) -> usize
@@ -76,6 +76,12 @@ pub enum Item {
     End(usize),
 }
 
+// An item without what follows it.
+pub enum Peek {
+    At { first: usize, value: usize },
+    End,
+}
+
 // Where a token that was read ends.
 fn token_end(r: json::Scan) -> usize
     ensures { λ e. ⌜ e ≡ endOf r ⌝ }
@@ -128,6 +134,28 @@ fn string_tail(s: &[u8], from: usize) -> usize
     }
 }
 
+// Eight bytes are left from `at` on, and none of them is a quotation mark or a backslash.
+fn eight_left(s: &[u8], at: usize) -> bool
+    requires { ⌜ at ≤ length (now s) ⌝ }
+    ensures { λ r. ⌜ r ≡ unmarkedRun 8 (drop at (now (s .entry))) ⌝ }
+{
+    if s.len() - at < 8 {
+        return false;
+    }
+    json::string::unmarked8(s, at)
+}
+
+// The position after the closing quotation mark of the string whose content goes on at `from`: eight bytes at once where that can be.
+fn string_rest(s: &[u8], from: usize) -> usize
+    requires { ⌜ Inside (now s) from ⌝ }
+    ensures { λ e. ⌜ StringEndsAt (now (s .entry)) from e ⌝ }
+{
+    if eight_left(s, from) {
+        return string_tail(s, from + 8);
+    }
+    string_tail(s, from)
+}
+
 // The position after the closing quotation mark of the string whose content goes on at `from`: sixteen bytes at a time while none
 // of them ends it or begins an escape.
 fn string_end(s: &[u8], from: usize) -> usize
@@ -138,7 +166,7 @@ fn string_end(s: &[u8], from: usize) -> usize
     while unmarked_left(s, i) {
         i += 16;
     }
-    string_tail(s, i)
+    string_rest(s, i)
 }
 
 // The position after a value that is neither an array nor an object.
@@ -187,6 +215,19 @@ pub fn skip(s: &[u8], at: usize, depth: usize) -> usize
         b'[' | b'{' => skip_nested(s, at + 1),
         _ => scalar_end(s, at),
     }
+}
+
+// The first of the items from `at` on, where what follows it is not asked, and so its value need not be passed.
+pub fn peek_item(s: &[u8], at: usize, depth: usize, object: bool) -> Peek
+    requires { ⌜ SomeList (now s) at depth object ⌝ }
+    ensures { λ r. ⌜ ((ts : List (Tree object)) (rest : List ℕ) → ListAt (now (s .entry)) at depth object ts rest → Peeks (now (s .entry)) depth object ts r) ⌝ }
+{
+    let first = json::space::skip_spaces(s, at);
+    if s[first] == end_mark(object) {
+        return Peek::End;
+    }
+    let value = item_value(s, first, object);
+    Peek::At { first, value }
 }
 
 // The first of the items from `at` on.

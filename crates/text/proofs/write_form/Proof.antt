@@ -16,8 +16,8 @@ use Rattle.text.proofs.write_form.Tie as tie
 root-requires : tie.Need-root-requires
 root-requires c κs = search needs
 
-write-root-requires : tie.Need-write-root-requires
-write-root-requires c κs =
+write-value-requires : tie.Need-write-value-requires
+write-value-requires c κs =
     let s = now (c .before .before .before .before .before .before .before .before .args .text) in
     let b = c .before .before .before .before .before .before .before .before .pre in
     let p = taken s (b .taken) in
@@ -50,7 +50,7 @@ returns : tie.Need-returns
 returns c =
     let s = now (c .before .before .before .before .before .before .before .before .before .before .before .before .before .before .before .args .text) in
     let p = taken s (c .before .before .before .before .before .before .before .before .before .before .before .before .before .before .before .pre .taken) in
-    let w = c .before .before .before .before .before .before .write-root .ensures (content (p .tree)) (c .before .before .before .before .before .before .before .before .before .before .root .ensures .0 8 (p .tree) (taken-text s p)) in
+    let w = c .before .before .before .before .before .before .write-value .ensures (content (p .tree)) (c .before .before .before .before .before .before .before .before .before .before .root .ensures .0 8 (p .tree) (taken-text s p)) in
     let e = sym (taken-form s p) in
     ((refl, w .0 ∙ ap length e), w .1 .all ∙ ap (λ (l : List ℕ). l ++ drop (length l) (now (c .before .before .before .before .before .before .before .before .before .before .before .before .before .before .before .args .out))) e)
 
@@ -59,7 +59,7 @@ write-form-spec =
     tie.close
     (tie.spec
     root-requires
-    write-root-requires
+    write-value-requires
     same-length
     same-length-2
     same-length-3

@@ -34,11 +34,11 @@ loop-less c = omega (arith, inside-within _ _ (c .before .before .loop .inv .ins
 loop-again : tie.Need-loop-again Inv-loop μ-loop
 loop-again c = reaches-run _ _ _ (c .before .before .loop .inv) 16 (sym (c .before .unmarked-left .ensures) ∙ c .if1 .taken)
 
-string-tail-requires : tie.Need-string-tail-requires Inv-loop μ-loop
-string-tail-requires c κs = c .before .before .loop .inv .inside
+string-rest-requires : tie.Need-string-rest-requires Inv-loop μ-loop
+string-rest-requires c κs = c .before .before .loop .inv .inside
 
 returns : tie.Need-returns Inv-loop μ-loop
-returns c = reaches-end _ _ _ (c .before .before .before .loop .inv) _ (c .string-tail .ensures)
+returns c = reaches-end _ _ _ (c .before .before .before .loop .inv) _ (c .string-rest .ensures)
 
 pub string-end-spec : {M : Type 1} → statement M
 string-end-spec =
@@ -51,5 +51,5 @@ string-end-spec =
     add-i
     loop-less
     loop-again
-    string-tail-requires
+    string-rest-requires
     returns)
