@@ -23,5 +23,5 @@ test:
 	.ci/run
 
 bench: archive
-	rt staticlib manifest_text
+	rt staticlib manifest
 	ACON_LIB=$(ACON_LIB) bench/run

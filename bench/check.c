@@ -11,7 +11,7 @@
 
 enum { TEXT = 1 << 14, CALLS = 3, SAMPLE_NS = 300000 };
 
-/* Of the archive libmanifest_text.a: the number by questions 1 to 6, and by
+/* Of the archive libmanifest.a: the number by questions 1 to 6, and by
  * questions 1 to 9. */
 uint64_t text_number(const uint8_t *text, size_t len);
 uint64_t manifest_text_number(const uint8_t *text, size_t len);

@@ -1,4 +1,4 @@
-"""Compares the program `manifests` with an independent implementation of questions 7 to 9 on generated manifests, good
+"""Compares the program `test_manifests` with an independent implementation of questions 7 to 9 on generated manifests, good
 ones, ones that break one rule and ones that break several. Called with the program's path."""
 
 import json

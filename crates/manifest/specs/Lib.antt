@@ -1,11 +1,1 @@
-pub mod Accessors
-pub mod Entries
-pub mod Fields
-pub mod Founds
-pub mod Members
-pub mod Names
-pub mod Numbers
-pub mod Places
-pub mod Questions
-pub mod Rules
-pub mod Tallies
+pub mod Number

@@ -10,10 +10,10 @@ use borrow.Author.Tests.{leb-true, le-leb, lt-leb, eqb-false, not-true}
 use lib.Dec.{leb, eqb}
 use lib.ListN.{length, take, drop, getD, length-drop, length-take, length-append}
 use lib.Seq.{take-suc, getD-drop, getD-take, append-snoc}
-use Rattle.json.specs.Measure.{every, isNot, isUnmarked}
-use Rattle.json.proofs.Plain.{every-at, unmarked}
-use Rattle.strings.specs.InString.{Inside, contentFrom}
-use Rattle.strings.proofs.Positions.{goes-on as over-byte}
+use Rattle.text_json.specs.Measure.{every, isNot, isUnmarked}
+use Rattle.text_json.proofs.Plain.{every-at, unmarked}
+use Rattle.text_strings.specs.InString.{Inside, contentFrom}
+use Rattle.text_strings.proofs.Positions.{goes-on as over-byte}
 use Rattle.reference.specs.Digests.{isLowerHex}
 use Rattle.reference.specs.Parts.{isDivided, isBlock}
 use Rattle.reference.specs.Readings.{StartAt}

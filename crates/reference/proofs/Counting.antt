@@ -12,12 +12,12 @@ use lib.ListN.{length, take, drop, getD, length-append, length-take}
 use lib.Seq.{take-suc, take-all, take-append-seam, append-snoc, length-take-le, getD-take, getD-at, drop-drop}
 use Rattle.laws.specs.Order.{same}
 use Rattle.laws.proofs.Order.{by-test, false-true, same-refl, same-eq}
-use Rattle.utf8.specs.Scalar.{encode}
-use Rattle.json.specs.Bytes.{between}
-use Rattle.json.specs.Measure.{every}
-use Rattle.json.proofs.Places.{drop-next}
-use Rattle.strings.specs.InString.{Inside, Escapes, contentFrom}
-use Rattle.strings.proofs.Positions.{encode-length, ends, goes-on as over-byte, over-escape, not-longer}
+use Rattle.text_utf8.specs.Scalar.{encode}
+use Rattle.text_json.specs.Bytes.{between}
+use Rattle.text_json.specs.Measure.{every}
+use Rattle.text_json.proofs.Places.{drop-next}
+use Rattle.text_strings.specs.InString.{Inside, Escapes, contentFrom}
+use Rattle.text_strings.proofs.Positions.{encode-length, ends, goes-on as over-byte, over-escape, not-longer}
 use Rattle.reference.specs.Digests.{isLowerHex}
 use Rattle.reference.specs.Parts.{isDivided, firstPart, afterPart}
 use Rattle.reference.specs.Readings.{Counts, CharAt, PartAt}

@@ -11,13 +11,13 @@ use lib.Dec.{eqb}
 use lib.ListN.{length, drop, getD, set, length-append, length-drop}
 use lib.Seq.{drop-cons, set-at}
 use Rattle.laws.proofs.Order.{by-test}
-use Rattle.json.specs.Bytes.{between, isHex, hexValue}
-use Rattle.json.specs.Measure.{every}
-use Rattle.json.proofs.ByteTests.{hex-below}
-use Rattle.json.proofs.Places.{drop-next}
-use Rattle.strings.specs.Cursor.{Left, Gives}
-use Rattle.strings.specs.declared.Next.{Next}
-use Rattle.strings.proofs.Orders.{given-end, given-byte}
+use Rattle.text_json.specs.Bytes.{between, isHex, hexValue}
+use Rattle.text_json.specs.Measure.{every}
+use Rattle.text_json.proofs.ByteTests.{hex-below}
+use Rattle.text_json.proofs.Places.{drop-next}
+use Rattle.text_strings.specs.Cursor.{Left, Gives}
+use Rattle.text_strings.specs.declared.Next.{Next}
+use Rattle.text_strings.proofs.Orders.{given-end, given-byte}
 use Rattle.reference.specs.Algorithms.{digestBytes, hexDigits}
 use Rattle.reference.specs.Digests.{isLowerHex, isDigest, digestOf}
 use Rattle.reference.specs.Parts.{firstPart}

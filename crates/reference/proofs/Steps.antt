@@ -6,7 +6,7 @@ use mathlib.Core.List.{List, [], _∷_}
 use mathlib.Core.Bool.{Bool, true, false, _||_}
 use lib.ListN.{drop}
 use Rattle.laws.specs.Order.{same}
-use Rattle.strings.specs.InString.{contentFrom}
+use Rattle.text_strings.specs.InString.{contentFrom}
 use Rattle.reference.specs.Algorithms.{named}
 use Rattle.reference.specs.Aliases.{star, isAlias}
 use Rattle.reference.specs.Digests.{isDigest}

@@ -6,7 +6,7 @@ use mathlib.Core.Bool.{Bool, not, _&&_, _||_}
 use lib.Dec.{leb, eqb}
 use lib.ListN.{length}
 use Rattle.laws.specs.Order.{same}
-use Rattle.json.specs.Measure.{every}
+use Rattle.text_json.specs.Measure.{every}
 use Rattle.reference.specs.Algorithms.{hexDigits}
 use Rattle.reference.specs.Digests.{isLowerHex}
 use Rattle.reference.specs.Parts.{isDivided}

@@ -4,8 +4,8 @@ use mathlib.Core.List.{List, [], _∷_}
 use mathlib.Core.Bool.{Bool, _&&_, _||_}
 use lib.Dec.{eqb}
 use lib.ListN.{length}
-use Rattle.json.specs.Bytes.{between, hexValue}
-use Rattle.json.specs.Measure.{every}
+use Rattle.text_json.specs.Bytes.{between, hexValue}
+use Rattle.text_json.specs.Measure.{every}
 use Rattle.reference.specs.Algorithms.{hexDigits}
 use Rattle.reference.specs.declared.algorithm.Algorithm.{Algorithm}
 

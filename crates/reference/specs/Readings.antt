@@ -4,8 +4,8 @@ use mathlib.Core.Path.{_≡_}
 use mathlib.Core.List.{List, [], _∷_, _++_}
 use mathlib.Core.Bool.{true, false, not}
 use lib.ListN.{length, drop}
-use Rattle.json.specs.Measure.{every}
-use Rattle.strings.specs.InString.{Inside, contentFrom}
+use Rattle.text_json.specs.Measure.{every}
+use Rattle.text_strings.specs.InString.{Inside, contentFrom}
 use Rattle.reference.specs.Digests.{isLowerHex, isDigest}
 use Rattle.reference.specs.Parts.{isDivided, firstPart, afterPart}
 use Rattle.reference.specs.References.{layer, layer-digest, layer-alias, no-layer, Signer as SignerForm, any-signer, signer, Manifest as ManifestForm, any-manifest, manifest, self-alias, rule, ruleUnder, accepts, no-rule, imageId, idUnder, image-id, no-id}

@@ -2,7 +2,7 @@
 ghost use mathlib.Core.Path.{_≡_};
 ghost use Prim.Native.Nat.{_<_};
 ghost use lib.ListN.{length};
-ghost use Rattle.strings.specs.InString.{Inside, contentFrom};
+ghost use Rattle.text_strings.specs.InString.{Inside, contentFrom};
 ghost use Rattle.reference.specs.Algorithms.{digestBytes, hexDigits, byteOf, named as namedBy, numbered};
 ghost use Rattle.reference.specs.Parts.{firstPart};
 

@@ -3,7 +3,7 @@ use crate::algorithm::Algorithm;
 use crate::part;
 use crate::part::Part;
 ghost use mathlib.Core.Path.{_≡_};
-ghost use Rattle.strings.specs.InString.{Inside, contentFrom};
+ghost use Rattle.text_strings.specs.InString.{Inside, contentFrom};
 ghost use Rattle.reference.specs.Aliases.{isDigestLength, isNameLength, isReserved, isAlias};
 ghost use Rattle.reference.specs.Parts.{firstPart};
 ghost use Rattle.reference.specs.Readings.{PartAt};

@@ -1,14 +1,14 @@
 // Digests in hexadecimal digits, and the bytes that they stand for.
 use crate::algorithm::Algorithm;
-use strings::Cursor;
+use text_strings::Cursor;
 ghost use Prim.Native.Nat.{_+_, _*_, _≤_};
 ghost use mathlib.Core.Path.{_≡_};
 ghost use mathlib.Core.Bool.{true, _&&_};
 ghost use mathlib.Core.List.{_++_};
 ghost use lib.Dec.{eqb};
 ghost use lib.ListN.{length, drop};
-ghost use Rattle.json.specs.Bytes.{hexValue};
-ghost use Rattle.strings.specs.InString.{contentFrom};
+ghost use Rattle.text_json.specs.Bytes.{hexValue};
+ghost use Rattle.text_strings.specs.InString.{contentFrom};
 ghost use Rattle.reference.specs.Algorithms.{digestBytes, hexDigits};
 ghost use Rattle.reference.specs.Digests.{isLowerHex, digestOf};
 ghost use Rattle.reference.specs.Parts.{firstPart};
@@ -26,7 +26,7 @@ fn byte_of(high: u8, low: u8) -> u8
     requires { ⌜ (isLowerHex high ≡ true) × (isLowerHex low ≡ true) ⌝ }
     ensures { λ r. ⌜ r ≡ hexValue high * 16 + hexValue low ⌝ }
 {
-    (json::bytes::hex_value(high) * 16 + json::bytes::hex_value(low)) as u8
+    (text_json::bytes::hex_value(high) * 16 + text_json::bytes::hex_value(low)) as u8
 }
 
 // Writes the bytes of the digest at position i of a string's content at the start of `out`. Digits may stand there as escapes.

@@ -5,7 +5,7 @@ use crate::part;
 use crate::part::Part;
 ghost use mathlib.Core.Path.{_≡_};
 ghost use mathlib.Core.Bool.{true};
-ghost use Rattle.strings.specs.InString.{Inside};
+ghost use Rattle.text_strings.specs.InString.{Inside};
 ghost use Rattle.reference.specs.Readings.{Divided, LayerReads};
 
 // A layer by its digest, at a position; by an alias, with the positions of its signer and its name; or none of these.

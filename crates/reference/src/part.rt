@@ -4,13 +4,13 @@ ghost use mathlib.Core.List.{List, _++_};
 ghost use Prim.Native.Nat.{ℕ, _≤_, _+_};
 ghost use lib.ListN.{length, take, drop, getD};
 ghost use Rattle.laws.specs.Order.{same};
-ghost use Rattle.json.specs.Measure.{every};
-ghost use Rattle.strings.specs.Cursor.{Left, Readable};
-ghost use Rattle.strings.specs.InString.{Inside, contentFrom};
+ghost use Rattle.text_json.specs.Measure.{every};
+ghost use Rattle.text_strings.specs.Cursor.{Left, Readable};
+ghost use Rattle.text_strings.specs.InString.{Inside, contentFrom};
 ghost use Rattle.reference.specs.Digests.{isLowerHex};
 ghost use Rattle.reference.specs.Parts.{firstPart, isBlock};
 ghost use Rattle.reference.specs.Readings.{CharAt, StartAt, PartAt, PlainPart};
-use strings::Cursor;
+use text_strings::Cursor;
 
 // What is counted of a part: its bytes, whether all of them are lower-case hexadecimal digits, and whether it is the last part. The
 // next one begins at `next`.
@@ -24,7 +24,7 @@ pub struct Part {
 pub fn is_lower_hex(c: u32) -> bool
     ensures { λ r. ⌜ r ≡ isLowerHex c ⌝ }
 {
-    json::bytes::between(0x30, 0x39, c) || json::bytes::between(0x61, 0x66, c)
+    text_json::bytes::between(0x30, 0x39, c) || text_json::bytes::between(0x61, 0x66, c)
 }
 
 // Bytes at the start of a part: whether all of them are lower-case hexadecimal digits, and where the part goes on.
@@ -41,7 +41,7 @@ fn undivided16(s: &[u8], at: usize) -> bool
     if s.len() - at < 16 {
         return false;
     }
-    json::string::unmarked16(s, at) & json::string::none_is(s, at, b'/')
+    text_json::string::unmarked16(s, at) & text_json::string::none_is(s, at, b'/')
 }
 
 // The sixteen bytes at `at` are lower-case hexadecimal digits.
@@ -120,9 +120,9 @@ fn one_char(s: &[u8], k: usize) -> Char
 {
     let b = s[k];
     if b == b'\\' {
-        let e = strings::read_escape(s, k);
+        let e = text_strings::read_escape(s, k);
         let scalar = e.scalar;
-        let x = utf8::encoded(scalar);
+        let x = text_utf8::encoded(scalar);
         return Char {
             next: e.next,
             scalar,

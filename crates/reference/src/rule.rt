@@ -5,7 +5,7 @@ use crate::part;
 use crate::part::Part;
 ghost use mathlib.Core.Path.{_≡_};
 ghost use mathlib.Core.Bool.{true};
-ghost use Rattle.strings.specs.InString.{Inside, contentFrom};
+ghost use Rattle.text_strings.specs.InString.{Inside, contentFrom};
 ghost use Rattle.reference.specs.Parts.{firstPart};
 ghost use Rattle.reference.specs.References.{isSigner, isManifest, signerOf, manifestOf};
 ghost use Rattle.reference.specs.Readings.{PartAt, Divided, SignerInside, signerForm, ManifestInside, manifestForm, RuleUnder, RuleReads};

@@ -7,16 +7,16 @@ use native.Mathlib.Omega.{arith}
 use borrow.Author.Tests.{lt-ltb, le-ltb}
 use lib.Dec.{ltb}
 use lib.ListN.{length, drop, length-drop}
-use Rattle.utf8.specs.Utf8.{verdict}
-use Rattle.utf8.specs.declared.Verdict.{Verdict}
-use Rattle.utf8.specs.declared.Verdict.the-variants.{WellFormed, Bad}
-use Rattle.json.specs.Syntax.{Syntax}
-use Rattle.json.specs.Read.{Read, found, stuck, readText}
-use Rattle.content.specs.Fault.{stringFault, numberFault, keyFault}
-use Rattle.scan.specs.Summary.{summary}
-use Rattle.scan.specs.declared.Summary.{Summary}
-use Rattle.scan.specs.declared.Found.{Found}
-use Rattle.scan.proofs.Progress.{IsValue}
+use Rattle.text_utf8.specs.Utf8.{verdict}
+use Rattle.text_utf8.specs.declared.Verdict.{Verdict}
+use Rattle.text_utf8.specs.declared.Verdict.the-variants.{WellFormed, Bad}
+use Rattle.text_json.specs.Syntax.{Syntax}
+use Rattle.text_json.specs.Read.{Read, found, stuck, readText}
+use Rattle.text_content.specs.Fault.{stringFault, numberFault, keyFault}
+use Rattle.text_scan.specs.Summary.{summary}
+use Rattle.text_scan.specs.declared.Summary.{Summary}
+use Rattle.text_scan.specs.declared.Found.{Found}
+use Rattle.text_scan.proofs.Progress.{IsValue}
 use Rattle.text.specs.Question.{tooLong}
 use Rattle.text.specs.Answer.{byFaults, byTree, byVerdict, checked}
 use Rattle.text.specs.declared.Checked.{Checked}

@@ -10,7 +10,7 @@ use lib.ListN.{length, take, drop, getD, drop-of-length-le}
 use lib.Seq.{take-at}
 use Rattle.laws.specs.Order.{same}
 use Rattle.laws.proofs.Order.{by-test, false-true, same-eq}
-use Rattle.json.proofs.Places.{drop-next}
+use Rattle.text_json.proofs.Places.{drop-next}
 use Rattle.text.specs.Question.{textNumber}
 use Rattle.text.specs.Answer.{form, canonicalNumber, canonicalLength, canonicalBytes, isCanonical}
 use Rattle.text.proofs.Taken.{taken, form-short}

@@ -9,17 +9,17 @@ use native.Mathlib.Omega.{arith}
 use borrow.Author.Tests.{eq-eqb, le-ltb}
 use lib.ListN.{length}
 use Rattle.laws.proofs.Order.{by-test, same-refl}
-use Rattle.utf8.specs.Utf8.{utf8}
-use Rattle.json.specs.Syntax.{Syntax}
-use Rattle.json.specs.Grammar.{Text}
-use Rattle.json.specs.Read.{readText}
-use Rattle.json.proofs.Grammar.Agree.{text-complete, one-tree}
-use Rattle.content.specs.Value.{content, Same}
-use Rattle.content.specs.Canonical.{sorted, canonical}
-use Rattle.content.specs.Fault.{stringFault, numberFault, keyFault}
-use Rattle.content.proofs.Same.{same-sorted}
-use Rattle.content.proofs.FormUtf8.{form-utf8}
-use Rattle.content.proofs.Laws.{Clean, canonical-text, canonical-shortest, canonical-same}
+use Rattle.text_utf8.specs.Utf8.{utf8}
+use Rattle.text_json.specs.Syntax.{Syntax}
+use Rattle.text_json.specs.Grammar.{Text}
+use Rattle.text_json.specs.Read.{readText}
+use Rattle.text_json.proofs.Grammar.Agree.{text-complete, one-tree}
+use Rattle.text_content.specs.Value.{content, Same}
+use Rattle.text_content.specs.Canonical.{sorted, canonical}
+use Rattle.text_content.specs.Fault.{stringFault, numberFault, keyFault}
+use Rattle.text_content.proofs.Same.{same-sorted}
+use Rattle.text_content.proofs.FormUtf8.{form-utf8}
+use Rattle.text_content.proofs.Laws.{Clean, canonical-text, canonical-shortest, canonical-same}
 use Rattle.text.specs.Question.{tooLong, notUtf8, isStuck, notJson, faulty, badString, badNumber, sameKeys, questions, lowest, textNumber}
 use Rattle.text.specs.Answer.{form, isCanonical}
 use Rattle.text.proofs.Taken.{Taken, taken, taken-text, taken-form, form-short}

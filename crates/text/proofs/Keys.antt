@@ -4,16 +4,16 @@ use mathlib.Core.Path.{_≡_, refl, sym, ap, subst, _∙_}
 use mathlib.Core.List.{List, [], _∷_}
 use native.Mathlib.Omega.{arith}
 use lib.ListN.{drop}
-use Rattle.json.specs.Syntax.{Syntax, Member, object as tree, members}
-use Rattle.json.specs.Read.{found, andThen, spaces, read, atEnd, readText}
-use Rattle.json.specs.Scan.{At}
-use Rattle.json.proofs.Grammar.Complete.{read-complete}
-use Rattle.content.specs.Value.{Fields, object}
-use Rattle.scan.specs.Scanned.{KeysOf}
-use Rattle.view.specs.Place.{ValueAt}
-use Rattle.canonical.specs.Members.{Sorted}
-use Rattle.canonical.proofs.Collect.{object-opened}
-use Rattle.canonical.proofs.Given.{given}
+use Rattle.text_json.specs.Syntax.{Syntax, Member, object as tree, members}
+use Rattle.text_json.specs.Read.{found, andThen, spaces, read, atEnd, readText}
+use Rattle.text_json.specs.Scan.{At}
+use Rattle.text_json.proofs.Grammar.Complete.{read-complete}
+use Rattle.text_content.specs.Value.{Fields, object}
+use Rattle.text_scan.specs.Scanned.{KeysOf}
+use Rattle.text_view.specs.Place.{ValueAt}
+use Rattle.text_canonical.specs.Members.{Sorted}
+use Rattle.text_canonical.proofs.Collect.{object-opened}
+use Rattle.text_canonical.proofs.Given.{given}
 use Rattle.text.specs.Keys.{RootKeys, refusedText}
 use Rattle.text.specs.declared.Checked.{Checked}
 use Rattle.text.specs.declared.Checked.the-variants.{Accepted, Refused}

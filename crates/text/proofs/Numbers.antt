@@ -7,13 +7,13 @@ use native.Mathlib.Omega.{arith}
 use lib.Dec.{ltb}
 use lib.ListN.{length}
 use Rattle.laws.proofs.Order.{by-test, false-true}
-use Rattle.utf8.specs.Utf8.{utf8, verdict}
-use Rattle.utf8.specs.declared.Verdict.{Verdict}
-use Rattle.utf8.specs.declared.Verdict.the-variants.{WellFormed, Bad}
-use Rattle.utf8.proofs.Place.{verdict-well-formed}
-use Rattle.json.specs.Syntax.{Syntax}
-use Rattle.json.specs.Read.{Read, found, stuck, readText}
-use Rattle.content.specs.Fault.{stringFault, numberFault, keyFault}
+use Rattle.text_utf8.specs.Utf8.{utf8, verdict}
+use Rattle.text_utf8.specs.declared.Verdict.{Verdict}
+use Rattle.text_utf8.specs.declared.Verdict.the-variants.{WellFormed, Bad}
+use Rattle.text_utf8.proofs.Place.{verdict-well-formed}
+use Rattle.text_json.specs.Syntax.{Syntax}
+use Rattle.text_json.specs.Read.{Read, found, stuck, readText}
+use Rattle.text_content.specs.Fault.{stringFault, numberFault, keyFault}
 use Rattle.text.specs.Question.{tooLong, notUtf8, isStuck, notJson, faulty, badString, badNumber, sameKeys, Question, questions, lowest, textNumber}
 use Rattle.text.specs.Answer.{byFaults, byTree, byVerdict, checked, numberOf}
 use Rattle.text.specs.declared.Checked.{Checked}

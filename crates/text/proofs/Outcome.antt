@@ -8,14 +8,14 @@ use borrow.Author.Tests.{eq-eqb, ne-eqb, lt-ltb, le-ltb, eqb-true}
 use lib.Dec.{ltb, eqb}
 use lib.ListN.{length, drop}
 use Rattle.laws.proofs.Order.{by-test}
-use Rattle.utf8.specs.Utf8.{verdict}
-use Rattle.utf8.specs.declared.Verdict.{Verdict}
-use Rattle.utf8.specs.declared.Verdict.the-variants.{WellFormed, Bad}
-use Rattle.json.specs.Syntax.{Syntax}
-use Rattle.json.specs.Read.{Read, found, stuck, readText}
-use Rattle.content.specs.Value.{content}
-use Rattle.content.specs.Canonical.{canonical}
-use Rattle.content.specs.Fault.{stringFault, numberFault, keyFault}
+use Rattle.text_utf8.specs.Utf8.{verdict}
+use Rattle.text_utf8.specs.declared.Verdict.{Verdict}
+use Rattle.text_utf8.specs.declared.Verdict.the-variants.{WellFormed, Bad}
+use Rattle.text_json.specs.Syntax.{Syntax}
+use Rattle.text_json.specs.Read.{Read, found, stuck, readText}
+use Rattle.text_content.specs.Value.{content}
+use Rattle.text_content.specs.Canonical.{canonical}
+use Rattle.text_content.specs.Fault.{stringFault, numberFault, keyFault}
 use Rattle.text.specs.Question.{tooLong, textNumber}
 use Rattle.text.specs.Answer.{byFaults, byTree, byVerdict, checked, numberOf, formOf, form, canonicalNumber, canonicalLength, canonicalBytes}
 use Rattle.text.specs.declared.Checked.{Checked}

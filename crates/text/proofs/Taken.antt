@@ -8,14 +8,14 @@ use borrow.Author.Tests.{ltb-false}
 use lib.Dec.{ltb}
 use lib.ListN.{length}
 use Rattle.laws.proofs.Order.{by-test, false-true}
-use Rattle.json.specs.Syntax.{Syntax}
-use Rattle.json.specs.Grammar.{Text}
-use Rattle.json.specs.Read.{Read, found, stuck, readText}
-use Rattle.json.proofs.Grammar.Agree.{text-agrees, text-rest}
-use Rattle.content.specs.Value.{content}
-use Rattle.content.specs.Canonical.{canonical}
-use Rattle.content.specs.Fault.{stringFault, numberFault, keyFault}
-use Rattle.content.proofs.NotLonger.{not-longer}
+use Rattle.text_json.specs.Syntax.{Syntax}
+use Rattle.text_json.specs.Grammar.{Text}
+use Rattle.text_json.specs.Read.{Read, found, stuck, readText}
+use Rattle.text_json.proofs.Grammar.Agree.{text-agrees, text-rest}
+use Rattle.text_content.specs.Value.{content}
+use Rattle.text_content.specs.Canonical.{canonical}
+use Rattle.text_content.specs.Fault.{stringFault, numberFault, keyFault}
+use Rattle.text_content.proofs.NotLonger.{not-longer}
 use Rattle.text.specs.Question.{tooLong, notUtf8, isStuck, notJson, faulty, badString, badNumber, sameKeys, questions, lowest, textNumber}
 use Rattle.text.specs.Answer.{formOf, form}
 

@@ -5,14 +5,14 @@ use mathlib.Core.Bool.{Bool, true, false, _&&_}
 use lib.ListN.{length, drop}
 use lib.Dec.{ltb, eqb}
 use Rattle.laws.specs.Order.{same}
-use Rattle.utf8.specs.Utf8.{verdict}
-use Rattle.utf8.specs.declared.Verdict.{Verdict}
-use Rattle.utf8.specs.declared.Verdict.the-variants.{WellFormed, Bad}
-use Rattle.json.specs.Syntax.{Syntax}
-use Rattle.json.specs.Read.{Read, found, stuck, readText}
-use Rattle.content.specs.Value.{content}
-use Rattle.content.specs.Canonical.{canonical}
-use Rattle.content.specs.Fault.{stringFault, numberFault, keyFault}
+use Rattle.text_utf8.specs.Utf8.{verdict}
+use Rattle.text_utf8.specs.declared.Verdict.{Verdict}
+use Rattle.text_utf8.specs.declared.Verdict.the-variants.{WellFormed, Bad}
+use Rattle.text_json.specs.Syntax.{Syntax}
+use Rattle.text_json.specs.Read.{Read, found, stuck, readText}
+use Rattle.text_content.specs.Value.{content}
+use Rattle.text_content.specs.Canonical.{canonical}
+use Rattle.text_content.specs.Fault.{stringFault, numberFault, keyFault}
 use Rattle.text.specs.Question.{tooLong, textNumber}
 use Rattle.text.specs.declared.Checked.{Checked}
 use Rattle.text.specs.declared.Checked.the-variants.{Accepted, Refused}

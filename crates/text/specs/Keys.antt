@@ -3,8 +3,8 @@ use Prim.Native.Nat.{ℕ, _≤_}
 use mathlib.Core.Path.{_≡_}
 use mathlib.Core.List.{List}
 use lib.ListN.{length}
-use Rattle.json.specs.Read.{readText}
-use Rattle.scan.specs.Scanned.{KeysOf}
+use Rattle.text_json.specs.Read.{readText}
+use Rattle.text_scan.specs.Scanned.{KeysOf}
 use Rattle.text.specs.Question.{textNumber}
 use Rattle.text.specs.Answer.{form}
 use Rattle.text.specs.declared.Checked.{Checked}

@@ -5,10 +5,10 @@ use mathlib.Core.List.{List, [], _∷_}
 use mathlib.Core.Bool.{Bool, true, false, not}
 use lib.ListN.{length}
 use lib.Dec.{ltb}
-use Rattle.utf8.specs.Utf8.{utf8}
-use Rattle.json.specs.Syntax.{Syntax}
-use Rattle.json.specs.Read.{Read, found, stuck, readText}
-use Rattle.content.specs.Fault.{stringFault, numberFault, keyFault}
+use Rattle.text_utf8.specs.Utf8.{utf8}
+use Rattle.text_json.specs.Syntax.{Syntax}
+use Rattle.text_json.specs.Read.{Read, found, stuck, readText}
+use Rattle.text_content.specs.Fault.{stringFault, numberFault, keyFault}
 
 -- 1: text over 16,384 bytes
 unfoldable pub tooLong : List ℕ → Bool

@@ -1,6 +1,6 @@
 // JSON texts as document 01 takes them: checked by questions 1 to 6, and written in canonical form.
-use scan::Scanned;
-use utf8::Verdict;
+use text_scan::Scanned;
+use text_utf8::Verdict;
 ghost use mathlib.Core.Path.{_≡_};
 ghost use mathlib.Core.List.{_++_};
 ghost use Rattle.text.specs.Keys.{KeyRoom, RootKeys, FormReady, refusedText};
@@ -8,10 +8,10 @@ ghost use Rattle.text.specs.Answer.{checked, byTree, byFaults, form, can
 ghost use Rattle.laws.specs.Order.{same};
 ghost use Prim.Native.Nat.{_-_, _≤_};
 ghost use lib.ListN.{length, drop};
-ghost use Rattle.json.specs.Syntax.{Syntax};
-ghost use Rattle.json.specs.Read.{readText};
-ghost use Rattle.canonical.specs.Room.{WritableRoot, WritesValue};
-ghost use Rattle.scan.specs.Summary.{summary};
+ghost use Rattle.text_json.specs.Syntax.{Syntax};
+ghost use Rattle.text_json.specs.Read.{readText};
+ghost use Rattle.text_canonical.specs.Room.{WritableRoot, WritesValue};
+ghost use Rattle.text_scan.specs.Summary.{summary};
 
 // A text that is taken, with the length of its canonical form; or document 01's number and the offset of the fault.
 pub enum Checked {
@@ -53,7 +53,7 @@ fn check_with(text: &[u8], keys: &mut [u16], spare: &mut [u16]) -> Known
     if 16384 < text.len() {
         return refusal(1, 0);
     }
-    match utf8::check(text) {
+    match text_utf8::check(text) {
         Verdict::WellFormed => check_json(text, keys, spare),
         Verdict::Bad(at) => refusal(2, at),
     }
@@ -64,7 +64,7 @@ fn check_json(text: &[u8], keys: &mut [u16], spare: &mut [u16]) -> Known
     ensures { λ r. ⌜ r .answer ≡ byTree (length (now (text .entry))) (readText 8 (now (text .entry))) ⌝ }
     ensures { λ r. ⌜ RootKeys (now (text .entry)) (r .answer) (r .count) (now (keys .exit)) ⌝ }
 {
-    let f = match scan::text(text, keys, spare) {
+    let f = match text_scan::text(text, keys, spare) {
         Scanned::Value(f) => f,
         Scanned::Stuck(at) => return refusal(3, at),
     };
@@ -75,7 +75,7 @@ fn check_json(text: &[u8], keys: &mut [u16], spare: &mut [u16]) -> Known
 }
 
 // The first fault of a text of that length, or the length of its canonical form.
-fn by_faults(len: usize, sum: scan::Summary) -> Checked
+fn by_faults(len: usize, sum: text_scan::Summary) -> Checked
     ensures { λ r. ⌜ ((t : Syntax) → sum ≡ summary t → r ≡ byFaults len t) ⌝ }
 {
     if 0 < sum.string {
@@ -144,7 +144,7 @@ fn write_form(
     ensures { λ r. ⌜ (r .number ≡ 0) × (r .length ≡ length (form (now (text .entry)))) ⌝ }
     ensures { λ _. ⌜ now (out .exit) ≡ form (now (text .entry)) ++ drop (length (form (now (text .entry)))) (now (out .entry)) ⌝ }
 {
-    let at = view::value::root(text);
+    let at = text_view::value::root(text);
     let length = write_value(text, at, count, out, keys, spare);
     Answer { number: 0, length }
 }
@@ -161,7 +161,7 @@ fn write_value(
     requires { ⌜ WritableRoot (now text) at count (now out) (now keys) (now spare) ⌝ }
     ensures { λ r. ⌜ WritesValue (now (text .entry)) at 8 (now (out .entry)) (now (out .exit)) r ⌝ }
 {
-    canonical::write_root(text, at, count, out, keys, spare)
+    text_canonical::write_root(text, at, count, out, keys, spare)
 }
 
 // The text is taken and is its own canonical form.

@@ -4,8 +4,8 @@ use mathlib.Core.Path.{_∙_}
 use native.Mathlib.Omega.{arith}
 use lib.ListN.{length}
 use denote.Ref.{now}
-use Rattle.json.specs.Read.{readText}
-use Rattle.scan.proofs.Progress.{scans-value, scans-stuck}
+use Rattle.text_json.specs.Read.{readText}
+use Rattle.text_scan.proofs.Progress.{scans-value, scans-stuck}
 use Rattle.text.proofs.Checks.{stuck-at, by-tree}
 use Rattle.text.proofs.Keys.{refused-keys, root-keys}
 use Rattle.text.proofs.check_json.Statement.{statement}

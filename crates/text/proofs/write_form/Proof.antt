@@ -6,8 +6,8 @@ use mathlib.Core.List.{List, _++_}
 use native.Mathlib.Omega.{arith}
 use lib.ListN.{length, drop}
 use denote.Ref.{now}
-use Rattle.content.specs.Value.{Value, content}
-use Rattle.view.specs.Place.{ValueAt}
+use Rattle.text_content.specs.Value.{Value, content}
+use Rattle.text_view.specs.Place.{ValueAt}
 use Rattle.text.proofs.Taken.{taken, taken-text, taken-form, form-short}
 use Rattle.text.proofs.Keys.{root-sorted}
 use Rattle.text.proofs.write_form.Statement.{statement}

@@ -1,7 +1,7 @@
 -- `reference::digest::byte_of` meets its contract: a digit stands for a number below 16. Assumes nothing.
 use borrow.Author.Needs.{needs}
 use native.Mathlib.Omega.{arith}
-use Rattle.json.proofs.ByteTests.{hex-below}
+use Rattle.text_json.proofs.ByteTests.{hex-below}
 use Rattle.reference.proofs.Hex.{is-hex}
 use Rattle.reference.proofs.digest.byte_of.Statement.{statement}
 use Rattle.reference.proofs.digest.byte_of.Tie as tie

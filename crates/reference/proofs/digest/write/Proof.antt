@@ -7,10 +7,10 @@ use mathlib.Core.List.{List, _++_}
 use native.Mathlib.Omega.{arith}
 use denote.Ref.{now}
 use lib.ListN.{length, drop}
-use Rattle.strings.specs.InString.{contentFrom}
-use Rattle.strings.specs.Cursor.{Left}
-use Rattle.strings.proofs.Contents.{inside-content}
-use Rattle.strings.proofs.Orders.{new-left}
+use Rattle.text_strings.specs.InString.{contentFrom}
+use Rattle.text_strings.specs.Cursor.{Left}
+use Rattle.text_strings.proofs.Contents.{inside-content}
+use Rattle.text_strings.proofs.Orders.{new-left}
 use Rattle.reference.specs.Digests.{digestOf}
 use Rattle.reference.specs.Parts.{firstPart}
 use Rattle.reference.proofs.Hex.{Writing, nothing-written, all-written, kept-length, some-left, both-digits, one-more, next-byte, next-bytes}

@@ -2,7 +2,7 @@
 -- Assumes nothing.
 use mathlib.Core.Path.{ap, sym, _∙_}
 use denote.Ref.{now}
-use Rattle.strings.specs.InString.{contentFrom}
+use Rattle.text_strings.specs.InString.{contentFrom}
 use Rattle.reference.specs.Digests.{isDigest}
 use Rattle.reference.specs.References.{digestLayer}
 use Rattle.reference.specs.declared.algorithm.Known.{Known}

@@ -9,10 +9,10 @@ use native.Mathlib.Omega.{arith}
 use native.Mathlib.Nat.{add-zero, add-assoc}
 use denote.Ref.{now}
 use lib.ListN.{length, take}
-use Rattle.strings.specs.InString.{Inside, contentFrom}
-use Rattle.strings.proofs.Contents.{inside-content}
-use Rattle.strings.proofs.Orders.{inside-within, new-left}
-use Rattle.strings.proofs.Positions.{ends, goes-on}
+use Rattle.text_strings.specs.InString.{Inside, contentFrom}
+use Rattle.text_strings.proofs.Contents.{inside-content}
+use Rattle.text_strings.proofs.Orders.{inside-within, new-left}
+use Rattle.text_strings.proofs.Positions.{ends, goes-on}
 use Rattle.reference.proofs.Counting.{begins, too-short, next-same, next-differs}
 use Rattle.reference.proofs.part.begins.Statement.{statement}
 use Rattle.reference.proofs.part.begins.Tie as tie

@@ -5,9 +5,9 @@ use mathlib.Core.Path.{_≡_, refl}
 use native.Mathlib.Omega.{arith}
 use denote.Ref.{now}
 use lib.ListN.{take, drop}
-use Rattle.json.specs.Bytes.{between}
-use Rattle.json.specs.Measure.{every}
-use Rattle.json.proofs.Plain.{every-next}
+use Rattle.text_json.specs.Bytes.{between}
+use Rattle.text_json.specs.Measure.{every}
+use Rattle.text_json.proofs.Plain.{every-next}
 use Rattle.reference.specs.Digests.{isLowerHex}
 use Rattle.reference.proofs.part.hex16.Statement.{statement}
 use Rattle.reference.proofs.part.hex16.Tie as tie

@@ -1,8 +1,8 @@
 -- `reference::part::one_char` meets its contract: at a backslash stands an escape, whose character is encoded, and any other byte
 -- stands for itself. Assumes nothing.
 use native.Mathlib.Omega.{arith}
-use Rattle.strings.proofs.Orders.{inside-within}
-use Rattle.strings.proofs.Positions.{escape-at}
+use Rattle.text_strings.proofs.Orders.{inside-within}
+use Rattle.text_strings.proofs.Positions.{escape-at}
 use Rattle.reference.proofs.Counting.{char-escaped, char-byte}
 use Rattle.reference.proofs.part.one_char.Statement.{statement}
 use Rattle.reference.proofs.part.one_char.Tie as tie

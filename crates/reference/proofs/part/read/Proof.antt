@@ -3,8 +3,8 @@
 use Prim.Native.Nat.{_-_}
 use native.Mathlib.Omega.{arith}
 use lib.ListN.{length}
-use Rattle.strings.specs.InString.{Inside, contentFrom}
-use Rattle.strings.proofs.Orders.{inside-within}
+use Rattle.text_strings.specs.InString.{Inside, contentFrom}
+use Rattle.text_strings.proofs.Orders.{inside-within}
 use Rattle.reference.proofs.Counting.{Progress, at-mark, at-divider, over-char, char-fits}
 use Rattle.reference.proofs.Blocks.{begun}
 use Rattle.reference.proofs.part.read.Statement.{statement}

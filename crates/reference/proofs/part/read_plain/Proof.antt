@@ -3,7 +3,7 @@
 use Prim.Native.Nat.{_-_, _≤_}
 use native.Mathlib.Omega.{arith}
 use lib.ListN.{length, drop, drop-of-length-le, length-drop}
-use Rattle.json.proofs.Places.{drop-next}
+use Rattle.text_json.proofs.Places.{drop-next}
 use Rattle.reference.proofs.Counting.{Progress, start, goes-on-byte, sizes, counts-divided, rest-divided, counts-last, rest-last}
 use Rattle.reference.proofs.part.read_plain.Statement.{statement}
 use Rattle.reference.proofs.part.read_plain.Tie as tie

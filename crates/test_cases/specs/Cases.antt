@@ -1,0 +1,115 @@
+-- The cases that document 01 marks P ("On the bench"), as one list. A case says what a definition gives on an input.
+use Prim.Native.Nat.{ℕ, zero, suc, _-_}
+use mathlib.Core.List.{List, [], _∷_, _++_}
+use mathlib.Core.Bool.{Bool, true, false, not, _&&_}
+use lib.Dec.{eqb}
+use lib.ListN.{length, take, drop}
+use Rattle.text_json.specs.Read.{Read, found, stuck, readText}
+use Rattle.text_json.specs.Syntax.{Syntax}
+use Rattle.text_content.specs.Value.{content}
+use Rattle.manifest_fields.specs.Questions.{manifestNumber}
+use Rattle.reference.specs.Aliases.{isAlias}
+use Rattle.reference.specs.Matches.{matches}
+use Rattle.reference.specs.References.{rule, imageId}
+use Rattle.laws.specs.Order.{same}
+use Rattle.text.specs.Question.{textNumber}
+use Rattle.text.specs.Answer.{form}
+
+pub data Case : Type 0 where
+  -- the text gets that number
+  numbered : List ℕ → ℕ → Case
+  -- the text gets 0, and its canonical form is the second list
+  becomes : List ℕ → List ℕ → Case
+  -- the text gets none of 1 to 6, and as a manifest that number
+  manifested : List ℕ → ℕ → Case
+  -- the name is an alias
+  alias : List ℕ → Case
+  -- the name is none
+  no-alias : List ℕ → Case
+  -- both names are aliases, and they differ in the byte with that number, counting from 1, and in no other
+  differ : List ℕ → List ℕ → ℕ → Case
+  -- the rule matches an image with that ID and these `self` aliases
+  does-match : List ℕ → List ℕ → List (List ℕ) → Case
+  -- it matches none such
+  no-match : List ℕ → List ℕ → List (List ℕ) → Case
+
+-- the number of the manifest that was read
+unfoldable pub numberRead : Read Syntax → ℕ
+numberRead (found t r) = manifestNumber (content t)
+numberRead (stuck r) = 3
+
+-- the equality of all bytes but the one with that number
+unfoldable pub elsewhere : List ℕ → List ℕ → ℕ → Bool
+elsewhere a b n = same (take (n - 1) a) (take (n - 1) b) && same (drop n a) (drop n b)
+
+unfoldable pub times : ℕ → List ℕ → List ℕ
+times zero c = []
+times (suc n) c = c ++ times n c
+
+unfoldable pub holds : Case → Bool
+holds (numbered s n) = eqb (textNumber s) n
+holds (becomes s f) = eqb (textNumber s) 0 && same (form s) f
+holds (manifested s n) = eqb (textNumber s) 0 && eqb (numberRead (readText 8 s)) n
+holds (alias c) = isAlias c
+holds (no-alias c) = not (isAlias c)
+holds (differ a b n) = (isAlias a && isAlias b) && (not (same a b) && elsewhere a b n)
+holds (does-match r i names) = matches (rule r) (imageId i) names
+holds (no-match r i names) = not (matches (rule r) (imageId i) names)
+
+unfoldable pub every : List Case → Bool
+every [] = true
+every (c ∷ cs) = holds c && every cs
+
+-- क and ख, U+0915 and U+0916
+abbrev pub ka : List ℕ
+ka = 0xE0 ∷ 0xA4 ∷ 0x95 ∷ []
+
+abbrev pub kha : List ℕ
+kha = 0xE0 ∷ 0xA4 ∷ 0x96 ∷ []
+
+-- 56 letters a, a digest of sha224
+unfoldable pub letters : List ℕ
+letters = times 56 (0x61 ∷ [])
+
+-- sha224/, and the Image ID of two such digests
+unfoldable pub hash : List ℕ
+hash = 0x73 ∷ 0x68 ∷ 0x61 ∷ 0x32 ∷ 0x32 ∷ 0x34 ∷ 0x2F ∷ []
+
+unfoldable pub someId : List ℕ
+someId = hash ++ (letters ++ (0x2F ∷ letters))
+
+-- a manifest with these signals, given as they stand between the brackets
+unfoldable pub withSignals : List ℕ → List ℕ
+withSignals c =
+    (0x7B ∷ 0x22 ∷ 0x61 ∷ 0x63 ∷ 0x6F ∷ 0x6E ∷ 0x53 ∷ 0x70 ∷ 0x65 ∷ 0x63 ∷ 0x56 ∷ 0x65 ∷ 0x72 ∷ 0x73 ∷ 0x69 ∷ 0x6F ∷ 0x6E ∷ 0x22 ∷ 0x3A ∷ 0x5B ∷ 0x31 ∷ 0x2C ∷ 0x30 ∷ 0x5D ∷ 0x2C ∷ 0x22 ∷ 0x73 ∷ 0x69 ∷ 0x67 ∷ 0x6E ∷ 0x61 ∷ 0x6C ∷ 0x73 ∷ 0x22 ∷ 0x3A ∷ 0x5B ∷ [])
+    ++ (c ++ (0x5D ∷ 0x7D ∷ []))
+
+-- Job:1
+abbrev pub jobOne : List ℕ
+jobOne = 0x4A ∷ 0x6F ∷ 0x62 ∷ 0x3A ∷ 0x31 ∷ []
+
+unfoldable pub cases : List Case
+cases =
+    -- P3: {"b":1, "a":"\u0041"} becomes {"a":"A","b":1}
+    becomes
+    (0x7B ∷ 0x22 ∷ 0x62 ∷ 0x22 ∷ 0x3A ∷ 0x31 ∷ 0x2C ∷ 0x20 ∷ 0x22 ∷ 0x61 ∷ 0x22 ∷ 0x3A ∷ 0x22 ∷ 0x5C ∷ 0x75 ∷ 0x30 ∷ 0x30 ∷ 0x34 ∷ 0x31 ∷ 0x22 ∷ 0x7D ∷ [])
+    (0x7B ∷ 0x22 ∷ 0x61 ∷ 0x22 ∷ 0x3A ∷ 0x22 ∷ 0x41 ∷ 0x22 ∷ 0x2C ∷ 0x22 ∷ 0x62 ∷ 0x22 ∷ 0x3A ∷ 0x31 ∷ 0x7D ∷ [])
+    -- P4: {"a":1,"\u0061":2} is 6
+    ∷ numbered (0x7B ∷ 0x22 ∷ 0x61 ∷ 0x22 ∷ 0x3A ∷ 0x31 ∷ 0x2C ∷ 0x22 ∷ 0x5C ∷ 0x75 ∷ 0x30 ∷ 0x30 ∷ 0x36 ∷ 0x31 ∷ 0x22 ∷ 0x3A ∷ 0x32 ∷ 0x7D ∷ []) 6
+    -- P5: -0 is 5; 1e0 is 5; 01 is 3
+    ∷ numbered (0x2D ∷ 0x30 ∷ []) 5
+    ∷ numbered (0x31 ∷ 0x65 ∷ 0x30 ∷ []) 5
+    ∷ numbered (0x30 ∷ 0x31 ∷ []) 3
+    -- P6: an alias of 85 क is good (255 bytes); 86 is 8
+    ∷ alias (times 85 ka)
+    ∷ no-alias (times 86 ka)
+    -- P7: 21 क then क, and 21 क then ख, are two names; they differ only in byte 66
+    ∷ differ (times 21 ka ++ ka) (times 21 ka ++ kha) 66
+    -- P8: signals [0,-15] is good; [-15,0] is 7; [-65] is 7
+    ∷ manifested (withSignals (0x30 ∷ 0x2C ∷ 0x2D ∷ 0x31 ∷ 0x35 ∷ [])) 0
+    ∷ manifested (withSignals (0x2D ∷ 0x31 ∷ 0x35 ∷ 0x2C ∷ 0x30 ∷ [])) 7
+    ∷ manifested (withSignals (0x2D ∷ 0x36 ∷ 0x35 ∷ [])) 7
+    -- P12: a rule with the alias Job:1 does not match an image whose only alias is Job:10; one with Job:1 it does
+    ∷ no-match (hash ++ (0x2A ∷ 0x2F ∷ jobOne)) someId ((jobOne ++ (0x30 ∷ [])) ∷ [])
+    ∷ does-match (hash ++ (0x2A ∷ 0x2F ∷ jobOne)) someId (jobOne ∷ [])
+    ∷ []

@@ -1,0 +1,19 @@
+// Reads manifests from standard input, one to a line, and prints the number that each gets by questions 1 to 9: the lowest that applies.
+fn show_all(s: &[u8]) {
+    let mut start = 0;
+    let mut i = 0;
+    while i < s.len() {
+        if s[i] == b'\n' {
+            io::print_decimal(1, manifest::number(&s[start..i]) as u64);
+            io::write_all(1, b"\n");
+            start = i + 1;
+        }
+        i += 1;
+    }
+}
+
+fn main() {
+    let mut buffer = io::large_buffer();
+    let n = io::read_full(0, &mut buffer);
+    show_all(&buffer[..n]);
+}

@@ -1,0 +1,31 @@
+-- The string that a text is, where the text is one.
+-- Assumes nothing.
+use Prim.Native.Nat.{ℕ, _+_, _<_, _≤_}
+use mathlib.Core.Path.{_≡_, sym, ap, subst, _∙_}
+use mathlib.Core.List.{List}
+use native.Mathlib.Omega.{arith}
+use lib.ListN.{length}
+use Rattle.text_content.specs.Value.{Value, content, string}
+use Rattle.text_strings.specs.InString.{Inside}
+use Rattle.text_strings.proofs.Orders.{inside-within}
+use Rattle.text.specs.Answer.{checked, numberOf}
+use Rattle.text.specs.declared.Checked.{Checked}
+use Rattle.text.specs.declared.Checked.the-variants.{Accepted}
+use Rattle.text.proofs.Numbers.{number-checked}
+use Rattle.text.proofs.Taken.{Taken, taken}
+use Rattle.text_view.specs.Place.{ValueAt, kindOf}
+use Rattle.text_view.specs.declared.Kind.the-variants.{String}
+use Rattle.text_view.proofs.ByKind.{is-string}
+use Rattle.text_view.proofs.Strings.{string-value}
+
+pub accepted : (s : List ℕ) (r : Checked) (n : ℕ) → r ≡ checked s → r ≡ Accepted n → Taken s
+accepted s r n e f = taken s (sym (number-checked s) ∙ ap numberOf (sym e ∙ f))
+
+pub string-inside : (s : List ℕ) (p d : ℕ) (v : Value) → ValueAt s p d v → kindOf v ≡ String → Inside s (p + 1)
+string-inside s p d v h e =
+    let k = is-string v e in
+    let x = string-value s p (k .0) d (subst (ValueAt s p d) (k .1) h) in
+    record { bytes = k .0; here = x .1 }
+
+pub string-short : (s : List ℕ) (p d : ℕ) (v : Value) → length s ≤ 16384 → ValueAt s p d v → kindOf v ≡ String → p + 1 < 16384
+string-short s p d v l h e = omega (arith, inside-within s (p + 1) (string-inside s p d v h e))

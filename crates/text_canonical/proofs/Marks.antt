@@ -1,0 +1,45 @@
+-- The loops of the writer begin once the opening mark is written: what was there before it does not matter.
+use Prim.Native.Nat.{ℕ, suc, _+_, _<_}
+use mathlib.Core.Path.{_≡_, refl, sym, ap, subst, _∙_}
+use mathlib.Core.List.{List, [], _∷_, _++_}
+use native.Mathlib.Omega.{arith}
+use native.Mathlib.Numerals.{add-one}
+use lib.ListN.{length, drop, set, length-set}
+use Rattle.text_content.specs.Value.{Value}
+use Rattle.text_printer.specs.Writes.{Writes}
+use Rattle.text_canonical.specs.Room.{Room, Written}
+
+pub mark-written : (l : List ℕ) (b : ℕ) → 0 < length l → Writes (set l 0 b) (set l 0 b) (b ∷ [])
+mark-written [] b h = absurd (omega arith)
+mark-written (x ∷ l) b h = record { fits = omega arith; all = refl }
+
+past-mark : (l : List ℕ) (b n : ℕ) → drop (suc n) (set l 0 b) ≡ drop (suc n) l
+past-mark [] b n = refl
+past-mark (x ∷ l) b n = refl
+
+pub from-mark : (l : List ℕ) (b n : ℕ) {after bytes : List ℕ} → Written (set l 0 b) after (n + 1) bytes → Written l after (n + 1) bytes
+from-mark l b n {after} {bytes} w =
+    let size : suc n ≡ length bytes = sym (add-one n) ∙ w .0 in (
+      w .0,
+      record {
+        fits = omega (arith, w .1 .fits, length-set l 0 b);
+        all = w .1 .all ∙ ap (λ (k : ℕ). bytes ++ drop k (set l 0 b)) (sym size) ∙ ap (λ (m : List ℕ). bytes ++ m) (past-mark l b n)
+            ∙ ap (λ (k : ℕ). bytes ++ drop k l) size;
+      },
+    )
+
+-- room goes by lengths alone
+pub room-again : {s : List ℕ} {at depth : ℕ} {v : Value} {out keys spare : List ℕ} (out′ keys′ spare′ : List ℕ) → length out′ ≡ length out
+    → length keys′ ≡ length keys → length spare′ ≡ length spare → Room s at depth v out keys spare → Room s at depth v out′ keys′ spare′
+room-again out′ keys′ spare′ e f g r =
+    record {
+      here = r .here;
+      short = r .short;
+      form = omega (arith, r .form);
+      enough = omega (arith, r .enough);
+      sorting = omega (arith, r .sorting);
+    }
+
+pub room-of : {s : List ℕ} {at depth : ℕ} {v w : Value} {out keys spare : List ℕ} → v ≡ w → Room s at depth v out keys spare
+    → Room s at depth w out keys spare
+room-of {s} {at} {depth} {out = out} {keys = keys} {spare = spare} e r = subst (λ (x : Value). Room s at depth x out keys spare) e r

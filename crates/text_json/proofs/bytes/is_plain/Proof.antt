@@ -1,0 +1,13 @@
+-- `text_json::bytes::is_plain` meets its contract: its tests are those of the definition.
+-- Assumes nothing.
+use mathlib.Core.Path.{refl}
+use Rattle.text_json.specs.Measure.{isPlain}
+use Rattle.text_json.proofs.bytes.is_plain.Statement.{statement}
+use Rattle.text_json.proofs.bytes.is_plain.Tie as tie
+
+returns : tie.Need-returns
+unfolding isPlain
+returns c = refl
+
+pub is-plain-spec : {M : Type 1} → statement M
+is-plain-spec = tie.close (tie.spec returns)

@@ -1,0 +1,123 @@
+use Prim.Native.Nat.{_-_}
+use mathlib.Core.Path.{sym, _∙_}
+use mathlib.Core.Logic.{inl, inr, ⊎-elim}
+use native.Mathlib.Omega.{arith}
+use borrow.Author.Tests.{not-true, not-false}
+use lib.ListN.{length}
+use Rattle.text_keys.proofs.Keys.{keys-get}
+use Rattle.text_keys.proofs.Merges.{Merging, key-right, merging-start, merging-done, merging-left, merging-right}
+use Rattle.text_keys.proofs.merge_back.Statement.{statement}
+use Rattle.text_keys.proofs.merge_back.Tie as tie
+
+abbrev Inv-loop : tie.InvT-loop
+Inv-loop s left keys₀ i₀ j₀ at₀ keys i j at = Merging s left keys₀ keys i j at
+
+abbrev μ-loop : tie.MeasureT-loop
+μ-loop s left keys₀ i₀ j₀ at₀ keys i j at = length keys₀ - at
+
+loop-holds : tie.Need-loop-holds Inv-loop μ-loop
+loop-holds c = merging-start _ _ _ (c .before .before .before .pre .2)
+
+mul-not-after : tie.Need-mul-not-after Inv-loop μ-loop
+mul-not-after c = omega arith
+
+shared-slice-read-not-after : tie.Need-shared-slice-read-not-after Inv-loop μ-loop
+shared-slice-read-not-after c = omega arith
+
+mul-not-after-2 : tie.Need-mul-not-after-2 Inv-loop μ-loop
+mul-not-after-2 c = omega arith
+
+slice-read-not-after : tie.Need-slice-read-not-after Inv-loop μ-loop
+slice-read-not-after c = omega arith
+
+not-after-requires : tie.Need-not-after-requires Inv-loop μ-loop
+not-after-requires c κs =
+    let a = c .before .before .before .before .before .before .before .before in
+    (keys-get (a .pre .0) _ (c .before .before .before .loop-test .taken), key-right (c .before .before .before .before .loop .inv) (a .pre .1) (c .before .before .if1 .taken))
+
+mul-keys : tie.Need-mul-keys Inv-loop μ-loop
+mul-keys c = omega arith
+
+slice-read-keys : tie.Need-slice-read-keys Inv-loop μ-loop
+slice-read-keys c = omega arith
+
+mul-keys-2 : tie.Need-mul-keys-2 Inv-loop μ-loop
+mul-keys-2 c = omega arith
+
+slice-write-keys : tie.Need-slice-write-keys Inv-loop μ-loop
+slice-write-keys c = omega arith
+
+add-j : tie.Need-add-j Inv-loop μ-loop
+add-j c = omega arith
+
+add-at : tie.Need-add-at Inv-loop μ-loop
+add-at c = omega arith
+
+loop-less : tie.Need-loop-less Inv-loop μ-loop
+loop-less c = omega arith
+
+loop-again : tie.Need-loop-again Inv-loop μ-loop
+loop-again c =
+    let r = c .before .before in
+    merging-right _ _ _ _ _ _ _ (r .before .before .before .before .before .loop .inv) (r .before .before .before .before .loop-test .taken) (r .before .before .before .if1 .taken) (sym (r .not-after .ensures) ∙ not-true _ (c .before .if2 .taken))
+
+mul-keys-3 : tie.Need-mul-keys-3 Inv-loop μ-loop
+mul-keys-3 c = omega arith
+
+shared-slice-read-keys : tie.Need-shared-slice-read-keys Inv-loop μ-loop
+shared-slice-read-keys c = omega arith
+
+mul-keys-4 : tie.Need-mul-keys-4 Inv-loop μ-loop
+mul-keys-4 c = omega arith
+
+slice-write-keys-2 : tie.Need-slice-write-keys-2 Inv-loop μ-loop
+slice-write-keys-2 c = omega arith
+
+add-i : tie.Need-add-i Inv-loop μ-loop
+add-i c = omega arith
+
+add-at-2 : tie.Need-add-at-2 Inv-loop μ-loop
+add-at-2 c = omega arith
+
+loop-less-2 : tie.Need-loop-less-2 Inv-loop μ-loop
+loop-less-2 c = omega arith
+
+loop-again-2 : tie.Need-loop-again-2 Inv-loop μ-loop
+loop-again-2 c = merging-left _ _ _ _ _ _ _ (c .before .before .before .loop .inv) (c .before .before .loop-test .taken) (⊎-elim (λ w. inr (w .0 .taken, sym (w .3 .ensures) ∙ not-false _ (w .4 .left))) (λ w. inl (w .left)) (c .before .if1 .came))
+
+same-length : tie.Need-same-length Inv-loop μ-loop
+same-length c = c .before .loop .inv .size
+
+returns : tie.Need-returns Inv-loop μ-loop
+returns c = merging-done _ _ _ _ _ _ _ (c .loop-test .left) (c .before .loop .inv)
+
+pub merge-back-spec : {M : Type 1} → statement M
+merge-back-spec =
+    tie.close
+    (tie.spec
+    Inv-loop
+    μ-loop
+    loop-holds
+    mul-not-after
+    shared-slice-read-not-after
+    mul-not-after-2
+    slice-read-not-after
+    not-after-requires
+    mul-keys
+    slice-read-keys
+    mul-keys-2
+    slice-write-keys
+    add-j
+    add-at
+    loop-less
+    loop-again
+    mul-keys-3
+    shared-slice-read-keys
+    mul-keys-4
+    slice-write-keys-2
+    add-i
+    add-at-2
+    loop-less-2
+    loop-again-2
+    same-length
+    returns)

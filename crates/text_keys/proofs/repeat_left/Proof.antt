@@ -1,0 +1,87 @@
+use borrow.Author.Needs.{needs}
+use Prim.Native.Nat.{ℕ, _≤_, _-_, _+_, max}
+use mathlib.Core.Path.{_≡_, ap, _∙_}
+use native.Mathlib.Omega.{arith}
+use native.Mathlib.Nat.{zero-max}
+use denote.Ref.{now}
+use lib.ListN.{length, drop, length-drop}
+use Rattle.text_keys.proofs.Keys.{keys-get}
+use Rattle.text_keys.proofs.Repeats.{nextLeft, next-sort, next-step, next-short}
+use Rattle.text_keys.proofs.repeat_left.Statement.{statement}
+use Rattle.text_keys.proofs.repeat_left.Tie as tie
+
+abbrev Inv-loop : tie.InvT-loop
+Inv-loop s keys most₀ i₀ most i = (i ≤ length keys) × (max most (nextLeft s (drop i keys)) ≡ nextLeft s keys)
+
+abbrev μ-loop : tie.MeasureT-loop
+μ-loop s keys most₀ i₀ most i = length keys - i
+
+loop-holds : tie.Need-loop-holds Inv-loop μ-loop
+loop-holds c = (omega arith, zero-max _)
+
+add-loop : tie.Need-add-loop Inv-loop μ-loop
+add-loop c = omega arith
+
+mul-left-if-same : tie.Need-mul-left-if-same Inv-loop μ-loop
+mul-left-if-same c = omega arith
+
+shared-slice-read-left-if-same : tie.Need-shared-slice-read-left-if-same Inv-loop μ-loop
+shared-slice-read-left-if-same c = omega arith
+
+add-left-if-same : tie.Need-add-left-if-same Inv-loop μ-loop
+add-left-if-same c = omega arith
+
+mul-left-if-same-2 : tie.Need-mul-left-if-same-2 Inv-loop μ-loop
+mul-left-if-same-2 c = omega arith
+
+shared-slice-read-left-if-same-2 : tie.Need-shared-slice-read-left-if-same-2 Inv-loop μ-loop
+shared-slice-read-left-if-same-2 c = omega arith
+
+left-if-same-requires : tie.Need-left-if-same-requires Inv-loop μ-loop
+left-if-same-requires c κs =
+    let p = c .before .before .before .before .before .before .pre in
+    (keys-get p _ (omega arith), keys-get p _ (omega arith))
+
+larger-requires : tie.Need-larger-requires Inv-loop μ-loop
+larger-requires c κs = search needs
+
+add-i : tie.Need-add-i Inv-loop μ-loop
+add-i c = omega arith
+
+loop-less : tie.Need-loop-less Inv-loop μ-loop
+loop-less c = omega arith
+
+loop-again : tie.Need-loop-again Inv-loop μ-loop
+loop-again c =
+    let l = c .before .before .before .before .before .loop in
+    let a = c .before .before .before .before .before .before .before .before .args in (
+      omega arith,
+      ap (λ (n : ℕ). max n (nextLeft (now (a .s)) (drop (l .i + 1) (now (a .keys))))) (c .larger .ensures ∙ ap (max (l .most)) (c .before .left-if-same .ensures))
+          ∙ next-step (now (a .s)) (l .most) (now (a .keys)) (l .i) (omega arith) ∙ l .inv .1,
+    )
+
+returns : tie.Need-returns Inv-loop μ-loop
+returns c =
+    let l = c .before .loop in
+    let a = c .before .before .before .before .args in
+    λ ks e. omega (arith, next-short (now (a .s)) (drop (l .i) (now (a .keys))) (rw length-drop (omega arith)), ap (nextLeft (now (a .s))) e, next-sort (now (a .s)) ks, l .inv .1)
+
+pub repeat-left-spec : {M : Type 1} → statement M
+repeat-left-spec =
+    tie.close
+    (tie.spec
+    Inv-loop
+    μ-loop
+    loop-holds
+    add-loop
+    mul-left-if-same
+    shared-slice-read-left-if-same
+    add-left-if-same
+    mul-left-if-same-2
+    shared-slice-read-left-if-same-2
+    left-if-same-requires
+    larger-requires
+    add-i
+    loop-less
+    loop-again
+    returns)

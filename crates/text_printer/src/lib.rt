@@ -1,0 +1,89 @@
+// Writing canonical text. Each function writes at the start of the slice that it is lent and says how many bytes it wrote.
+ghost use mathlib.Core.Path.{_≡_};
+ghost use mathlib.Core.List.{[], _∷_, _++_};
+ghost use Prim.Native.Nat.{_+_, _-_, _<_, _≤_};
+ghost use lib.ListN.{length, take, drop};
+ghost use Rattle.text_utf8.specs.Scalar.{encode};
+ghost use Rattle.text_json.specs.Content.{escaped, quoted};
+ghost use Rattle.text_strings.specs.InString.{Inside, contentFrom};
+ghost use Rattle.text_printer.specs.Writes.{Writes};
+
+// One byte.
+pub fn put(out: &mut [u8], b: u8) -> usize
+    requires { ⌜ 1 ≤ length (now out) ⌝ }
+    ensures { λ r. ⌜ (r ≡ 1) × Writes (now (out .entry)) (now (out .exit)) (b ∷ []) ⌝ }
+{
+    out[0] = b;
+    1
+}
+
+// The bytes of s from `from` to `to`.
+pub fn copy(s: &[u8], from: usize, to: usize, out: &mut [u8]) -> usize
+    requires { ⌜ (from ≤ to) × (to ≤ length (now s)) × (to - from ≤ length (now out)) ⌝ }
+    ensures { λ r. ⌜ (r ≡ to - from) × Writes (now (out .entry)) (now (out .exit)) (take (to - from) (drop from (now (s .entry)))) ⌝ }
+{
+    let n = to - from;
+    let mut i = 0;
+    while i < n {
+        out[i] = s[from + i];
+        i += 1;
+    }
+    n
+}
+
+// A character of a string in canonical form: its UTF-8, with a backslash before it if it is the quotation mark or the backslash.
+fn write_char(c: u32, out: &mut [u8]) -> usize
+    requires { ⌜ (c < 0x110000) × (length (escaped (encode c)) ≤ length (now out)) ⌝ }
+    ensures { λ r. ⌜ (r ≡ length (escaped (encode c))) × Writes (now (out .entry)) (now (out .exit)) (escaped (encode c)) ⌝ }
+{
+    if c == 0x22 {
+        out[0] = b'\\';
+        out[1] = b'"';
+        return 2;
+    }
+    if c == 0x5C {
+        out[0] = b'\\';
+        out[1] = b'\\';
+        return 2;
+    }
+    let x = text_utf8::encoded(c);
+    let len = x.len;
+    let bytes = x.bytes;
+    copy(&bytes, 0, len, out)
+}
+
+// The string whose content goes on at i, in canonical form from there to its closing mark. A byte of the text that begins no escape
+// stands for itself, and is no byte that has to be escaped; it is copied with the plain bytes after it.
+fn write_content(s: &[u8], i: usize, out: &mut [u8]) -> usize
+    requires { ⌜ Inside (now s) i × (length (escaped (contentFrom (now s) i)) + 1 ≤ length (now out)) ⌝ }
+    ensures { λ r. ⌜ (r ≡ length (escaped (contentFrom (now (s .entry)) i)) + 1) × Writes (now (out .entry)) (now (out .exit)) (escaped (contentFrom (now (s .entry)) i) ++ (0x22 ∷ [])) ⌝ }
+{
+    let mut k = i;
+    let mut n = 0;
+    loop {
+        let b = s[k];
+        if b == b'"' {
+            out[n] = b'"';
+            return n + 1;
+        }
+        if b == b'\\' {
+            let e = text_strings::read_escape(s, k);
+            let c = e.scalar;
+            n += write_char(c, &mut out[n..]);
+            k = e.next;
+            continue;
+        }
+        let end = text_json::string::plain_end(s, k + 1);
+        n += copy(s, k, end, &mut out[n..]);
+        k = end;
+    }
+}
+
+// The string whose opening quotation mark stands at `at`, in canonical form.
+pub fn write_string(s: &[u8], at: usize, out: &mut [u8]) -> usize
+    requires { ⌜ Inside (now s) (at + 1) × (length (quoted (contentFrom (now s) (at + 1))) ≤ length (now out)) ⌝ }
+    ensures { λ r. ⌜ (r ≡ length (quoted (contentFrom (now (s .entry)) (at + 1)))) × Writes (now (out .entry)) (now (out .exit)) (quoted (contentFrom (now (s .entry)) (at + 1))) ⌝ }
+{
+    out[0] = b'"';
+    1 + write_content(s, at + 1, &mut out[1..])
+}

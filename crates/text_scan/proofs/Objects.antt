@@ -1,0 +1,371 @@
+-- Reading the members of an object from the left.
+use Prim.Native.Nat.{ℕ, suc, _+_, _*_, _-_, _<_, _≤_, max}
+use mathlib.Core.Path.{_≡_, refl, sym, ap, subst, _∙_}
+use mathlib.Core.List.{List, [], _∷_, _++_}
+use mathlib.Core.Bool.{Bool, true, false, cond}
+use native.Mathlib.Omega.{arith}
+use native.Mathlib.Numerals.{add-one}
+use lib.ListN.{length, take, drop, getD, set, length-append, length-drop, length-set}
+use lib.Seq.{take-suc-set}
+use borrow.Rule.Slice.PartMut.{midOf, putMid, same-len-mid, mid-len, take-put}
+use Rattle.text_json.specs.Syntax.{Syntax, Char, Members, no-members, object, members, Member}
+use Rattle.text_json.specs.Read.{Read, found, stuck, andThen, spaces, readListed, readPair, readString, readWord, readChars, char, read}
+use Rattle.text_json.specs.Content.{refusedString, unescape, quoted}
+use Rattle.text_json.specs.Size.{stringSize}
+use Rattle.text_json.specs.Scan.{At, Scans as TokenScans}
+use Rattle.text_json.specs.declared.Scan.the-variants.{Token, NoToken}
+use Rattle.text_json.proofs.Items.{itemsFrom, prependAll}
+use Rattle.text_json.proofs.Grammar.Ends.{inside-length}
+use Rattle.text_json.proofs.Grammar.Rests.{pair-inside, value-ends}
+use Rattle.text_json.proofs.Grammar.Sound.{string-sound, pair-sound, value-reads}
+use Rattle.text_json.specs.Grammar.{String}
+use Rattle.text_content.specs.Value.{content}
+use Rattle.text_content.specs.Canonical.{canonical}
+use Rattle.text_content.specs.Fault.{mark, repeated, stringFault, keyStringFaults, numberFault, memberNumberFaults, keyFault, memberKeyFaults}
+use Rattle.text_content.proofs.Size.{sizeOf, sizeOfMembers, enclosed, size-canonical, size-empty, size-enclosed, size-members-append}
+use Rattle.laws.specs.Sort.{sort}
+use Rattle.text_strings.specs.InString.{Inside, InString, contentFrom, keyLe}
+use Rattle.text_strings.proofs.Contents.{content-from}
+use Rattle.text_strings.proofs.Views.{rest-at}
+use Rattle.text_keys.specs.Keys.{KeysAt, no-keys, key-at}
+use Rattle.text_keys.specs.Repeats.{Places, no-places, place-at, repeatLeft}
+use Rattle.text_keys.proofs.Keys.{keys-append}
+use Rattle.text_keys.proofs.Repeats.{repeated-places}
+use Rattle.text_scan.specs.Summary.{summary, plus, memberSummary}
+use Rattle.text_scan.specs.Scanned.{Scans, Follows, Room, KeyWithin, readKey, readObject, plainValue, closedValue, KeysOf}
+use Rattle.text_scan.specs.declared.Summary.{Summary}
+use Rattle.text_scan.specs.declared.Found.{Found}
+use Rattle.text_scan.specs.declared.After.{After}
+use Rattle.text_scan.specs.declared.Scanned.{Scanned}
+use Rattle.text_scan.specs.declared.Scanned.the-variants.{Value, Stuck}
+use Rattle.text_scan.proofs.Progress.{IsValue, scans-stuck, value-later, value-size, listed-empty, listed-items, item-stuck, item-ends, item-sticks, item-more}
+use Rattle.text_scan.proofs.Tokens.{mark-at}
+use Rattle.text_scan.proofs.Keys.{keys-of, no-keys-left}
+
+-- the faults and the length of the members so far, with the object's opening mark; equal keys are found at its end
+pub objectSum : List Member → Summary
+objectSum ms =
+    record { string = keyStringFaults (members ms); number = memberNumberFaults (members ms); key = memberKeyFaults (members ms); size = 1 + sizeOfMembers (members ms) }
+
+-- a member on its own
+pub memberSum : Member → Summary
+memberSum m = memberSummary (mark (refusedString (m .key)) (m .place)) (stringSize (m .key)) (summary (m .value))
+
+-- a largest of faults, one member more at the end
+module _ (fault : Member → ℕ) (faults : Members → ℕ) (none : faults no-members ≡ 0) (one : (m : Member) (ms : List Member) → faults (members (m ∷ ms)) ≡ max (fault m) (faults (members ms))) where
+  faults-snoc : (ms : List Member) (m : Member) → faults (members (ms ++ (m ∷ []))) ≡ max (faults (members ms)) (fault m)
+  unfolding members
+  faults-snoc [] m = omega (arith, one m [], none)
+  faults-snoc (n ∷ ms) m =
+      let ih = faults-snoc ms m in
+      omega (arith, one n (ms ++ (m ∷ [])), one n ms)
+
+string-one : (m : Member) (ms : List Member) → keyStringFaults (members (m ∷ ms)) ≡ max (max (mark (refusedString (m .key)) (m .place)) (stringFault (m .value))) (keyStringFaults (members ms))
+unfolding keyStringFaults members
+string-one m ms = refl
+
+number-one : (m : Member) (ms : List Member) → memberNumberFaults (members (m ∷ ms)) ≡ max (numberFault (m .value)) (memberNumberFaults (members ms))
+unfolding memberNumberFaults members
+number-one m ms = refl
+
+key-one : (m : Member) (ms : List Member) → memberKeyFaults (members (m ∷ ms)) ≡ max (keyFault (m .value)) (memberKeyFaults (members ms))
+unfolding memberKeyFaults members
+key-one m ms = refl
+
+string-none : keyStringFaults no-members ≡ 0
+unfolding keyStringFaults
+string-none = refl
+
+number-none : memberNumberFaults no-members ≡ 0
+unfolding memberNumberFaults
+number-none = refl
+
+key-none : memberKeyFaults no-members ≡ 0
+unfolding memberKeyFaults
+key-none = refl
+
+no-size : sizeOfMembers no-members ≡ 0
+unfolding sizeOfMembers
+no-size = refl
+
+one-size : (m : Member) → sizeOfMembers (members (m ∷ [])) ≡ stringSize (m .key) + 1 + sizeOf (m .value) + 1
+unfolding sizeOfMembers members stringSize
+one-size m = omega arith
+
+size-object : (ms : Members) → sizeOf (object ms) ≡ enclosed (sizeOfMembers ms)
+unfolding sizeOf
+size-object ms = refl
+
+sum-snoc : (ms : List Member) (m : Member) → plus (objectSum ms) (memberSum m) ≡ objectSum (ms ++ (m ∷ []))
+unfolding objectSum memberSum memberSummary plus summary
+sum-snoc ms m = λ i. record { string = sym strings i; number = sym numbers i; key = sym keys i; size = sizes i }
+  where
+    strings : keyStringFaults (members (ms ++ (m ∷ []))) ≡ max (keyStringFaults (members ms)) (max (mark (refusedString (m .key)) (m .place)) (stringFault (m .value)))
+    strings = faults-snoc (λ n. max (mark (refusedString (n .key)) (n .place)) (stringFault (n .value))) keyStringFaults string-none string-one ms m
+
+    numbers : memberNumberFaults (members (ms ++ (m ∷ []))) ≡ max (memberNumberFaults (members ms)) (numberFault (m .value))
+    numbers = faults-snoc (λ n. numberFault (n .value)) memberNumberFaults number-none number-one ms m
+
+    keys : memberKeyFaults (members (ms ++ (m ∷ []))) ≡ max (memberKeyFaults (members ms)) (keyFault (m .value))
+    keys = faults-snoc (λ n. keyFault (n .value)) memberKeyFaults key-none key-one ms m
+
+    sizes : 1 + sizeOfMembers (members ms) + (stringSize (m .key) + length (canonical (content (m .value))) + 1) + 1 ≡ 1 + sizeOfMembers (members (ms ++ (m ∷ [])))
+    sizes = omega (arith, size-members-append ms (m ∷ []), size-canonical (m .value), one-size m)
+
+-- the whole object's summary, with the first key that is equal to an earlier one
+sum-object : (ms : List Member) → 1 ≤ length ms
+    → record { string = objectSum ms .string; number = objectSum ms .number; key = max (repeated [] (members ms)) (objectSum ms .key); size = objectSum ms .size } ≡ summary (object (members ms))
+unfolding objectSum summary stringFault numberFault keyFault
+sum-object ms h = λ i. record { string = keyStringFaults (members ms); number = memberNumberFaults (members ms); key = max (repeated [] (members ms)) (memberKeyFaults (members ms)); size = size i }
+  where
+    some : (ns : List Member) → 1 ≤ length ns → 1 ≤ sizeOfMembers (members ns)
+    some [] k = absurd (omega arith)
+    some (n ∷ ns) k = omega (arith, size-members-append (n ∷ []) ns, one-size n)
+
+    size : 1 + sizeOfMembers (members ms) ≡ length (canonical (content (object (members ms))))
+    size = sym (size-enclosed (sizeOfMembers (members ms)) (some ms h)) ∙ sym (size-object (members ms)) ∙ size-canonical (object (members ms))
+
+sum-empty : summary (object no-members) ≡ record { string = 0; number = 0; key = 0; size = 2 }
+unfolding summary stringFault numberFault keyFault repeated
+sum-empty = λ i. record { string = 0; number = 0; key = 0; size = (sym (size-canonical (object no-members)) ∙ size-object no-members ∙ ap enclosed no-size ∙ size-empty) i }
+
+-- a member is read as its key with the colon, and its value
+pair-by-key : (value : List ℕ → Read Syntax) (s : List ℕ)
+    → readPair value s ≡ andThen (readKey s) (λ cs q. andThen (value q) (λ t r. found (record { place = s; key = cs; value = t }) r))
+unfolding readPair readKey andThen
+pair-by-key value s = by-string (readString s)
+  where
+    by-word : (cs : List Char) (y : Read (Unit {0}))
+        → andThen y (λ _ s₂. andThen {B = Member} (value (spaces s₂)) (λ t r. found (record { place = s; key = cs; value = t }) r))
+        ≡ andThen (andThen y (λ _ s₂. found cs (spaces s₂))) (λ ds q. andThen {B = Member} (value q) (λ t r. found (record { place = s; key = ds; value = t }) r))
+    by-word cs (found u r) = refl
+    by-word cs (stuck r) = refl
+
+    by-string : (x : Read (List Char))
+        → andThen x (λ cs s₁. andThen (readWord (0x3A ∷ []) (spaces s₁)) (λ _ s₂. andThen {B = Member} (value (spaces s₂)) (λ t r. found (record { place = s; key = cs; value = t }) r)))
+        ≡ andThen (andThen x (λ cs s₁. andThen (readWord (0x3A ∷ []) (spaces s₁)) (λ _ s₂. found cs (spaces s₂)))) (λ ds q. andThen {B = Member} (value q) (λ t r. found (record { place = s; key = ds; value = t }) r))
+    by-string (found cs r) = by-word cs (readWord (0x3A ∷ []) (spaces r))
+    by-string (stuck r) = refl
+
+pair-shorter : (d : ℕ) (s : List ℕ) (m : Member) (r : List ℕ) → readPair (read d) s ≡ found m r → length r < length s
+pair-shorter d s m r e = inside-length (pair-inside (value-ends d) s m r (pair-sound (value-reads d) (value-ends d) s m r e))
+
+pair-nothing : (d : ℕ) → readPair (read d) [] ≡ stuck []
+unfolding readPair readString andThen
+pair-nothing d = refl
+
+-- a key that was read at i: its value begins at v
+pub record IsName (s : List ℕ) (i v fault size : ℕ) : Type 0 where
+  pub chars : List Char
+  pub reads : readKey (drop i s) ≡ found chars (drop v s)
+  pub faulty : fault ≡ mark (refusedString chars) (drop i s)
+  pub sized : size ≡ stringSize chars
+  pub within : v ≤ length s
+  pub later : i + 2 < v
+  pub short : i + size < v
+
+pub token-name : (s : List ℕ) (i e n k : ℕ) (f : Bool) → KeyWithin i (Token e f n) → TokenScans refusedString stringSize s (readKey (drop i s)) (Token e f n)
+    → k ≡ cond f (length s - i) 0 → IsName s i e k n
+token-name s i e n k f w p m = go (readKey (drop i s)) refl p
+  where
+    go : (x : Read (List Char)) → readKey (drop i s) ≡ x → TokenScans refusedString stringSize s x (Token e f n) → IsName s i e k n
+    go (found cs r) q z =
+        record { chars = cs; reads = q ∙ ap (found cs) (z .0 .1); faulty = m ∙ sym (mark-at f s i) ∙ ap (λ (b : Bool). mark b (drop i s)) (z .1); sized = z .2; within = z .0 .0; later = w .0; short = w .1 }
+    go (stuck r) q z = absurd z
+
+pub none-stuck : (s : List ℕ) (i e : ℕ) → TokenScans refusedString stringSize s (readKey (drop i s)) (NoToken e) → (e ≤ length s) × (readKey (drop i s) ≡ stuck (drop e s))
+none-stuck s i e p = go (readKey (drop i s)) refl p
+  where
+    go : (x : Read (List Char)) → readKey (drop i s) ≡ x → TokenScans refusedString stringSize s x (NoToken e) → (e ≤ length s) × (readKey (drop i s) ≡ stuck (drop e s))
+    go (found cs r) q z = absurd z
+    go (stuck r) q z = (z .0, q ∙ ap stuck (z .1))
+
+-- the key's content stands after its quotation mark
+string-inside : (s : List ℕ) (i : ℕ) (cs : List Char) (r : List ℕ) → readString (drop i s) ≡ found cs r → InString s (i + 1) (unescape cs)
+string-inside s i cs r e = go (drop i s) refl (string-sound (drop i s) cs r e)
+  where
+    go : (l : List ℕ) → drop i s ≡ l → String l cs r → InString s (i + 1) (unescape cs)
+    go l q (String.quoted {q = b} {s = m} h p) = record { chars = cs; rest = r; reads = rw (rest-at s i (b ∷ m) q 1) p; content = refl }
+
+name-inside : (s : List ℕ) (i v fault size : ℕ) (p : IsName s i v fault size) → InString s (i + 1) (unescape (p .chars))
+unfolding readKey andThen
+name-inside s i v fault size p = go (readString (drop i s)) refl (p .reads)
+  where
+    word : (y : Read (Unit {0})) (cs : List Char) → andThen y (λ _ s₂. found cs (spaces s₂)) ≡ found (p .chars) (drop v s) → cs ≡ p .chars
+    word (found u r) cs e = cc
+    word (stuck r) cs e = let z : _≡_ {A = ℕ} 0 1 = cc in absurd (omega arith)
+
+    go : (x : Read (List Char)) → readString (drop i s) ≡ x
+        → andThen x (λ cs s₁. andThen (readWord (0x3A ∷ []) (spaces s₁)) (λ _ s₂. found cs (spaces s₂))) ≡ found (p .chars) (drop v s) → InString s (i + 1) (unescape (p .chars))
+    go (found cs r) q e = subst (λ (ds : List Char). InString s (i + 1) (unescape ds)) (word (readWord (0x3A ∷ []) (spaces r)) cs e) (string-inside s i cs r q)
+    go (stuck r) q e = let z : _≡_ {A = ℕ} 0 1 = cc in absurd (omega arith)
+
+-- Reading goes on at i with these members done, after the opening mark at `at`; their keys stand at the positions ks.
+pub record Progress (s : List ℕ) (at depth i : ℕ) (ks : List ℕ) (sum : Summary) : Type 0 where
+  pub done : List Member
+  pub reads : readListed (readPair (read depth)) 0x7D (drop at s) ≡ prependAll done (itemsFrom (readPair (read depth)) 0x7D (drop i s))
+  pub holds : sum ≡ objectSum done
+  pub places : Places s done ks
+  pub keys : KeysAt s ks
+  pub from : at + 4 * length ks ≤ i
+  pub within : i ≤ length s
+  pub small : sum .size + at ≤ i + 1
+
+places-snoc : (s : List ℕ) {ms : List Member} {ks : List ℕ} (m : Member) (k : ℕ) → Places s ms ks → m .place ≡ drop k s → unescape (m .key) ≡ contentFrom s (k + 1)
+    → Places s (ms ++ (m ∷ [])) (ks ++ (k ∷ []))
+places-snoc s m k no-places e f = place-at e f no-places
+places-snoc s m k (place-at a b p) e f = place-at a b (places-snoc s m k p e f)
+
+module _ (s : List ℕ) (at depth : ℕ) where
+  nothing : (i : ℕ) → (at ≤ i) × At s i (spaces (drop at s)) → i < length s → getD s i 0 ≡ 0x7D → readObject depth (drop at s) ≡ found (object (members [])) (drop (i + 1) s)
+  unfolding readObject andThen
+  nothing i p w e = rw (listed-empty (readPair (read depth)) 0x7D s at i (p .1) w e)
+
+  pub empty : (i : ℕ) → (at ≤ i) × At s i (spaces (drop at s)) → i < length s → getD s i 0 ≡ 0x7D → Scans s (readObject depth (drop at s)) (plainValue (i + 1) 2)
+  unfolding members
+  empty i p w e = rw (nothing i p w e) ((omega arith, refl), sym sum-empty)
+
+  pub empty-keys : (i : ℕ) → (at ≤ i) × At s i (spaces (drop at s)) → i < length s → getD s i 0 ≡ 0x7D → (keys : List ℕ) → KeysOf s (readObject depth (drop at s)) 0 keys
+  empty-keys i p w e keys = keys-of s (readObject depth (drop at s)) [] (drop (i + 1) s) 0 keys (nothing i p w e) (no-keys-left s keys)
+
+  pub start : (i : ℕ) → (at ≤ i) × At s i (spaces (drop at s)) → (i < length s → getD s i 0 ≡ 0x7D → ⊥)
+      → Progress s at depth i [] (record { string = 0; number = 0; key = 0; size = 1 })
+  unfolding prependAll objectSum members keyStringFaults memberNumberFaults memberKeyFaults
+  start i p n =
+      record {
+        done = [];
+        reads = listed-items (readPair (read depth)) 0x7D s at i (p .1) n;
+        holds = λ k. record { string = 0; number = 0; key = 0; size = (sym (ap (λ (m : ℕ). 1 + m) no-size)) k };
+        places = no-places;
+        keys = no-keys;
+        from = omega (arith, p .0);
+        within = p .1 .0;
+        small = omega (arith, p .0);
+      }
+
+  module _ (i : ℕ) (ks : List ℕ) (sum : Summary) (p : Progress s at depth i ks sum) where
+    -- no member can be read at i
+    stuck-pair : (e : ℕ) → e ≤ length s → readPair (read depth) (drop i s) ≡ stuck (drop e s) → Scans s (readObject depth (drop at s)) (Stuck e)
+    unfolding readObject andThen
+    stuck-pair e w q =
+        rw (item-stuck (readPair (read depth)) 0x7D (pair-shorter depth) (pair-nothing depth) s i (p .done) (readListed (readPair (read depth)) 0x7D (drop at s)) (p .reads) e q) (w, refl)
+
+    pub stuck-key : (e : ℕ) → TokenScans refusedString stringSize s (readKey (drop i s)) (NoToken e) → Scans s (readObject depth (drop at s)) (Stuck e)
+    unfolding andThen
+    stuck-key e q = let r = none-stuck s i e q in stuck-pair e (r .0) (pair-by-key (read depth) (drop i s) ∙ rw (r .1))
+
+    module _ (v fault size : ℕ) (q : IsName s i v fault size) where
+      pub stuck-value : (e : ℕ) → Scans s (read depth (drop v s)) (Stuck e) → Scans s (readObject depth (drop at s)) (Stuck e)
+      unfolding andThen
+      stuck-value e z =
+          let r = scans-stuck s (read depth (drop v s)) e z in
+          stuck-pair e (r .0) (pair-by-key (read depth) (drop i s) ∙ rw (q .reads) (rw (r .1)))
+
+      pub inside : Inside s (i + 1)
+      inside = record { bytes = unescape (q .chars); here = name-inside s i v fault size q }
+
+      pub keys-now : KeysAt s (ks ++ (i ∷ []))
+      keys-now = keys-append (p .keys) (key-at inside no-keys)
+
+      -- there is a place for the key, and enough of them after it for the value's
+      pub key-room : (l : ℕ) → length s < at + 4 * l → length ks < l
+      key-room l h = omega (arith, p .from, q .later, q .within)
+
+      pub value-room : (l : ℕ) → length s < at + 4 * l → length s ≤ v + 4 * (l - (length ks + 1))
+      value-room l h = omega (arith, p .from, q .later, key-room l h)
+
+      module _ (f : Found) (z : IsValue s (read depth (drop v s)) f) where
+        tree : Member
+        tree = record { place = drop i s; key = q .chars; value = z .tree }
+
+        pair-reads : readPair (read depth) (drop i s) ≡ found tree (drop (f .end) s)
+        unfolding andThen tree
+        pair-reads = pair-by-key (read depth) (drop i s) ∙ rw (q .reads) (rw (z .reads))
+
+        pub later : v < f .end
+        later = value-later s depth v f (q .within) z
+
+        pub fits : sum .size + size + f .sum .size + 1 + at ≤ f .end + 1
+        fits = omega (arith, value-size s depth v f (q .within) z, p .small, q .short)
+
+        now-holds : plus sum (memberSummary fault size (f .sum)) ≡ objectSum (p .done ++ (tree ∷ []))
+        unfolding memberSum tree
+        now-holds =
+            ap (λ (x : Summary). plus x (memberSummary fault size (f .sum))) (p .holds)
+            ∙ ap (λ (k : ℕ). plus (objectSum (p .done)) (memberSummary k size (f .sum))) (q .faulty)
+            ∙ ap (λ (k : ℕ). plus (objectSum (p .done)) (memberSummary (mark (refusedString (q .chars)) (drop i s)) k (f .sum))) (q .sized)
+            ∙ ap (λ (x : Summary). plus (objectSum (p .done)) (memberSummary (mark (refusedString (q .chars)) (drop i s)) (stringSize (q .chars)) x)) (z .sum)
+            ∙ sum-snoc (p .done) tree
+
+        now-places : Places s (p .done ++ (tree ∷ [])) (ks ++ (i ∷ []))
+        unfolding tree
+        now-places = places-snoc s tree i (p .places) refl (sym (content-from s (i + 1) (unescape (q .chars)) (name-inside s i v fault size q)))
+
+        whole-reads : (e : ℕ) → Follows s (f .end) 0x7D (After.End e) → readObject depth (drop at s) ≡ found (object (members (p .done ++ (tree ∷ [])))) (drop e s)
+        unfolding readObject andThen
+        whole-reads e w =
+            rw (item-ends (readPair (read depth)) 0x7D (pair-shorter depth) (pair-nothing depth) s i (p .done) (readListed (readPair (read depth)) 0x7D (drop at s)) (p .reads) tree (f .end) pair-reads e w)
+
+        pub ends : (e n : ℕ) → Follows s (f .end) 0x7D (After.End e)
+            → Scans s (readObject depth (drop at s)) (closedValue e n (plus sum (memberSummary fault size (f .sum))) (repeatLeft s (ks ++ (i ∷ []))))
+        ends e n w = rw (whole-reads e w) ((w .1, refl), closing)
+          where
+            whole : Summary → ℕ → Summary
+            whole x k = record { string = x .string; number = x .number; key = max k (x .key); size = x .size }
+
+            closing : whole (plus sum (memberSummary fault size (f .sum))) (repeatLeft s (ks ++ (i ∷ []))) ≡ summary (object (members (p .done ++ (tree ∷ []))))
+            closing =
+                ap (λ (x : Summary). whole x (repeatLeft s (ks ++ (i ∷ [])))) now-holds
+                ∙ ap (whole (objectSum (p .done ++ (tree ∷ [])))) (sym (repeated-places s now-places))
+                ∙ sum-object (p .done ++ (tree ∷ [])) (omega (arith, length-append (p .done) (tree ∷ [])))
+
+        -- its keys, once they are sorted
+        pub ends-keys : (e : ℕ) → Follows s (f .end) 0x7D (After.End e)
+            → (n : ℕ) (keys : List ℕ) → n ≤ length keys → take n keys ≡ sort (keyLe s) (ks ++ (i ∷ [])) → KeysOf s (readObject depth (drop at s)) n keys
+        ends-keys e w n keys h k =
+            keys-of s (readObject depth (drop at s)) (p .done ++ (tree ∷ [])) (drop e s) n keys (whole-reads e w)
+            (record { places = ks ++ (i ∷ []); here = now-places; within = h; sorted = k })
+
+        pub sticks : (e : ℕ) → Follows s (f .end) 0x7D (After.Stuck e) → Scans s (readObject depth (drop at s)) (Stuck e)
+        unfolding readObject andThen
+        sticks e w =
+            rw (item-sticks (readPair (read depth)) 0x7D (pair-shorter depth) (pair-nothing depth) s i (p .done) (readListed (readPair (read depth)) 0x7D (drop at s)) (p .reads) tree (f .end) pair-reads e w)
+            (w .0 .0, refl)
+
+        pub goes-on : (j : ℕ) → Follows s (f .end) 0x7D (After.More j) → Progress s at depth j (ks ++ (i ∷ [])) (plus sum (memberSummary fault size (f .sum)))
+        unfolding plus memberSummary
+        goes-on j w =
+            record {
+              done = p .done ++ (tree ∷ []);
+              reads = item-more (readPair (read depth)) 0x7D (pair-shorter depth) (pair-nothing depth) s i (p .done) (readListed (readPair (read depth)) 0x7D (drop at s)) (p .reads) tree (f .end) pair-reads j w;
+              holds = now-holds;
+              places = now-places;
+              keys = keys-now;
+              from = omega (arith, p .from, q .later, later, w .0, length-append ks (i ∷ []));
+              within = w .1;
+              small = omega (arith, fits, w .0);
+            }
+
+-- The keys with one more, after the part behind them was lent.
+module _ (keys : List ℕ) (n i : ℕ) (h : n < length keys) (part : List ℕ)
+    (kept : length part ≡ length (midOf (n + 1) (length (set keys n i) - (n + 1)) (set keys n i))) where
+  pub stored-length : length (putMid (n + 1) (length (set keys n i) - (n + 1)) (set keys n i) part) ≡ length keys
+  stored-length = same-len-mid (n + 1) (length (set keys n i) - (n + 1)) (set keys n i) part kept ∙ length-set keys n i
+
+  pub stored-keys : take (n + 1) (putMid (n + 1) (length (set keys n i) - (n + 1)) (set keys n i) part) ≡ take n keys ++ (i ∷ [])
+  stored-keys =
+      take-put (n + 1) (length (set keys n i) - (n + 1)) (set keys n i) part (simp length-set (omega arith))
+      ∙ ap (λ (m : ℕ). take m (set keys n i)) (add-one n) ∙ take-suc-set keys n i h
+
+pub lent-length : (keys : List ℕ) (n i : ℕ) → n < length keys → length (midOf (n + 1) (length (set keys n i) - (n + 1)) (set keys n i)) ≡ length keys - (n + 1)
+lent-length keys n i h = mid-len (n + 1) (length (set keys n i)) (set keys n i) (omega arith) ∙ ap (λ (m : ℕ). m - (n + 1)) (length-set keys n i)
+
+pub member-size : (fault size : ℕ) (v x : Summary) → x ≡ memberSummary fault size v → x .size ≡ size + v .size + 1
+unfolding memberSummary
+member-size fault size v x e = ap (λ (y : Summary). y .size) e
+
+-- an object's end and what it holds, by equal parts
+pub closed-same : (s : List ℕ) (r : Read Syntax) (e k : ℕ) (x m n sum : Summary) (ks ls : List ℕ) (z : Scanned) → z ≡ closedValue e k x (repeatLeft s ks) → x ≡ plus sum m → m ≡ n → ks ≡ ls
+    → Scans s r (closedValue e k (plus sum n) (repeatLeft s ls)) → Scans s r z
+closed-same s r e k x m n sum ks ls z a b c d p =
+    subst (Scans s r) (sym (a ∙ ap (λ (w : Summary). closedValue e k w (repeatLeft s ks)) (b ∙ ap (plus sum) c) ∙ ap (λ (l : List ℕ). closedValue e k (plus sum n) (repeatLeft s l)) d)) p

@@ -1,0 +1,31 @@
+use Prim.Native.Nat.{_+_}
+use Rattle.text_scan.specs.Summary.{plus}
+use borrow.Author.Needs.{needs}
+use Rattle.text_scan.proofs.added.Statement.{statement}
+use Rattle.text_scan.proofs.added.Tie as tie
+use Rattle.text_scan.proofs.added.Reads as reads
+use Rattle.text_scan.proofs.added.Lts as lts
+use Rattle.text_scan.proofs.larger.Reads as larger-reads
+
+larger-requires : tie.Need-larger-requires
+larger-requires c κs = search needs
+
+larger-requires-2 : tie.Need-larger-requires-2
+larger-requires-2 c κs = search needs
+
+larger-requires-3 : tie.Need-larger-requires-3
+larger-requires-3 c κs = search needs
+
+add-t6 : tie.Need-add-t6
+add-t6 c = search needs
+
+add-t7 : tie.Need-add-t7
+add-t7 c = search needs
+
+returns : tie.Need-returns
+unfolding plus
+returns c = λ i. record { string = c .before .before .before .before .larger .ensures i; number = c .before .before .before .larger2 .ensures i; key = c .before .before .larger3 .ensures i; size = c .before .before .before .before .before .args .a .size + c .before .before .before .before .before .args .b .size + 1 }
+
+pub added-spec : {M : Type 1} → statement M
+added-spec =
+    tie.close (tie.spec larger-requires larger-requires-2 larger-requires-3 add-t6 add-t7 returns)

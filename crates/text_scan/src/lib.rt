@@ -1,0 +1,377 @@
+// Reads a whole JSON text in one pass: is it one, which strings, numbers and keys are faulty, and how long is its canonical form.
+ghost use mathlib.Core.Path.{_≡_};
+ghost use mathlib.Core.Bool.{true, false, cond};
+ghost use Prim.Native.Nat.{_+_, _-_, _*_, _<_, _≤_, max};
+ghost use lib.ListN.{length, drop, getD};
+ghost use Rattle.text_json.specs.Syntax.{Syntax};
+ghost use Rattle.text_json.specs.Read.{found, andThen, read, readText, readScalar, readString, readNumber};
+ghost use Rattle.text_json.specs.Content.{refusedString};
+ghost use Rattle.text_json.specs.Size.{stringSize};
+ghost use Rattle.text_json.specs.Scan.{Scans as TokenScans};
+ghost use Rattle.laws.specs.Sort.{sort};
+ghost use Rattle.text_strings.specs.InString.{keyLe};
+ghost use Rattle.text_keys.specs.Keys.{KeysAt};
+ghost use Rattle.text_keys.specs.Repeats.{repeatLeft};
+ghost use Rattle.text_scan.specs.Summary.{plus, memberSummary};
+ghost use Rattle.text_scan.specs.Scanned.{Scans, Room, Follows, plainValue, closedValue, LeavesKeys, readArray, readObject, literalAnswer, readKey, KeyWithin};
+
+// The first faults of a part of the text by questions 4, 5 and 6, each by the bytes left from there on (0: none), and the length
+// of its canonical form.
+pub struct Summary {
+    pub string: usize,
+    pub number: usize,
+    pub key: usize,
+    pub size: usize,
+}
+
+// A value that was read: the position after it, how many keys it has itself (0 where it is no object), and what it holds.
+pub struct Found {
+    pub end: usize,
+    pub count: usize,
+    pub sum: Summary,
+}
+
+pub enum Scanned {
+    Value(Found),
+    Stuck(usize),
+}
+
+fn larger(a: usize, b: usize) -> usize
+    ensures { λ r. ⌜ r ≡ max a b ⌝ }
+{
+    if a < b { b } else { a }
+}
+
+// What is held so far and one more element or member, with the mark after it.
+fn added(a: Summary, b: Summary) -> Summary
+    requires { ⌜ a .size + b .size < 0x10000 ⌝ }
+    ensures { λ r. ⌜ r ≡ plus a b ⌝ }
+{
+    let string = larger(a.string, b.string);
+    let number = larger(a.number, b.number);
+    let key = larger(a.key, b.key);
+    Summary {
+        string,
+        number,
+        key,
+        size: a.size + b.size + 1,
+    }
+}
+
+// A value that is no fault and whose canonical form has that length.
+fn plain(end: usize, size: usize) -> Scanned
+    ensures { λ r. ⌜ r ≡ plainValue end size ⌝ }
+{
+    Scanned::Value(Found {
+        end,
+        count: 0,
+        sum: Summary {
+            string: 0,
+            number: 0,
+            key: 0,
+            size,
+        },
+    })
+}
+
+// The bytes left from `at` on where something is faulty, else 0.
+fn mark(faulty: bool, len: usize, at: usize) -> usize
+    requires { ⌜ at ≤ len ⌝ }
+    ensures { λ r. ⌜ r ≡ cond faulty (len - at) 0 ⌝ }
+{
+    if faulty { len - at } else { 0 }
+}
+
+// A value that is neither an array nor an object.
+fn scalar(s: &[u8], at: usize) -> Scanned
+    requires { ⌜ at ≤ length (now s) ⌝ }
+    ensures { λ r. ⌜ Scans (now (s .entry)) (readScalar (drop at (now (s .entry)))) r ⌝ }
+{
+    if s.len() <= at {
+        return Scanned::Stuck(at);
+    }
+    match s[at] {
+        b'"' => string(s, at),
+        b'n' => literal(text_json::space::word(s, at + 1, b"ull"), 4),
+        b't' => literal(text_json::space::word(s, at + 1, b"rue"), 4),
+        b'f' => literal(text_json::space::word(s, at + 1, b"alse"), 5),
+        _ => number(s, at),
+    }
+}
+
+fn literal(step: text_json::Step, size: usize) -> Scanned
+    ensures { λ r. ⌜ r ≡ literalAnswer step size ⌝ }
+{
+    match step {
+        text_json::Step::End(end) => plain(end, size),
+        text_json::Step::Stuck(at) => Scanned::Stuck(at),
+    }
+}
+
+fn string(s: &[u8], at: usize) -> Scanned
+    requires { ⌜ at ≤ length (now s) ⌝ }
+    ensures { λ r. ⌜ Scans (now (s .entry)) (andThen (readString (drop at (now (s .entry)))) (λ cs q. found (Syntax.string (drop at (now (s .entry))) cs) q)) r ⌝ }
+{
+    match text_json::string::string(s, at) {
+        text_json::Scan::Token { end, refused, size } => Scanned::Value(Found {
+            end,
+            count: 0,
+            sum: Summary {
+                string: mark(refused, s.len(), at),
+                number: 0,
+                key: 0,
+                size,
+            },
+        }),
+        text_json::Scan::NoToken(e) => Scanned::Stuck(e),
+    }
+}
+
+fn number(s: &[u8], at: usize) -> Scanned
+    requires { ⌜ at ≤ length (now s) ⌝ }
+    ensures { λ r. ⌜ Scans (now (s .entry)) (andThen (readNumber (drop at (now (s .entry)))) (λ n q. found (Syntax.number (drop at (now (s .entry))) n) q)) r ⌝ }
+{
+    match text_json::number::number(s, at) {
+        text_json::Scan::Token { end, refused, size } => Scanned::Value(Found {
+            end,
+            count: 0,
+            sum: Summary {
+                string: 0,
+                number: mark(refused, s.len(), at),
+                key: 0,
+                size,
+            },
+        }),
+        text_json::Scan::NoToken(e) => Scanned::Stuck(e),
+    }
+}
+
+// What follows an item of an array or an object.
+pub enum After {
+    End(usize),
+    More(usize),
+    Stuck(usize),
+}
+
+// After an item that ends at `at`, and spaces: the end mark, or a comma and the place of the next item.
+fn after_item(s: &[u8], at: usize, end_mark: u8) -> After
+    requires { ⌜ at ≤ length (now s) ⌝ }
+    ensures { λ r. ⌜ Follows (now (s .entry)) at «end_mark» r ⌝ }
+{
+    let i = text_json::space::skip_spaces(s, at);
+    if s.len() <= i {
+        return After::Stuck(i);
+    }
+    let b = s[i];
+    if b == end_mark {
+        return After::End(i + 1);
+    }
+    if b == b',' {
+        return After::More(text_json::space::skip_spaces(s, i + 1));
+    }
+    After::Stuck(i)
+}
+
+// The mark stands at that position.
+fn stands(s: &[u8], at: usize, m: u8) -> bool
+    ensures { λ r. ⌜ (r ≡ true → (at < length (now (s .entry))) × (getD (now (s .entry)) at 0 ≡ m)) × (r ≡ false → at < length (now (s .entry)) → getD (now (s .entry)) at 0 ≡ m → ⊥) ⌝ }
+{
+    if at < s.len() {
+        if s[at] == m {
+            return true;
+        }
+    }
+    false
+}
+
+// A member's key with its colon: where the value begins, whether the key is refused, and the length of its canonical form.
+fn key(s: &[u8], at: usize) -> text_json::Scan
+    requires { ⌜ at ≤ length (now s) ⌝ }
+    ensures { λ r. ⌜ KeyWithin at r × TokenScans refusedString stringSize (now (s .entry)) (readKey (drop at (now (s .entry)))) r ⌝ }
+{
+    match text_json::string::string(s, at) {
+        text_json::Scan::NoToken(e) => text_json::Scan::NoToken(e),
+        text_json::Scan::Token { end, refused, size } => {
+            let i = text_json::space::skip_spaces(s, end);
+            match text_json::space::word(s, i, b":") {
+                text_json::Step::Stuck(e) => text_json::Scan::NoToken(e),
+                text_json::Step::End(e) => {
+                    let j = text_json::space::skip_spaces(s, e);
+                    text_json::Scan::Token {
+                        end: j,
+                        refused,
+                        size,
+                    }
+                }
+            }
+        }
+    }
+}
+
+// A value with arrays and objects nested at most `depth` deep. The keys of its objects are kept in `keys` while they are read.
+fn value(s: &[u8], at: usize, depth: usize, keys: &mut [u16], spare: &mut [u16]) -> Scanned
+    requires { ⌜ Room (now s) at (now keys) (now spare) ⌝ }
+    ensures { λ r. ⌜ Scans (now (s .entry)) (read depth (drop at (now (s .entry)))) r ⌝ }
+{
+    if at < s.len() {
+        if 0 < depth {
+            let b = s[at];
+            if b == b'[' {
+                return array(s, at + 1, depth - 1, keys, spare);
+            }
+            if b == b'{' {
+                return object(s, at + 1, depth - 1, keys, spare);
+            }
+        }
+    }
+    scalar(s, at)
+}
+
+// What follows the opening mark of an array.
+fn array(s: &[u8], at: usize, depth: usize, keys: &mut [u16], spare: &mut [u16]) -> Scanned
+    requires { ⌜ Room (now s) at (now keys) (now spare) ⌝ }
+    ensures { λ r. ⌜ Scans (now (s .entry)) (readArray depth (drop at (now (s .entry)))) r ⌝ }
+{
+    let mut i = text_json::space::skip_spaces(s, at);
+    if stands(s, i, b']') {
+        return plain(i + 1, 2);
+    }
+    let mut sum = Summary {
+        string: 0,
+        number: 0,
+        key: 0,
+        size: 1,
+    };
+    loop {
+        let v = match value(s, i, depth, keys, spare) {
+            Scanned::Value(f) => f,
+            Scanned::Stuck(e) => return Scanned::Stuck(e),
+        };
+        let part = v.sum;
+        sum = added(sum, part);
+        match after_item(s, v.end, b']') {
+            After::End(end) => {
+                return Scanned::Value(Found { end, count: 0, sum });
+            }
+            After::More(j) => i = j,
+            After::Stuck(e) => return Scanned::Stuck(e),
+        }
+    }
+}
+
+// A member's key: where its value begins, the bytes left from it on if it is refused, and the length of its canonical form.
+pub struct Name {
+    pub value: usize,
+    pub fault: usize,
+    pub size: usize,
+}
+
+// A member: its key with the colon, and its value.
+fn member(name: Name, value: Summary) -> Summary
+    requires { ⌜ name .size + value .size < 0x10000 ⌝ }
+    ensures { λ r. ⌜ r ≡ memberSummary (name .fault) (name .size) value ⌝ }
+{
+    let string = larger(name.fault, value.string);
+    Summary {
+        string,
+        number: value.number,
+        key: value.key,
+        size: name.size + value.size + 1,
+    }
+}
+
+// The end of an object with these keys: the first that is equal to an earlier one is a fault of it. The keys are left sorted.
+fn closed(s: &[u8], end: usize, sum: Summary, keys: &mut [u16], spare: &mut [u16]) -> Scanned
+    requires { ⌜ KeysAt (now s) (now keys) × (length (now keys) ≤ length (now spare)) ⌝ }
+    ensures { λ r. ⌜ r ≡ closedValue end (length (now (keys .entry))) sum (repeatLeft (now (s .entry)) (now (keys .entry))) ⌝ }
+    ensures { λ _. ⌜ now (keys .exit) ≡ sort (keyLe (now (s .entry))) (now (keys .entry)) ⌝ }
+{
+    let repeated = text_keys::order_keys(s, keys, spare);
+    let key = larger(repeated, sum.key);
+    Scanned::Value(Found {
+        end,
+        count: keys.len(),
+        sum: Summary {
+            string: sum.string,
+            number: sum.number,
+            key,
+            size: sum.size,
+        },
+    })
+}
+
+// What follows the opening mark of an object. A member's key is kept as its position, in the part of `keys` before the one that is
+// lent to the reading of its value. At the object's end its keys are left sorted.
+fn object(s: &[u8], at: usize, depth: usize, keys: &mut [u16], spare: &mut [u16]) -> Scanned
+    requires { ⌜ Room (now s) at (now keys) (now spare) ⌝ }
+    requires { ⌜ length (now s) < at + 4 * length (now keys) ⌝ }
+    ensures { λ r. ⌜ Scans (now (s .entry)) (readObject depth (drop at (now (s .entry)))) r ⌝ }
+    ensures { λ r. ⌜ LeavesKeys (now (s .entry)) (readObject depth (drop at (now (s .entry)))) (now (keys .exit)) r ⌝ }
+{
+    let mut i = text_json::space::skip_spaces(s, at);
+    if stands(s, i, b'}') {
+        return plain(i + 1, 2);
+    }
+    let mut sum = Summary {
+        string: 0,
+        number: 0,
+        key: 0,
+        size: 1,
+    };
+    let mut n = 0;
+    loop {
+        let name = match key(s, i) {
+            text_json::Scan::Token { end, refused, size } => Name {
+                value: end,
+                fault: mark(refused, s.len(), i),
+                size,
+            },
+            text_json::Scan::NoToken(e) => return Scanned::Stuck(e),
+        };
+        keys[n] = i as u16;
+        n += 1;
+        let v = match value(s, name.value, depth, &mut keys[n..], spare) {
+            Scanned::Value(f) => f,
+            Scanned::Stuck(e) => return Scanned::Stuck(e),
+        };
+        sum = added(sum, member(name, v.sum));
+        match after_item(s, v.end, b'}') {
+            After::End(end) => return closed(s, end, sum, &mut keys[..n], spare),
+            After::More(j) => i = j,
+            After::Stuck(e) => return Scanned::Stuck(e),
+        }
+    }
+}
+
+// The value of a whole text. An object is read here, not by `value`, which says nothing of the keys that it leaves.
+fn root(s: &[u8], at: usize, keys: &mut [u16], spare: &mut [u16]) -> Scanned
+    requires { ⌜ Room (now s) at (now keys) (now spare) ⌝ }
+    ensures { λ r. ⌜ Scans (now (s .entry)) (read 8 (drop at (now (s .entry)))) r ⌝ }
+    ensures { λ r. ⌜ LeavesKeys (now (s .entry)) (read 8 (drop at (now (s .entry)))) (now (keys .exit)) r ⌝ }
+{
+    if stands(s, at, b'{') {
+        return object(s, at + 1, 7, keys, spare);
+    }
+    value(s, at, 8, keys, spare)
+}
+
+// A whole text of at most 16,384 bytes: spaces, a value nested at most 8 deep, and spaces. `keys` and `spare` hold the keys of its
+// objects while they are read. Where the value is an object, its own keys are left at the start of `keys`, sorted.
+pub fn text(s: &[u8], keys: &mut [u16], spare: &mut [u16]) -> Scanned
+    requires { ⌜ Room (now s) 0 (now keys) (now spare) ⌝ }
+    ensures { λ r. ⌜ Scans (now (s .entry)) (readText 8 (now (s .entry))) r ⌝ }
+    ensures { λ r. ⌜ LeavesKeys (now (s .entry)) (readText 8 (now (s .entry))) (now (keys .exit)) r ⌝ }
+{
+    let at = text_json::space::skip_spaces(s, 0);
+    let v = match root(s, at, keys, spare) {
+        Scanned::Value(f) => f,
+        Scanned::Stuck(e) => return Scanned::Stuck(e),
+    };
+    let end = text_json::space::skip_spaces(s, v.end);
+    if end < s.len() {
+        return Scanned::Stuck(end);
+    }
+    let count = v.count;
+    let sum = v.sum;
+    Scanned::Value(Found { end, count, sum })
+}

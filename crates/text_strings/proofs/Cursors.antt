@@ -1,0 +1,120 @@
+-- What a cursor gives next.
+use Prim.Native.Nat.{ℕ, suc, _+_, _-_, _<_, _≤_, min}
+use mathlib.Core.Path.{_≡_, refl, sym, ap, subst, _∙_}
+use mathlib.Core.List.{List, [], _∷_, _++_}
+use mathlib.Core.Bool.{Bool, true, false, not, _&&_}
+use native.Mathlib.Omega.{arith}
+use native.Mathlib.Numerals.{add-one}
+use lib.Dec.{ltb}
+use lib.ListN.{length, take, drop, getD, length-take, length-drop, drop-of-length-le}
+use lib.Seq.{drop-cons, getD-take, length-take-le}
+use Rattle.laws.proofs.Order.{by-test, false-true}
+use Rattle.text_utf8.specs.Scalar.{encode}
+use Rattle.text_json.specs.Bytes.{isUnescaped}
+use Rattle.text_json.specs.Syntax.{Char, byte}
+use Rattle.text_json.specs.Content.{unescape}
+use Rattle.text_strings.specs.InString.{InString, EscapeAt, Escapes}
+use Rattle.text_strings.specs.Cursor.{heldBytes, Left, Readable, Given, Gives, Encodes, weight}
+use Rattle.text_strings.specs.declared.Cursor.{Cursor}
+use Rattle.text_strings.specs.declared.Next.{Next}
+use Rattle.text_strings.proofs.Views.{View, at-close, at-byte, at-short, at-hex, view}
+use Rattle.text_strings.proofs.Escapes.{char-within}
+
+-- a part of a list, by its first element
+part-cons : (l : List ℕ) (i n : ℕ) → i < n → n ≤ length l → drop i (take n l) ≡ getD l i 0 ∷ drop (i + 1) (take n l)
+part-cons l i n h k =
+    let m : i < length (take n l) = rw (length-take-le n l k) h in
+    drop-cons (take n l) i 0 m ∙ ap (λ (b : ℕ). b ∷ drop (suc i) (take n l)) (getD-take n l i 0 h) ∙ ap (λ (j : ℕ). getD l i 0 ∷ drop j (take n l)) (sym (add-one i))
+
+part-empty : (l : List ℕ) (i n : ℕ) → n ≤ i → n ≤ length l → drop i (take n l) ≡ []
+part-empty l i n h k = drop-of-length-le (take n l) {i = i} (rw (length-take-le n l k) h)
+
+-- the closing mark ends the content
+pub closes : (s : List ℕ) (i : ℕ) (c : List ℕ) → InString s i c → getD s i 0 ≡ 0x22 → c ≡ []
+unfolding isUnescaped unescape
+closes s i c p q = go (view s i (p .chars) (p .rest) (p .reads))
+  where
+    go : View s i (p .chars) (p .rest) → c ≡ []
+    go (at-close l e f) = sym (p .content) ∙ ap unescape f
+    go (at-byte ds l e f d) = false-true (sym (ap isUnescaped q) ∙ e)
+    go (at-short ds l g h f d) = absurd (omega arith)
+    go (at-hex ds l g h ha hb hc hd f d) = absurd (omega arith)
+
+-- a byte that is neither of the marks stands for itself
+pub plain : (s : List ℕ) (i : ℕ) (c : List ℕ) → InString s i c → (getD s i 0 ≡ 0x22 → ⊥) → (getD s i 0 ≡ 0x5C → ⊥)
+    → (d : List ℕ) × (c ≡ getD s i 0 ∷ d) × InString s (i + 1) d
+unfolding unescape
+plain s i c p a b = go (view s i (p .chars) (p .rest) (p .reads))
+  where
+    go : View s i (p .chars) (p .rest) → (d : List ℕ) × (c ≡ getD s i 0 ∷ d) × InString s (i + 1) d
+    go (at-close l e f) = absurd (a e)
+    go (at-byte ds l e f d) = (unescape ds, sym (p .content) ∙ ap unescape f, record { chars = ds; rest = p .rest; reads = d; content = refl })
+    go (at-short ds l g h f d) = absurd (b g)
+    go (at-hex ds l g h ha hb hc hd f d) = absurd (b g)
+
+module _ (s : List ℕ) (k : Cursor) where
+  -- a byte that is held
+  pub gives-held : (c : List ℕ) → Left s k c → k .from < k .count
+      → Given s c true (getD (k .held) (k .from) 0) (record { at = k .at; held = k .held; from = k .from + 1; count = k .count })
+  gives-held c l h = (
+    drop (k .from + 1) (take (k .count) (k .held)) ++ l .tail,
+    l .content ∙ ap (λ (m : List ℕ). m ++ l .tail) (part-cons (k .held) (k .from) (k .count) h (l .there)),
+    record { order = omega arith; few = l .few; there = l .there; tail = l .tail; inside = l .inside; content = refl },
+  )
+
+  module _ (n : k .count ≤ k .from) where
+    none-held : (l : List ℕ) → k .count ≤ length (k .held) → heldBytes k ++ l ≡ l
+    none-held l t = ap (λ (m : List ℕ). m ++ l) (part-empty (k .held) (k .from) (k .count) n t)
+
+    -- with nothing held the content is the string's from the position on
+    pub left-inside : (c : List ℕ) → Left s k c → InString s (k .at) c
+    left-inside c l = subst (InString s (k .at)) (sym (l .content ∙ none-held (l .tail) (l .there))) (l .inside)
+
+    pub byte-within : (c : List ℕ) → Left s k c → k .at < length s
+    byte-within c l = let i = l .inside in char-within s (k .at) (i .chars) (i .rest) (view s (k .at) (i .chars) (i .rest) (i .reads))
+
+    pub gives-end : (c : List ℕ) → Left s k c → getD s (k .at) 0 ≡ 0x22 → c ≡ []
+    gives-end c l q = let i = left-inside c l in closes s (k .at) c i q
+
+    pub escape-here : (c : List ℕ) → Left s k c → getD s (k .at) 0 ≡ 0x5C → EscapeAt s (k .at)
+    escape-here c l q = record { left = l .tail; inside = l .inside; backslash = q }
+
+    pub gives-escape : (c : List ℕ) (next scalar : ℕ) (x : Next) → Left s k c → Escapes s (k .at) next scalar → Encodes next scalar x → Gives s c x
+    gives-escape c next scalar x l e q =
+        let r = e .stands c (left-inside c l) in
+        subst (λ (f : Bool). Given s c f (x .byte) (x .rest)) (sym (q .found)) (
+          heldBytes (x .rest) ++ r .0,
+          r .1 ∙ ap (λ (m : List ℕ). m ++ r .0) (sym (q .bytes)),
+          record { order = subst (λ (n : ℕ). n ≤ x .rest .count) (sym (q .one)) (q .some); few = q .few; there = q .there; tail = r .0; inside = subst (λ (n : ℕ). InString s n (r .0)) (sym (q .next)) (r .2); content = refl },
+        )
+
+    pub gives-plain : (c : List ℕ) → Left s k c → (getD s (k .at) 0 ≡ 0x22 → ⊥) → (getD s (k .at) 0 ≡ 0x5C → ⊥)
+        → Given s c true (getD s (k .at) 0) (record { at = k .at + 1; held = k .held; from = k .from; count = k .count })
+    gives-plain c l a b =
+        let r = plain s (k .at) c (left-inside c l) a b in
+        (r .0, r .1, record { order = l .order; few = l .few; there = l .there; tail = r .0; inside = r .2; content = sym (none-held (r .0) (l .there)) })
+
+-- the encoding of a scalar value has one to four bytes
+encode-length : (c : ℕ) → (1 ≤ length (encode c)) × (length (encode c) ≤ 4)
+unfolding encode
+encode-length c = by-test (ltb c 0x80) (λ e. rw e (omega arith)) (λ e. rw e (by-test (ltb c 0x800) (λ f. rw f (omega arith)) (λ f. rw f (by-test (ltb c 0x10000) (λ g. rw g (omega arith)) (λ g. rw g (omega arith))))))
+
+-- an encoding that is held from its second byte on
+pub encodes : (at scalar n : ℕ) (l : List ℕ) → n ≡ length (encode scalar) → take n l ≡ encode scalar
+    → Encodes at scalar (record { found = true; byte = getD l 0 0; rest = record { at = at; held = l; from = 1; count = n } })
+encodes at scalar n l e f =
+    let b = encode-length scalar in
+    let t : n ≤ length l = omega (arith, length-take n l, ap length f) in
+    let o : 0 < n = omega arith in
+    record { found = refl; next = refl; one = refl; some = omega arith; few = omega arith; there = t; bytes = sym (part-cons l 0 n o t) ∙ f }
+
+-- an escape takes two bytes of the text or more, and holds three or fewer
+pub escape-lighter : (s : List ℕ) (k : Cursor) (next scalar : ℕ) (x : Next) → Escapes s (k .at) next scalar → Encodes next scalar x
+    → weight s (x .rest) < weight s k
+escape-lighter s k next scalar x e q =
+    let l = e .later in
+    let w = e .within in
+    let a = q .next in
+    let o = q .one in
+    let f = q .few in
+    omega arith

@@ -1,0 +1,115 @@
+use borrow.Author.Needs.{needs}
+use Prim.Native.Nat.{_<_}
+use native.Mathlib.Omega.{arith}
+use Rattle.text_json.specs.Grammar.{hexNumber}
+use Rattle.text_strings.proofs.Escapes.{hex-small}
+use Rattle.text_strings.proofs.hex_number.Statement.{statement}
+use Rattle.text_strings.proofs.hex_number.Tie as tie
+use Rattle.text_strings.proofs.hex_number.Reads as reads
+use Rattle.text_strings.proofs.hex_number.Lts as lts
+use Rattle.text_json.proofs.bytes.hex_value.Reads as hex-value-reads
+
+-- src/lib.rt:14:36
+shared-slice-read-hex-value : tie.Need-shared-slice-read-hex-value
+shared-slice-read-hex-value c = search needs
+
+-- src/lib.rt:14:9
+hex-value-requires : tie.Need-hex-value-requires
+hex-value-requires c κs = search needs
+
+-- src/lib.rt:15:38
+add-hex-value : tie.Need-add-hex-value
+add-hex-value c = search needs
+
+-- src/lib.rt:15:36
+shared-slice-read-hex-value-2 : tie.Need-shared-slice-read-hex-value-2
+shared-slice-read-hex-value-2 c = search needs
+
+-- src/lib.rt:15:9
+hex-value-requires-2 : tie.Need-hex-value-requires-2
+hex-value-requires-2 c κs = search needs
+
+-- src/lib.rt:16:38
+add-hex-value-2 : tie.Need-add-hex-value-2
+add-hex-value-2 c = search needs
+
+-- src/lib.rt:16:36
+shared-slice-read-hex-value-3 : tie.Need-shared-slice-read-hex-value-3
+shared-slice-read-hex-value-3 c = search needs
+
+-- src/lib.rt:16:9
+hex-value-requires-3 : tie.Need-hex-value-requires-3
+hex-value-requires-3 c κs = search needs
+
+-- src/lib.rt:17:38
+add-hex-value-3 : tie.Need-add-hex-value-3
+add-hex-value-3 c = search needs
+
+-- src/lib.rt:17:36
+shared-slice-read-hex-value-4 : tie.Need-shared-slice-read-hex-value-4
+shared-slice-read-hex-value-4 c = search needs
+
+-- src/lib.rt:17:9
+hex-value-requires-4 : tie.Need-hex-value-requires-4
+hex-value-requires-4 c κs = search needs
+
+-- each digit's number is below 16
+first-small : (c : tie.After-hex-value4) → c .before .before .before .before .before .before .hex-value .result < 16
+first-small c = hex-small _ _ (c .before .before .before .before .before .before .before .before .before .pre .first) (c .before .before .before .before .before .before .hex-value .ensures)
+
+second-small : (c : tie.After-hex-value4) → c .before .before .before .before .hex-value2 .result < 16
+second-small c = hex-small _ _ (c .before .before .before .before .before .before .before .before .before .pre .second) (c .before .before .before .before .hex-value2 .ensures)
+
+third-small : (c : tie.After-hex-value4) → c .before .before .hex-value3 .result < 16
+third-small c = hex-small _ _ (c .before .before .before .before .before .before .before .before .before .pre .third) (c .before .before .hex-value3 .ensures)
+
+fourth-small : (c : tie.After-hex-value4) → c .hex-value4 .result < 16
+fourth-small c = hex-small _ _ (c .before .before .before .before .before .before .before .before .before .pre .fourth) (c .hex-value4 .ensures)
+
+mul-result : tie.Need-mul-result
+mul-result c = omega (arith, first-small c)
+
+add-result : tie.Need-add-result
+add-result c = omega (arith, first-small c, second-small c)
+
+mul-result-2 : tie.Need-mul-result-2
+mul-result-2 c = omega (arith, first-small c, second-small c)
+
+add-result-2 : tie.Need-add-result-2
+add-result-2 c = omega (arith, first-small c, second-small c, third-small c)
+
+mul-result-3 : tie.Need-mul-result-3
+mul-result-3 c = omega (arith, first-small c, second-small c, third-small c)
+
+add-result-3 : tie.Need-add-result-3
+add-result-3 c = omega (arith, first-small c, second-small c, third-small c, fourth-small c)
+
+returns : tie.Need-returns
+unfolding hexNumber
+returns c = (
+  cc (c .before .before .before .before .before .before .hex-value .ensures, c .before .before .before .before .hex-value2 .ensures, c .before .before .hex-value3 .ensures, c .hex-value4 .ensures),
+  omega (arith, first-small c, second-small c, third-small c, fourth-small c),
+)
+
+pub hex-number-spec : {M : Type 1} → statement M
+hex-number-spec =
+    tie.close
+    (tie.spec
+    shared-slice-read-hex-value
+    hex-value-requires
+    add-hex-value
+    shared-slice-read-hex-value-2
+    hex-value-requires-2
+    add-hex-value-2
+    shared-slice-read-hex-value-3
+    hex-value-requires-3
+    add-hex-value-3
+    shared-slice-read-hex-value-4
+    hex-value-requires-4
+    mul-result
+    add-result
+    mul-result-2
+    add-result-2
+    mul-result-3
+    add-result-3
+    returns)

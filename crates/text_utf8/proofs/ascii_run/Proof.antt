@@ -1,0 +1,56 @@
+-- `text_utf8::ascii_run` meets its contract. The loop's invariant: the bytes passed are ASCII. The measure is how much is left.
+-- Assumes nothing.
+use Prim.Native.Nat.{_-_}
+use native.Mathlib.Omega.{arith}
+use lib.ListN.{length}
+use Rattle.text_utf8.specs.Char.{Ascii}
+use Rattle.text_utf8.proofs.Ascii.{ascii-more}
+use Rattle.text_utf8.proofs.ascii_run.Statement.{statement}
+use Rattle.text_utf8.proofs.ascii_run.Tie as tie
+
+abbrev Inv-loop : tie.InvT-loop
+Inv-loop text at i₀ i = Ascii text at i
+
+abbrev μ-loop : tie.MeasureT-loop
+μ-loop text at i₀ i = length text - i
+
+loop-holds : tie.Need-loop-holds Inv-loop μ-loop
+loop-holds c = record { up = omega arith; fits = omega arith; all = λ k u v. absurd (omega arith) }
+
+sub-loop : tie.Need-sub-loop Inv-loop μ-loop
+sub-loop c = omega arith
+
+or8-requires : tie.Need-or8-requires Inv-loop μ-loop
+or8-requires c κs = omega arith
+
+returns : tie.Need-returns Inv-loop μ-loop
+returns c = c .before .before .before .loop .inv
+
+add-i : tie.Need-add-i Inv-loop μ-loop
+add-i c = omega arith
+
+loop-less : tie.Need-loop-less Inv-loop μ-loop
+loop-less c = omega arith
+
+loop-again : tie.Need-loop-again Inv-loop μ-loop
+loop-again c =
+    let l = c .before .before .before .loop in
+    ascii-more _ _ (l .i) (c .before .or8 .result) (l .inv) (omega arith) (c .before .or8 .ensures) (omega arith)
+
+returns-2 : tie.Need-returns-2 Inv-loop μ-loop
+returns-2 c = c .before .loop .inv
+
+pub ascii-run-spec : {M : Type 1} → statement M
+ascii-run-spec =
+    tie.close
+    (tie.spec
+    Inv-loop
+    μ-loop
+    loop-holds
+    sub-loop
+    or8-requires
+    returns
+    add-i
+    loop-less
+    loop-again
+    returns-2)

@@ -1,0 +1,151 @@
+-- What `skip` and `read_item` rest on: from a value to its items, and from one item to the next.
+use Prim.Native.Nat.{ℕ, _+_, _-_, _<_, _≤_}
+use mathlib.Core.Path.{_≡_, refl, sym, ap, _∙_}
+use mathlib.Core.Logic.{inl, inr, ⊎-elim}
+use mathlib.Core.List.{List, _∷_}
+use mathlib.Core.Bool.{Bool, true, false}
+use native.Mathlib.Omega.{arith}
+use lib.ListN.{length, drop, getD, length-drop}
+use Rattle.text_json.specs.Grammar.{Items, Listed, Value as Derives}
+use Rattle.text_json.specs.Read.{spaces}
+use Rattle.text_json.proofs.Grammar.Ends.{inside-length, ends-length}
+use Rattle.text_json.proofs.Grammar.Rests.{space-ends, word-inside}
+use Rattle.text_json.proofs.Grammar.Complete.{Stops}
+use Rattle.text_content.specs.Value.{content}
+use Rattle.text_view.specs.Place.{Readable, EndsAt, ScalarAt}
+use Rattle.text_view.specs.Listed.{Tree, valueTree, DerivesItem, openMark, endMark, ListAt, SomeList, AnyList, ListEndsAt, SomeItem, ItemValue, Gives, Peeks}
+use Rattle.text_view.specs.declared.value.Item.the-variants.{At, End}
+use Rattle.text_view.specs.declared.value.Peek.the-variants.{At as PeekAt, End as PeekEnd}
+use Rattle.text_view.proofs.Values.{value-within, opened, is-scalar}
+use Rattle.text_view.proofs.Nesting.{Opens}
+use Rattle.text_view.proofs.Items.{item-inside, Started, ended, item, Next, at-mark, at-comma, next}
+
+-- a value: its items, or that it is a scalar
+module _ (s : List ℕ) (at d : ℕ) where
+  pub readable-within : Readable s at d → at < length s
+  readable-within p = let h = p .here in value-within s at d (h .tree) (h .rest) (h .derives)
+
+  module _ (object : Bool) (mark : getD s at 0 ≡ openMark object) where
+    readable-list : Readable s at d → SomeList s (at + 1) (d - 1) object
+    readable-list p =
+        let h = p .here in
+        let o = opened s at d (h .tree) (h .rest) (h .derives) object mark in
+        record { trees = o .trees; rest = h .rest; here = o .items }
+
+    list-ends : (e : ℕ) → ListEndsAt s (at + 1) (d - 1) object e → EndsAt s at d e
+    list-ends e l =
+        let later = l .later in
+        record {
+          later = omega arith;
+          within = l .within;
+          rest = λ t r p _. let o = opened s at d t r p object mark in l .rest (o .trees) r (o .items);
+        }
+
+  -- either opening mark
+  pub readable-nested : Opens (getD s at 0) → Readable s at d → AnyList s (at + 1)
+  readable-nested k p =
+      ⊎-elim (λ e. record { depth = d - 1; object = false; list = readable-list false e p })
+      (λ e. record { depth = d - 1; object = true; list = readable-list true e p }) k
+
+  pub nested-ends : Opens (getD s at 0) → (e : ℕ) → ((x : ℕ) (object : Bool) → ListEndsAt s (at + 1) x object e) → EndsAt s at d e
+  nested-ends k e h = ⊎-elim (λ q. list-ends false q e (h (d - 1) false)) (λ q. list-ends true q e (h (d - 1) true)) k
+
+  module _ (mark : Opens (getD s at 0) → ⊥) where
+    array : getD s at 0 ≡ 0x5B → ⊥
+    array e = mark (inl e)
+
+    object : getD s at 0 ≡ 0x7B → ⊥
+    object e = mark (inr e)
+
+    pub readable-scalar : Readable s at d → ScalarAt s at
+    readable-scalar p =
+        let h = p .here in
+        record { tree = h .tree; rest = h .rest; derives = is-scalar s at d (h .tree) (h .rest) array object (h .derives); stops = h .stops }
+
+    pub scalar-ends : (e : ℕ) → EndsAt s at 0 e → EndsAt s at d e
+    scalar-ends e h =
+        record { later = h .later; within = h .within; rest = λ t r p stops. h .rest t r (is-scalar s at d t r array object p) stops }
+
+list-length : (object : Bool) (d : ℕ) {l r : List ℕ} {ts : List (Tree object)} → Listed (DerivesItem object d) (endMark object) l ts r → 0 < length l
+list-length object d (Listed.empty p q) = omega (arith, ends-length (space-ends p), inside-length (word-inside q))
+list-length object d (Listed.items p (Items.last h q w)) = omega (arith, ends-length (space-ends p), inside-length (item-inside object d _ _ _ h))
+list-length object d (Listed.items p (Items.next h q w i j)) = omega (arith, ends-length (space-ends p), inside-length (item-inside object d _ _ _ h))
+
+pub list-within : (s : List ℕ) (at d : ℕ) (object : Bool) (ts : List (Tree object)) (r : List ℕ) → ListAt s at d object ts r → at < length s
+list-within s at d object ts r h = omega (arith, length-drop at s, list-length object d h)
+
+-- an item that was taken: where it stands, where its value stands, and what comes at position q after it
+pub data Taken (s : List ℕ) (p v q d : ℕ) (object : Bool) : List (Tree object) → List ℕ → Type 0 where
+  taken : {t : Tree object} {ts : List (Tree object)} {r : List ℕ} (l : List ℕ) → DerivesItem object d (drop p s) t l
+      → Derives d (drop v s) (valueTree object t) l → Stops l → Next s q d object ts r → Taken s p v q d object (t ∷ ts) r
+
+module _ (s : List ℕ) (p d : ℕ) (object : Bool) where
+  pub started-within : (ts : List (Tree object)) (r : List ℕ) → Started s p d object ts r → p < length s
+  started-within ts r (ended w e f) = w
+  started-within ts r (item l w n h i j) = w
+
+  pub gives-end : (at : ℕ) (ts : List (Tree object)) (r : List ℕ) → at ≤ p → getD s p 0 ≡ endMark object → Started s p d object ts r
+      → Gives s at d object ts r (End (p + 1))
+  gives-end at ts r a e (ended w f g) = (omega arith, omega arith, g)
+  gives-end at ts r a e (item l w n h i j) = absurd (n e)
+
+  pub peeks-end : (ts : List (Tree object)) (r : List ℕ) → getD s p 0 ≡ endMark object → Started s p d object ts r → Peeks s d object ts PeekEnd
+  peeks-end ts r e (ended w f g) = tt
+  peeks-end ts r e (item l w n h i j) = absurd (n e)
+
+  module _ (more : getD s p 0 ≡ endMark object → ⊥) where
+    pub some-item : (ts : List (Tree object)) (r : List ℕ) → Started s p d object ts r → SomeItem s p object
+    some-item ts r (ended w e f) = absurd (more e)
+    some-item ts r (item {t = t} l w n h i j) = record { depth = d; tree = t; rest = l; derives = h; stops = i }
+
+    module _ (v : ℕ) (here : ItemValue s p object v) where
+      pub item-readable : (ts : List (Tree object)) (r : List ℕ) → Started s p d object ts r → Readable s v d
+      item-readable ts r (ended w e f) = absurd (more e)
+      item-readable ts r (item {t = t} l w n h i j) =
+          record {
+            value = content (valueTree object t);
+            here = record { tree = valueTree object t; rest = l; derives = here .value d t l h; stops = i; means = refl };
+          }
+
+      pub peeks-item : (ts : List (Tree object)) (r : List ℕ) → Started s p d object ts r → Peeks s d object ts (PeekAt p v)
+      peeks-item ts r (ended w e f) = absurd (more e)
+      peeks-item ts r (item {t = t} l w n h i j) = record { after = l; derives = h; value = here .value d t l h; stops = i }
+
+      pub take : (e q : ℕ) → EndsAt s v d e → spaces (drop e s) ≡ drop q s → (ts : List (Tree object)) (r : List ℕ) → Started s p d object ts r
+          → Taken s p v q d object ts r
+      take e q k f ts r (ended w m g) = absurd (more m)
+      take e q k f ts r (item {t = t} {ts = us} l w n h i j) =
+          let x = here .value d t l h in
+          taken l h x i (next s q d object l r us (ap spaces (k .rest (valueTree object t) l x i) ∙ f) j)
+
+comma-mark : (object : Bool) → 0x2C ≡ endMark object → ⊥
+comma-mark false e = omega arith
+comma-mark true e = omega arith
+
+module _ (s : List ℕ) (p v q d : ℕ) (object : Bool) where
+  next-within : (ts : List (Tree object)) (r : List ℕ) → Next s q d object ts r → q < length s
+  next-within ts r (at-mark w e h) = w
+  next-within ts r (at-comma w e h) = w
+
+  pub taken-within : (ts : List (Tree object)) (r : List ℕ) → Taken s p v q d object ts r → q < length s
+  taken-within ts r (taken {ts = us} l h x i n) = next-within us r n
+
+  after-comma : (ts : List (Tree object)) (r : List ℕ) → getD s q 0 ≡ 0x2C → Next s q d object ts r → ListAt s (q + 1) d object ts r
+  after-comma ts r e (at-mark w f h) = absurd (comma-mark object (sym e ∙ f))
+  after-comma ts r e (at-comma w f h) = h
+
+  at-end : (ts : List (Tree object)) (r : List ℕ) → (getD s q 0 ≡ 0x2C → ⊥) → Next s q d object ts r → ListAt s q d object ts r
+  at-end ts r e (at-mark w f h) = h
+  at-end ts r e (at-comma w f h) = absurd (e f)
+
+  pub gives-comma : (at : ℕ) (ts : List (Tree object)) (r : List ℕ) → at < q → getD s q 0 ≡ 0x2C → Taken s p v q d object ts r
+      → Gives s at d object ts r (At p v (q + 1))
+  gives-comma at ts r a e (taken {ts = us} l h x i n) =
+      let w = next-within us r n in
+      record { after = l; derives = h; value = x; stops = i; others = after-comma us r e n; later = omega arith; within = omega arith }
+
+  pub gives-last : (at : ℕ) (ts : List (Tree object)) (r : List ℕ) → at < q → (getD s q 0 ≡ 0x2C → ⊥) → Taken s p v q d object ts r
+      → Gives s at d object ts r (At p v q)
+  gives-last at ts r a e (taken {ts = us} l h x i n) =
+      let w = next-within us r n in
+      record { after = l; derives = h; value = x; stops = i; others = at-end us r e n; later = a; within = omega arith }
