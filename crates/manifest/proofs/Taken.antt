@@ -15,7 +15,7 @@ use Rattle.text.specs.declared.Checked.the-variants.{Accepted, Refused}
 use Rattle.text.proofs.Numbers.{number-checked}
 use Rattle.text.proofs.Taken.{Taken, taken, taken-text}
 use Rattle.text_view.specs.Place.{ValueAt, Readable}
-use Rattle.manifest_fields.specs.Questions.{manifestNumber}
+use Rattle.manifest_forms.specs.Questions.{manifestNumber}
 use Rattle.manifest.specs.Number.{byReading, manifestTextNumber}
 
 module _ (s : List ℕ) (r : Checked) (e : r ≡ checked s) where

@@ -26,7 +26,7 @@ use Rattle.manifest_fields.specs.Fields.{firstNamed, fieldNamed}
 use Rattle.manifest_fields.specs.Members.{find}
 use Rattle.manifest_fields.specs.Rules.{isArrayOf, isSome, entries, membersOf, isObject, isBoolean, isCount, isPath, isNumber, isVersion, isAmong, repeats, allDifferent, countFields, everyMember, isObjectOf, namesPass, groupPasses, policyPasses, fieldPasses, memberPasses, isFound, foundEntries, foundMembers, allRequired, wellFielded}
 use Rattle.manifest_fields.specs.Accessors.{fieldOf, acceptsField, rejectsField, contentsField, selfField, layersOf, acceptsOf, contentsOf, selfOf, textOf, texts, namesOf}
-use Rattle.manifest_fields.specs.Questions.{badField, contentsForm, selfForm, badForm, repeated as repeatedName, repeatedAlias, manifestNumber}
+use Rattle.manifest_forms.specs.Questions.{badField, contentsForm, selfForm, badForm, repeated as repeatedName, repeatedAlias, manifestNumber}
 use Rattle.reference.specs.References.{digestLayer, aliasLayer, layerOf, layer}
 use Rattle.test_cases.specs.Cases.{holds, every, numberRead, elsewhere, times, letters, hash, someId, withSignals, cases}
 

@@ -7,7 +7,7 @@ use lib.ListN.{length, take, drop}
 use Rattle.text_json.specs.Read.{Read, found, stuck, readText}
 use Rattle.text_json.specs.Syntax.{Syntax}
 use Rattle.text_content.specs.Value.{content}
-use Rattle.manifest_fields.specs.Questions.{manifestNumber}
+use Rattle.manifest_forms.specs.Questions.{manifestNumber}
 use Rattle.reference.specs.Aliases.{isAlias}
 use Rattle.reference.specs.Matches.{matches}
 use Rattle.reference.specs.References.{rule, imageId}

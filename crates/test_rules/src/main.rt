@@ -67,7 +67,7 @@ fn show_match(id: &[u8], rule: &[u8], image: &[u8]) {
     }
     let i = r.at;
     let at = m.at;
-    if manifest_fields::matching::matches(rule, i, id, image, at) {
+    if manifest_view::matching::matches(rule, i, id, image, at) {
         io::write_all(1, b"yes\n");
     } else {
         io::write_all(1, b"no\n");
