@@ -23,5 +23,5 @@ test:
 	.ci/run
 
 bench: archive
-	rt staticlib manifest
+	rt staticlib test_bench
 	ACON_LIB=$(ACON_LIB) bench/run

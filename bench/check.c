@@ -1,7 +1,8 @@
-/* check SAMPLES FILE...: prints for each file the median nanoseconds of three
- * calls: the canonical form, questions 1 to 6, and questions 1 to 9. Each round
- * takes one sample of every file with all three, so that a busy moment of the
- * machine falls on all alike. */
+/* check SAMPLES FILE...: prints for each file the median nanoseconds of four
+ * calls: the canonical form, questions 1 to 6, questions 1 to 9, and whether it
+ * is its own canonical form, with 1 at the end where it is. Each round takes one
+ * sample of every file with all four, so that a busy moment of the machine
+ * falls on all alike. */
 #define _POSIX_C_SOURCE 199309L
 #include "acon.h"
 
@@ -9,12 +10,13 @@
 #include <stdlib.h>
 #include <time.h>
 
-enum { TEXT = 1 << 14, CALLS = 3, SAMPLE_NS = 300000 };
+enum { TEXT = 1 << 14, CALLS = 4, SAMPLE_NS = 300000 };
 
-/* Of the archive libmanifest.a: the number by questions 1 to 6, and by
- * questions 1 to 9. */
+/* Of the archive libtest_bench.a: the number by questions 1 to 6, and by
+ * questions 1 to 9; and 1 for a text that is its own form. */
 uint64_t text_number(const uint8_t *text, size_t len);
 uint64_t manifest_text_number(const uint8_t *text, size_t len);
+uint64_t text_is_canonical(const uint8_t *text, size_t len);
 
 struct text {
     const char *path;
@@ -32,7 +34,9 @@ static uint64_t call(const struct text *t, int which)
         return acon_canonical(t->data, t->len, out, sizeof out);
     if (which == 1)
         return text_number(t->data, t->len);
-    return manifest_text_number(t->data, t->len);
+    if (which == 2)
+        return manifest_text_number(t->data, t->len);
+    return text_is_canonical(t->data, t->len);
 }
 
 static double run(const struct text *t, int which, unsigned calls)
@@ -90,7 +94,7 @@ int main(int argc, char **argv)
             qsort(texts[i].times[w], (size_t)samples, sizeof(double), rising);
             printf("\t%f", texts[i].times[w][samples / 2]);
         }
-        printf("\n");
+        printf("\t%d\n", (int)call(&texts[i], 3));
     }
     return 0;
 }

@@ -70,15 +70,18 @@ def report_checks(folder):
     cost = {}
     print()
     print("Checking a manifest: microseconds for one call, median of %d samples" % SAMPLES)
-    print("%-30s %6s %10s %8s %8s %8s %10s" % ("manifest", "bytes", "canonical", "1 to 6", "1 to 9", "7 to 9", "7-9/plain"))
+    print("%-30s %6s %10s %8s %8s %8s %10s %9s" % ("manifest", "bytes", "canonical", "1 to 6", "1 to 9", "7 to 9", "own form", "own/1-6"))
+    own_form = 0, ""
     for name, path in made:
-        form, text, both = (ns / 1000 for ns in speed[path])
+        form, text, both, own = (ns / 1000 for ns in speed[path][:4])
+        if speed[path][4]:
+            own_form = max(own_form, (own / text, name))
         cost[name] = form, both - text
-        share = "%10.2f" % (cost[name][1] / cost["plain, 16 KB"][1]) if "plain, 16 KB" in cost else ""
-        print("%-30s %6d %10.2f %8.2f %8.2f %8.2f %s" % (name, os.path.getsize(path), form, text, both, both - text, share))
+        print("%-30s %6d %10.2f %8.2f %8.2f %8.2f %10.2f %9.2f" % (name, os.path.getsize(path), form, text, both, both - text, own, own / text))
     print()
     form, _ = cost["worked manifest"]
     print("Questions 7 to 9 of the worked manifest in canonical form, over making that form: %.2f" % (cost["its canonical form"][1] / form))
+    print("Asking a canonical manifest whether it is its own form, over questions 1 to 6, at most: %.2f (%s)" % own_form)
     worst, name = max((own / cost["plain, 16 KB"][1], name) for name, (_, own) in cost.items())
     print("Worst manifest of 16 KB over the plain one: %.2f (%s)" % (worst, name))
 

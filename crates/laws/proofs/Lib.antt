@@ -1,3 +1,4 @@
 pub mod Order
+pub mod Permutations
 pub mod Sort
 pub mod Rising

@@ -1,1 +1,9 @@
+pub mod Aliases
+pub mod Canonical
+pub mod Checking
+pub mod Groups
+pub mod Objects
+pub mod Opened
+pub mod Opening
+pub mod Questions
 pub mod Taken

@@ -1,1 +1,5 @@
+pub mod Answer
+pub mod Manifest
+pub mod Names
 pub mod Number
+pub mod Opened

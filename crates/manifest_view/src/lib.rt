@@ -1,3 +1,5 @@
-// Reading a manifest in place: where its fields stand, and when a rule of it matches an image.
+// Reading a manifest in place: its entries and single values, and when a rule of it matches an image.
+pub mod accepting;
 pub mod accessor;
+pub mod entries;
 pub mod matching;

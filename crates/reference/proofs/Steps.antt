@@ -1,15 +1,15 @@
 -- Reading a reference part by part, by positions of the text.
 -- Assumes nothing.
-use Prim.Native.Nat.{ℕ}
+use Prim.Native.Nat.{ℕ, _≤_}
 use mathlib.Core.Path.{_≡_, refl, ap, sym, _∙_}
 use mathlib.Core.List.{List, [], _∷_}
 use mathlib.Core.Bool.{Bool, true, false, _||_}
-use lib.ListN.{drop}
+use lib.ListN.{length, drop}
 use Rattle.laws.specs.Order.{same}
 use Rattle.text_strings.specs.InString.{contentFrom}
 use Rattle.reference.specs.Algorithms.{named}
 use Rattle.reference.specs.Aliases.{star, isAlias}
-use Rattle.reference.specs.Digests.{isDigest}
+use Rattle.reference.specs.Digests.{isDigest, digestOf}
 use Rattle.reference.specs.Parts.{firstPart, parts}
 use Rattle.reference.specs.Readings.{PartAt, Divided, RuleUnder, RuleReads, PlainPart, IdUnder, IdReads}
 use Rattle.reference.specs.References.{no-layer, layer-digest, layer-alias, digestLayer, aliasLayer, signerWord, layer, any-signer, signer, signerOf, isSigner, any-manifest, manifest, self-alias, manifestOf, isManifest, accepts, no-rule, ruleUnder, rule, no-id, image-id, idUnder, imageId}
@@ -49,16 +49,21 @@ module _ (x : List ℕ) where
   unfolding signerOf
   signer-any e = rw (e, signerOf)
 
-  pub signer-one : same x star ≡ false → signer x ≡ signerOf x
+  pub signer-one : same x star ≡ false → signer (digestOf x) ≡ signerOf x
   unfolding signerOf
   signer-one e = rw (e, signerOf)
 
   module _ (a : Algorithm) where
+    -- a SIGNER that is not `*` is a digest
+    pub signer-digest : isSigner a x ≡ true → same x star ≡ false → isDigest a x ≡ true
+    unfolding isSigner
+    signer-digest e f = rw f at e
+
     pub manifest-any : same x star ≡ true → any-manifest ≡ manifestOf a x
     unfolding manifestOf
     manifest-any e = rw (e, manifestOf)
 
-    pub manifest-one : same x star ≡ false → isDigest a x ≡ true → manifest x ≡ manifestOf a x
+    pub manifest-one : same x star ≡ false → isDigest a x ≡ true → manifest (digestOf x) ≡ manifestOf a x
     unfolding manifestOf
     manifest-one e f = rw (e, manifestOf) (rw f)
 
@@ -91,16 +96,16 @@ rule-reads s i j k a NoRule e u = e ∙ u
 
 -- a layer reference under an algorithm
 module _ (a : Algorithm) where
-  pub digest-good : (d : List ℕ) → isDigest a d ≡ true → digestLayer (Is a) d ≡ layer-digest a d
+  pub digest-good : (x d : List ℕ) → x ≡ d → isDigest a x ≡ true → digestLayer (Is a) d ≡ layer-digest a (digestOf x)
   unfolding digestLayer
-  digest-good d e = rw (e, digestLayer)
+  digest-good x d w e = ap (digestLayer (Is a)) (sym w) ∙ rw (e, digestLayer)
 
   pub digest-bad : (d : List ℕ) → isDigest a d ≡ false → digestLayer (Is a) d ≡ no-layer
   unfolding digestLayer
   digest-bad d e = rw (e, digestLayer)
 
   module _ (x n : List ℕ) where
-    pub alias-good : isDigest a x ≡ true → isAlias n ≡ true → aliasLayer true (Is a) x n ≡ layer-alias a x n
+    pub alias-good : isDigest a x ≡ true → isAlias n ≡ true → aliasLayer true (Is a) x n ≡ layer-alias a (digestOf x) n
     unfolding aliasLayer
     alias-good e f = rw (e, aliasLayer) (rw f)
 
@@ -135,7 +140,7 @@ module _ (a : Algorithm) (x y : List ℕ) where
   unfolding idUnder
   id-no-manifest e f = rw (e, idUnder) (rw f)
 
-  pub id-good : isDigest a x ≡ true → isDigest a y ≡ true → idUnder (Is a) x y ≡ image-id a x y
+  pub id-good : isDigest a x ≡ true → isDigest a y ≡ true → idUnder (Is a) x y ≡ image-id a (digestOf x) (digestOf y)
   unfolding idUnder
   id-good e f = rw (e, idUnder) (rw f)
 
@@ -258,9 +263,10 @@ module _ (s : List ℕ) (p : Part) (a : PlainPart s 0 p) where
         pub id-none : k ≡ Unknown → imageId s ≡ no-id
         id-none u = id-by-parts ∙ ap (λ (x : Known). idUnder x (firstPart (drop (p .next) s)) (drop (q .next) s)) u ∙ id-unknown _ _
 
-        pub id-reads : (x : Algorithm) → k ≡ Is x → (y : Id) → IdUnder x (firstPart (drop (p .next) s)) (firstPart (drop (q .next) s)) (p .next) (q .next) y → IdReads s y
-        id-reads x u (Image b i j) v =
-            known ∙ v .2 ∙ rw (v .0, v .1, last)
+        -- both digests stand within the bytes
+        pub id-reads : p .next ≤ length s → q .next ≤ length s → (x : Algorithm) → k ≡ Is x → (y : Id)
+            → IdUnder x (firstPart (drop (p .next) s)) (firstPart (drop (q .next) s)) (p .next) (q .next) y → IdReads s y
+        id-reads w v x u y z = by-form y z
           where
             last : firstPart (drop (q .next) s) ≡ drop (q .next) s
             last = first-whole (drop (q .next) s) (is-last (drop (q .next) s) r (c .counts) g)
@@ -269,7 +275,14 @@ module _ (s : List ℕ) (p : Part) (a : PlainPart s 0 p) where
             known =
                 id-by-parts ∙ ap (λ (z : Known). idUnder z (firstPart (drop (p .next) s)) (drop (q .next) s)) u
                 ∙ ap (idUnder (Is x) (firstPart (drop (p .next) s))) (sym last)
-        id-reads x u NoId v =
-            id-by-parts ∙ ap (λ (z : Known). idUnder z (firstPart (drop (p .next) s)) (drop (q .next) s)) u
-            ∙ ap (idUnder (Is x) (firstPart (drop (p .next) s))) (sym (first-whole (drop (q .next) s) (is-last (drop (q .next) s) r (c .counts) g)))
-            ∙ v
+
+            by-form : (y : Id) → IdUnder x (firstPart (drop (p .next) s)) (firstPart (drop (q .next) s)) (p .next) (q .next) y → IdReads s y
+            by-form (Image b i j) z =
+                let d = z .3 in
+                let e = z .4 in
+                rw (z .0, z .1, z .2) (
+                  record { within = w; digest = d },
+                  record { within = v; digest = e },
+                  known ∙ id-good x _ _ d e,
+                )
+            by-form NoId z = known ∙ z

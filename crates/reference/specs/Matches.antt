@@ -1,5 +1,5 @@
 -- When a rule matches an image (document 01, "References, names and rules"): HASH is the algorithm of its ID, SIGNER is `*` or equal, and
--- MANIFEST is `*`, equal to the manifest digest, or one of its `self` aliases.
+-- MANIFEST is `*`, equal to the manifest digest, or one of its `self` aliases. Digests are compared by their bytes.
 use Prim.Native.Nat.{ℕ}
 use mathlib.Core.List.{List, [], _∷_}
 use mathlib.Core.Bool.{Bool, true, false, _&&_, _||_}

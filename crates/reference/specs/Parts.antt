@@ -1,6 +1,6 @@
 -- The parts of a reference are divided by `/` (document 01, "References, names and rules").
 use Prim.Native.Nat.{ℕ}
-use mathlib.Core.List.{List, [], _∷_}
+use mathlib.Core.List.{List, [], _∷_, _++_}
 use mathlib.Core.Bool.{Bool, true, false, _&&_}
 use lib.Dec.{eqb, leb}
 use lib.ListN.{length, take}
@@ -30,6 +30,12 @@ longer b (p ∷ ps) = (b ∷ p) ∷ ps
 unfoldable pub parts : List ℕ → List (List ℕ)
 parts [] = [] ∷ []
 parts (b ∷ s) = elim (eqb b 0x2F) [ true ↦ [] ∷ parts s | false ↦ longer b (parts s) ]
+
+-- the list with these parts
+unfoldable pub joined : List (List ℕ) → List ℕ
+joined [] = []
+joined (p ∷ []) = p
+joined (p ∷ q ∷ ps) = p ++ 0x2F ∷ joined (q ∷ ps)
 
 -- at least sixteen bytes, of which none ends a string's content or a part, or begins an escape
 unfoldable pub isBlock : List ℕ → Bool

@@ -3,10 +3,12 @@ use Prim.Native.Nat.{ℕ, _+_, _≤_, _<_}
 use mathlib.Core.Path.{_≡_}
 use mathlib.Core.List.{List, [], _∷_, _++_}
 use mathlib.Core.Bool.{true, false, not}
-use lib.ListN.{length, drop}
+use lib.ListN.{length, drop, getD}
 use Rattle.text_json.specs.Measure.{every}
+use Rattle.text_strings.specs.Cursor.{Left}
 use Rattle.text_strings.specs.InString.{Inside, contentFrom}
-use Rattle.reference.specs.Digests.{isLowerHex, isDigest}
+use Rattle.text_strings.specs.declared.Cursor.{Cursor}
+use Rattle.reference.specs.Digests.{isLowerHex, isDigest, digestOf}
 use Rattle.reference.specs.Parts.{isDivided, firstPart, afterPart}
 use Rattle.reference.specs.References.{layer, layer-digest, layer-alias, no-layer, Signer as SignerForm, any-signer, signer, Manifest as ManifestForm, any-manifest, manifest, self-alias, rule, ruleUnder, accepts, no-rule, imageId, idUnder, image-id, no-id}
 use Rattle.reference.specs.declared.algorithm.Algorithm.{Algorithm}
@@ -74,44 +76,60 @@ pub record PlainDigest (s : List ℕ) (i : ℕ) (a : Algorithm) : Type 0 where
   pub within : i ≤ length s
   pub digest : isDigest a (firstPart (drop i s)) ≡ true
 
+-- the first part of the content c is the digits of n bytes
+pub record Digits (c : List ℕ) (n : ℕ) : Type 0 where
+  pub size : length (firstPart c) ≡ n + n
+  pub digits : every isLowerHex (firstPart c) ≡ true
+
+-- the digits of n bytes are the part before a cursor
+pub record DigitsLeft (s : List ℕ) (k : Cursor) (n : ℕ) : Type 0 where
+  pub content : List ℕ
+  pub left : Left s k content
+  pub part : Digits content n
+
+-- the two bytes at position j stand for themselves in a string
+pub record PlainPair (s : List ℕ) (j : ℕ) : Type 0 where
+  pub begins : contentFrom s j ≡ getD s j 0 ∷ getD s (j + 1) 0 ∷ contentFrom s (j + 2)
+  pub inside : Inside s (j + 2)
+
 -- a layer reference: the positions of its digest, or of its signer and its alias
 abbrev pub LayerReads : List ℕ → ℕ → Layer → Type 0
-LayerReads s i (LayerDigest a p) = Inside s p × (layer (contentFrom s i) ≡ layer-digest a (contentFrom s p))
+LayerReads s i (LayerDigest a p) = DigestAt s p a × (layer (contentFrom s i) ≡ layer-digest a (digestOf (firstPart (contentFrom s p))))
 LayerReads s i (LayerAlias a p q) =
-    Inside s p × Inside s q × (layer (contentFrom s i) ≡ layer-alias a (firstPart (contentFrom s p)) (contentFrom s q))
+    DigestAt s p a × Inside s q × (layer (contentFrom s i) ≡ layer-alias a (digestOf (firstPart (contentFrom s p))) (contentFrom s q))
 LayerReads s i NoLayer = layer (contentFrom s i) ≡ no-layer
 
 -- what a SIGNER and a MANIFEST stand for
 abbrev pub signerForm : List ℕ → Signer → SignerForm
 signerForm s AnySigner = any-signer
-signerForm s (SignerDigest p) = signer (firstPart (contentFrom s p))
+signerForm s (SignerDigest p) = signer (digestOf (firstPart (contentFrom s p)))
 
 abbrev pub manifestForm : List ℕ → Manifest → ManifestForm
 manifestForm s AnyManifest = any-manifest
-manifestForm s (ManifestDigest p) = manifest (contentFrom s p)
+manifestForm s (ManifestDigest p) = manifest (digestOf (firstPart (contentFrom s p)))
 manifestForm s (SelfAlias p) = self-alias (contentFrom s p)
 
--- the positions that they hold stand in a string
-abbrev pub SignerInside : List ℕ → Signer → Type 0
-SignerInside s AnySigner = Unit {0}
-SignerInside s (SignerDigest p) = Inside s p
+-- digests of that algorithm, and an alias, stand at the positions that they hold
+abbrev pub SignerAt : List ℕ → Algorithm → Signer → Type 0
+SignerAt s a AnySigner = Unit {0}
+SignerAt s a (SignerDigest p) = DigestAt s p a
 
-abbrev pub ManifestInside : List ℕ → Manifest → Type 0
-ManifestInside s AnyManifest = Unit {0}
-ManifestInside s (ManifestDigest p) = Inside s p
-ManifestInside s (SelfAlias p) = Inside s p
+abbrev pub ManifestAt : List ℕ → Algorithm → Manifest → Type 0
+ManifestAt s a AnyManifest = Unit {0}
+ManifestAt s a (ManifestDigest p) = DigestAt s p a
+ManifestAt s a (SelfAlias p) = Inside s p
 
 -- a rule of that algorithm, with SIGNER at position i and MANIFEST at position j
 abbrev pub RuleUnder : List ℕ → Algorithm → ℕ → ℕ → Rule → Type 0
 RuleUnder s a i j (Accepts b g m) =
-    SignerInside s g × ManifestInside s m
+    SignerAt s b g × ManifestAt s b m
     × (ruleUnder (Is a) (firstPart (contentFrom s i)) (contentFrom s j) ≡ accepts b (signerForm s g) (manifestForm s m))
 RuleUnder s a i j NoRule = ruleUnder (Is a) (firstPart (contentFrom s i)) (contentFrom s j) ≡ no-rule
 
 -- a rule
 abbrev pub RuleReads : List ℕ → ℕ → Rule → Type 0
 RuleReads s i (Accepts a g m) =
-    SignerInside s g × ManifestInside s m × (rule (contentFrom s i) ≡ accepts a (signerForm s g) (manifestForm s m))
+    SignerAt s a g × ManifestAt s a m × (rule (contentFrom s i) ≡ accepts a (signerForm s g) (manifestForm s m))
 RuleReads s i NoRule = rule (contentFrom s i) ≡ no-rule
 
 -- the part at position i of a list of bytes, and the position after it
@@ -121,10 +139,12 @@ pub record PlainPart (s : List ℕ) (i : ℕ) (p : Part) : Type 0 where
 
 -- an Image ID of that algorithm whose signer and manifest are c and d, at the positions i and j
 abbrev pub IdUnder : Algorithm → List ℕ → List ℕ → ℕ → ℕ → Id → Type 0
-IdUnder a c d i j (Image b p q) = (p ≡ i) × (q ≡ j) × (idUnder (Is a) c d ≡ image-id b c d)
+IdUnder a c d i j (Image b p q) = (b ≡ a) × (p ≡ i) × (q ≡ j) × (isDigest a c ≡ true) × (isDigest a d ≡ true)
 IdUnder a c d i j NoId = idUnder (Is a) c d ≡ no-id
 
 -- an Image ID: the positions of its signer and its manifest digest
 abbrev pub IdReads : List ℕ → Id → Type 0
-IdReads s (Image a p q) = imageId s ≡ image-id a (firstPart (drop p s)) (drop q s)
+IdReads s (Image a p q) =
+    PlainDigest s p a × PlainDigest s q a
+    × (imageId s ≡ image-id a (digestOf (firstPart (drop p s))) (digestOf (firstPart (drop q s))))
 IdReads s NoId = imageId s ≡ no-id

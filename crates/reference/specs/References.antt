@@ -1,12 +1,13 @@
--- Layer references, rules and Image IDs by their parts (document 01, "References, names and rules").
+-- Layer references, rules and Image IDs by their parts (document 01, "References, names and rules"). A digest is held as its bytes: its
+-- hexadecimal digits stand in a text only.
 use Prim.Native.Nat.{ℕ}
 use mathlib.Core.List.{List, [], _∷_}
 use mathlib.Core.Bool.{Bool, true, false, _&&_, _||_}
 use Rattle.laws.specs.Order.{same}
-use Rattle.reference.specs.Algorithms.{named}
+use Rattle.reference.specs.Algorithms.{named, nameOf}
 use Rattle.reference.specs.Aliases.{isAlias, star}
-use Rattle.reference.specs.Digests.{isDigest}
-use Rattle.reference.specs.Parts.{parts}
+use Rattle.reference.specs.Digests.{isDigest, digestOf, hexOf}
+use Rattle.reference.specs.Parts.{parts, joined}
 use Rattle.reference.specs.declared.algorithm.Algorithm.{Algorithm}
 use Rattle.reference.specs.declared.algorithm.Known.{Known}
 use Rattle.reference.specs.declared.algorithm.Known.the-variants.{Is, Unknown}
@@ -17,18 +18,20 @@ signerWord = 0x73 ∷ 0x69 ∷ 0x67 ∷ 0x6E ∷ 0x65 ∷ 0x72 ∷ []
 
 -- HASH/FSLAYER, or signer/HASH/SIGNER/ALIAS
 pub data Layer : Type 0 where
+  -- the bytes of FSLAYER
   layer-digest : Algorithm → List ℕ → Layer
+  -- the bytes of SIGNER, and the alias
   layer-alias : Algorithm → List ℕ → List ℕ → Layer
   no-layer : Layer
 
 unfoldable pub digestLayer : Known → List ℕ → Layer
 digestLayer Unknown d = no-layer
-digestLayer (Is a) d = elim (isDigest a d) [ true ↦ layer-digest a d | false ↦ no-layer ]
+digestLayer (Is a) d = elim (isDigest a d) [ true ↦ layer-digest a (digestOf d) | false ↦ no-layer ]
 
 unfoldable pub aliasLayer : Bool → Known → List ℕ → List ℕ → Layer
 aliasLayer false k s n = no-layer
 aliasLayer true Unknown s n = no-layer
-aliasLayer true (Is a) s n = elim (isDigest a s && isAlias n) [ true ↦ layer-alias a s n | false ↦ no-layer ]
+aliasLayer true (Is a) s n = elim (isDigest a s && isAlias n) [ true ↦ layer-alias a (digestOf s) n | false ↦ no-layer ]
 
 unfoldable pub layerOf : List (List ℕ) → Layer
 layerOf [] = no-layer
@@ -41,7 +44,13 @@ layerOf (w ∷ h ∷ s ∷ n ∷ p ∷ ps) = no-layer
 unfoldable pub layer : List ℕ → Layer
 layer c = layerOf (parts c)
 
--- SIGNER of a rule is a digest or `*`
+-- the one text of a layer reference
+unfoldable pub layerText : Layer → List ℕ
+layerText (layer-digest a d) = joined (nameOf a ∷ hexOf d ∷ [])
+layerText (layer-alias a s n) = joined (signerWord ∷ nameOf a ∷ hexOf s ∷ n ∷ [])
+layerText no-layer = []
+
+-- SIGNER of a rule is a digest, by its bytes, or `*`
 pub data Signer : Type 0 where
   any-signer : Signer
   signer : List ℕ → Signer
@@ -50,9 +59,9 @@ unfoldable pub isSigner : Algorithm → List ℕ → Bool
 isSigner a s = same s star || isDigest a s
 
 unfoldable pub signerOf : List ℕ → Signer
-signerOf s = elim (same s star) [ true ↦ any-signer | false ↦ signer s ]
+signerOf s = elim (same s star) [ true ↦ any-signer | false ↦ signer (digestOf s) ]
 
--- MANIFEST of a rule is a digest, an alias or `*`
+-- MANIFEST of a rule is a digest, by its bytes, an alias or `*`
 pub data Manifest : Type 0 where
   any-manifest : Manifest
   manifest : List ℕ → Manifest
@@ -62,7 +71,7 @@ unfoldable pub isManifest : Algorithm → List ℕ → Bool
 isManifest a m = same m star || (isDigest a m || isAlias m)
 
 unfoldable pub manifestOf : Algorithm → List ℕ → Manifest
-manifestOf a m = elim (same m star) [ true ↦ any-manifest | false ↦ elim (isDigest a m) [ true ↦ manifest m | false ↦ self-alias m ] ]
+manifestOf a m = elim (same m star) [ true ↦ any-manifest | false ↦ elim (isDigest a m) [ true ↦ manifest (digestOf m) | false ↦ self-alias m ] ]
 
 -- HASH/SIGNER/MANIFEST
 pub data Rule : Type 0 where
@@ -84,14 +93,14 @@ ruleOf (h ∷ s ∷ m ∷ p ∷ ps) = no-rule
 unfoldable pub rule : List ℕ → Rule
 rule c = ruleOf (parts c)
 
--- an Image ID: HASH/SIGNER/MANIFEST, both digests
+-- an Image ID: HASH/SIGNER/MANIFEST, both digests, by their bytes
 pub data Id : Type 0 where
   image-id : Algorithm → List ℕ → List ℕ → Id
   no-id : Id
 
 unfoldable pub idUnder : Known → List ℕ → List ℕ → Id
 idUnder Unknown s m = no-id
-idUnder (Is a) s m = elim (isDigest a s && isDigest a m) [ true ↦ image-id a s m | false ↦ no-id ]
+idUnder (Is a) s m = elim (isDigest a s && isDigest a m) [ true ↦ image-id a (digestOf s) (digestOf m) | false ↦ no-id ]
 
 unfoldable pub idOf : List (List ℕ) → Id
 idOf [] = no-id
@@ -102,3 +111,8 @@ idOf (h ∷ s ∷ m ∷ p ∷ ps) = no-id
 
 unfoldable pub imageId : List ℕ → Id
 imageId c = idOf (parts c)
+
+-- the one text of an Image ID
+unfoldable pub idText : Id → List ℕ
+idText (image-id a s m) = joined (nameOf a ∷ hexOf s ∷ hexOf m ∷ [])
+idText no-id = []

@@ -8,7 +8,7 @@ ghost use mathlib.Core.Bool.{true};
 ghost use Rattle.text_strings.specs.InString.{Inside, contentFrom};
 ghost use Rattle.reference.specs.Parts.{firstPart};
 ghost use Rattle.reference.specs.References.{isSigner, isManifest, signerOf, manifestOf};
-ghost use Rattle.reference.specs.Readings.{PartAt, Divided, SignerInside, signerForm, ManifestInside, manifestForm, RuleUnder, RuleReads};
+ghost use Rattle.reference.specs.Readings.{PartAt, Divided, SignerAt, signerForm, ManifestAt, manifestForm, RuleUnder, RuleReads};
 
 // Any signer, or the one whose digest stands at a position.
 pub enum Signer {
@@ -69,7 +69,7 @@ fn under(s: &[u8], a: Algorithm, i: usize, signer: Part, manifest: Part) -> Rule
     }
     Rule::Accepts {
         algorithm: a,
-        signer: signer_of(s, i, signer),
+        signer: signer_of(s, a, i, signer),
         manifest: manifest_of(s, a, j, manifest),
     }
 }
@@ -89,9 +89,9 @@ fn is_manifest(s: &[u8], a: Algorithm, i: usize, p: Part) -> bool
         || (crate::digest::is_digest(a, p.length, p.hex) || crate::alias::is_alias_part(s, i, p))
 }
 
-fn signer_of(s: &[u8], i: usize, p: Part) -> Signer
-    requires { ⌜ Inside (now s) i × PartAt (now s) i p ⌝ }
-    ensures { λ r. ⌜ SignerInside (now (s .entry)) r × (signerForm (now (s .entry)) r ≡ signerOf (firstPart (contentFrom (now (s .entry)) i))) ⌝ }
+fn signer_of(s: &[u8], a: Algorithm, i: usize, p: Part) -> Signer
+    requires { ⌜ Inside (now s) i × PartAt (now s) i p × (isSigner a (firstPart (contentFrom (now s) i)) ≡ true) ⌝ }
+    ensures { λ r. ⌜ SignerAt (now (s .entry)) a r × (signerForm (now (s .entry)) r ≡ signerOf (firstPart (contentFrom (now (s .entry)) i))) ⌝ }
 {
     if part::is(s, i, p.length, b"*") {
         return Signer::Any;
@@ -101,7 +101,7 @@ fn signer_of(s: &[u8], i: usize, p: Part) -> Signer
 
 fn manifest_of(s: &[u8], a: Algorithm, i: usize, p: Part) -> Manifest
     requires { ⌜ Inside (now s) i × PartAt (now s) i p × (p .last ≡ true) ⌝ }
-    ensures { λ r. ⌜ ManifestInside (now (s .entry)) r × (manifestForm (now (s .entry)) r ≡ manifestOf a (contentFrom (now (s .entry)) i)) ⌝ }
+    ensures { λ r. ⌜ ManifestAt (now (s .entry)) a r × (manifestForm (now (s .entry)) r ≡ manifestOf a (contentFrom (now (s .entry)) i)) ⌝ }
 {
     if part::is(s, i, p.length, b"*") {
         return Manifest::Any;

@@ -1,21 +1,44 @@
-// Reads texts from standard input, an empty line after each but the last, and prints for each its number of document 01's table and
-// its canonical form.
-ghost use Prim.Native.Nat.{_≤_};
+// Reads texts from standard input, an empty line after each but the last, and prints for each its number of document 01's table, `own`
+// where it is its own canonical form, and that form, or the offset of its fault.
+use text::Checked;
+ghost use mathlib.Core.Path.{_≡_};
+ghost use mathlib.Core.Bool.{true};
+ghost use Prim.Native.Nat.{_+_, _<_};
+ghost use lib.ListN.{length};
+
+fn show_place(json: &[u8]) {
+    match text::check(json) {
+        Checked::Refused(f) => {
+            io::write_all(1, b"at ");
+            io::print_decimal(1, f.place() as u64);
+        }
+        Checked::Accepted {
+            length: _,
+            canonical: _,
+        } => {}
+    }
+}
 
 fn show(json: &[u8]) {
     let mut out = [0u8; 16384];
     let a = text::canonical(json, &mut out);
     io::print_decimal(1, a.number as u64);
+    if text::is_canonical(json) {
+        io::write_all(1, b" own");
+    }
     io::write_all(1, b" ");
     let n = a.length;
     if n <= 16384 {
         io::write_all(1, &out[..n]);
     }
+    show_place(json);
     io::write_all(1, b"\n");
 }
 
-// An empty line begins at `at`.
-fn is_gap(s: &[u8], at: usize) -> bool {
+// A line ends at `at`, and an empty line comes after it.
+fn is_gap(s: &[u8], at: usize) -> bool
+    ensures { λ r. ⌜ (r ≡ true → at + 1 < length (now (s .entry))) ⌝ }
+{
     if at < s.len() {
         if s[at] == b'\n' {
             if at + 1 < s.len() {
@@ -32,6 +55,7 @@ fn show_all(s: &[u8]) {
     while i < s.len() {
         if is_gap(s, i) {
             show(&s[start..i]);
+            i += 1;
             start = i + 1;
         }
         i += 1;

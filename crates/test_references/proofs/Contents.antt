@@ -3,6 +3,7 @@
 use Prim.Native.Nat.{ℕ, _+_, _<_, _≤_}
 use mathlib.Core.Path.{_≡_, sym, ap, subst, _∙_}
 use mathlib.Core.List.{List}
+use mathlib.Core.Bool.{Bool}
 use native.Mathlib.Omega.{arith}
 use lib.ListN.{length}
 use Rattle.text_content.specs.Value.{Value, content, string}
@@ -18,8 +19,8 @@ use Rattle.text_view.specs.declared.Kind.the-variants.{String}
 use Rattle.text_view.proofs.ByKind.{is-string}
 use Rattle.text_view.proofs.Strings.{string-value}
 
-pub accepted : (s : List ℕ) (r : Checked) (n : ℕ) → r ≡ checked s → r ≡ Accepted n → Taken s
-accepted s r n e f = taken s (sym (number-checked s) ∙ ap numberOf (sym e ∙ f))
+pub accepted : (s : List ℕ) (r : Checked) (n : ℕ) (c : Bool) → r ≡ checked s → r ≡ Accepted n c → Taken s
+accepted s r n c e f = taken s (sym (number-checked s) ∙ ap numberOf (sym e ∙ f))
 
 pub string-inside : (s : List ℕ) (p d : ℕ) (v : Value) → ValueAt s p d v → kindOf v ≡ String → Inside s (p + 1)
 string-inside s p d v h e =

@@ -1,9 +1,15 @@
 // Reads references from standard input, one to a line, and prints what each is found to be. The first letter of a line says what is
-// asked: L for a layer reference, R for a rule and A for an alias, each in a JSON string, and I for an Image ID in plain bytes.
+// asked: L for a layer reference, R for a rule and A for an alias, each in a JSON string, I for an Image ID in plain bytes, and B for the
+// byte of an algorithm, as a decimal digit. After a digest's position stand its bytes, and of one in a string whether it is found to have
+// these, these without the first, and these with the last one changed.
 ghost use mathlib.Core.Path.{_≡_};
 ghost use mathlib.Core.Bool.{true};
+ghost use Prim.Native.Nat.{_≤_};
+ghost use lib.ListN.{length};
 ghost use Rattle.text_strings.specs.InString.{Inside};
+ghost use Rattle.reference.specs.Readings.{DigestAt, PlainDigest, SignerAt, ManifestAt};
 use reference::algorithm::Algorithm;
+use reference::algorithm::Known;
 use reference::id::Id;
 use reference::layer::Layer;
 use reference::rule::Manifest;
@@ -22,11 +28,14 @@ fn content_of(s: &[u8]) -> Place
     ensures { λ r. ⌜ (r .found ≡ true → Inside (now (s .entry)) (r .at)) ⌝ }
 {
     match text::check(s) {
-        Checked::Refused(_, _) => Place {
+        Checked::Refused(_) => Place {
             found: false,
             at: 0,
         },
-        Checked::Accepted(_) => {
+        Checked::Accepted {
+            length: _,
+            canonical: _,
+        } => {
             let at = text_view::value::root(s);
             match text_view::value::kind(s, at) {
                 Kind::String => Place {
@@ -53,14 +62,69 @@ fn print_algorithm(word: &[u8], a: Algorithm) {
     io::print_decimal(1, a.byte() as u64);
 }
 
-fn print_layer(l: Layer) {
-    match l {
+// A space, and each byte in two hexadecimal digits.
+fn print_bytes(bytes: &[u8]) {
+    io::write_all(1, b" ");
+    let mut k = 0;
+    while k < bytes.len() {
+        io::print_hex(1, bytes[k] as u64, 2);
+        k += 1;
+    }
+}
+
+// Whether the digest at position p has these bytes.
+fn show_is(s: &[u8], p: usize, a: Algorithm, bytes: &[u8])
+    requires { ⌜ DigestAt (now s) p a ⌝ }
+{
+    if reference::digest::is(s, p, a, bytes) {
+        io::write_all(1, b" yes");
+    } else {
+        io::write_all(1, b" no");
+    }
+}
+
+// Another byte for the last of n.
+fn change_last(bytes: &mut [u8], n: usize)
+    requires { ⌜ (1 ≤ n) × (n ≤ length (now bytes)) ⌝ }
+{
+    bytes[n - 1] = if bytes[n - 1] == 0 { 1 } else { 0 };
+}
+
+// The bytes of the digest at position p, and whether it has these bytes, these without the first, and these with the last one changed.
+fn show_digest(s: &[u8], p: usize, a: Algorithm)
+    requires { ⌜ DigestAt (now s) p a ⌝ }
+{
+    let n = a.digest_bytes();
+    let mut bytes = [0u8; 48];
+    reference::digest::write(s, p, a, &mut bytes);
+    print_bytes(&bytes[0..n]);
+    show_is(s, p, a, &bytes[0..n]);
+    show_is(s, p, a, &bytes[1..n]);
+    change_last(&mut bytes, n);
+    show_is(s, p, a, &bytes[0..n]);
+}
+
+// The same of an Image ID's digest.
+fn show_plain_digest(s: &[u8], p: usize, a: Algorithm)
+    requires { ⌜ PlainDigest (now s) p a ⌝ }
+{
+    let n = a.digest_bytes();
+    let mut bytes = [0u8; 48];
+    reference::digest::write_plain(s, p, a, &mut bytes);
+    print_bytes(&bytes[0..n]);
+}
+
+fn show_layer(s: &[u8], i: usize)
+    requires { ⌜ Inside (now s) i ⌝ }
+{
+    match reference::layer::read(s, i) {
         Layer::Bad => {
             io::write_all(1, b"bad");
         }
-        Layer::Digest(a, at) => {
+        Layer::Digest(a, p) => {
             print_algorithm(b"digest ", a);
-            print_at(b" at ", at);
+            print_at(b" at ", p);
+            show_digest(s, p, a);
         }
         Layer::Alias {
             algorithm,
@@ -69,38 +133,47 @@ fn print_layer(l: Layer) {
         } => {
             print_algorithm(b"alias ", algorithm);
             print_at(b" signer at ", signer);
+            show_digest(s, signer, algorithm);
             print_at(b" name at ", alias);
         }
     }
 }
 
-fn print_signer(g: Signer) {
+fn show_signer(s: &[u8], a: Algorithm, g: Signer)
+    requires { ⌜ SignerAt (now s) a g ⌝ }
+{
     match g {
         Signer::Any => {
             io::write_all(1, b" any signer");
         }
-        Signer::Digest(at) => {
-            print_at(b" signer at ", at);
+        Signer::Digest(p) => {
+            print_at(b" signer at ", p);
+            show_digest(s, p, a);
         }
     }
 }
 
-fn print_manifest(m: Manifest) {
+fn show_manifest(s: &[u8], a: Algorithm, m: Manifest)
+    requires { ⌜ ManifestAt (now s) a m ⌝ }
+{
     match m {
         Manifest::Any => {
             io::write_all(1, b" any manifest");
         }
-        Manifest::Digest(at) => {
-            print_at(b" digest at ", at);
+        Manifest::Digest(p) => {
+            print_at(b" digest at ", p);
+            show_digest(s, p, a);
         }
-        Manifest::Alias(at) => {
-            print_at(b" name at ", at);
+        Manifest::Alias(p) => {
+            print_at(b" name at ", p);
         }
     }
 }
 
-fn print_rule(r: Rule) {
-    match r {
+fn show_rule(s: &[u8], i: usize)
+    requires { ⌜ Inside (now s) i ⌝ }
+{
+    match reference::rule::read(s, i) {
         Rule::Bad => {
             io::write_all(1, b"bad");
         }
@@ -110,14 +183,14 @@ fn print_rule(r: Rule) {
             manifest,
         } => {
             print_algorithm(b"rule ", algorithm);
-            print_signer(signer);
-            print_manifest(manifest);
+            show_signer(s, algorithm, signer);
+            show_manifest(s, algorithm, manifest);
         }
     }
 }
 
-fn print_id(d: Id) {
-    match d {
+fn show_id(id: &[u8]) {
+    match reference::id::read(id) {
         Id::Bad => {
             io::write_all(1, b"bad");
         }
@@ -128,9 +201,36 @@ fn print_id(d: Id) {
         } => {
             print_algorithm(b"image ", algorithm);
             print_at(b" signer at ", signer);
+            show_plain_digest(id, signer, algorithm);
             print_at(b" digest at ", manifest);
+            show_plain_digest(id, manifest, algorithm);
         }
     }
+}
+
+// The algorithm with that byte, and the length of its digests.
+fn show_byte(b: u8) {
+    match Algorithm::from_byte(b) {
+        Known::Unknown => {
+            io::write_all(1, b"no algorithm");
+        }
+        Known::Is(a) => {
+            print_algorithm(b"algorithm ", a);
+            print_at(b" of ", a.digest_bytes());
+        }
+    }
+}
+
+// A line that is one decimal digit.
+fn show_number(s: &[u8]) {
+    if s.len() == 1 {
+        let b = s[0];
+        if b'0' <= b {
+            show_byte(b - b'0');
+            return;
+        }
+    }
+    io::write_all(1, b"no digit");
 }
 
 fn print_alias(good: bool) {
@@ -150,8 +250,8 @@ fn show_string(letter: u8, s: &[u8]) {
     }
     let at = p.at;
     match letter {
-        b'L' => print_layer(reference::layer::read(s, at)),
-        b'R' => print_rule(reference::rule::read(s, at)),
+        b'L' => show_layer(s, at),
+        b'R' => show_rule(s, at),
         _ => print_alias(reference::alias::is_alias(s, at)),
     }
 }
@@ -161,10 +261,10 @@ fn show(line: &[u8]) {
         return;
     }
     let letter = line[0];
-    if letter == b'I' {
-        print_id(reference::id::read(&line[1..]));
-    } else {
-        show_string(letter, &line[1..]);
+    match letter {
+        b'I' => show_id(&line[1..]),
+        b'B' => show_number(&line[1..]),
+        _ => show_string(letter, &line[1..]),
     }
     io::write_all(1, b"\n");
 }

@@ -5,8 +5,18 @@ ghost use mathlib.Core.Path.{_≡_};
 ghost use mathlib.Core.Bool.{true};
 ghost use Prim.Native.Nat.{_≤_};
 ghost use lib.ListN.{length};
-ghost use Rattle.text_strings.specs.InString.{Inside};
+ghost use mathlib.Core.Option.{Option};
+ghost use Rattle.text_content.specs.Value.{Value};
+ghost use Rattle.text_strings.specs.InString.{Inside, contentFrom};
 ghost use Rattle.text_view.specs.Place.{Readable};
+ghost use Rattle.reference.specs.Matches.{matches};
+ghost use Rattle.reference.specs.References.{rule as ruleOf, imageId};
+ghost use Rattle.manifest_fields.specs.Accessors.{namesOf};
+ghost use Rattle.manifest_fields.specs.Founds.{SomeFound};
+ghost use Rattle.manifest_fields.specs.Members.{Finds};
+ghost use Rattle.manifest_fields.specs.Rules.{foundMembers};
+use manifest_fields::member::Found;
+use reference::id::Id;
 use text::Checked;
 use text_view::Kind;
 
@@ -21,11 +31,14 @@ fn value_of(s: &[u8]) -> Place
     ensures { λ r. ⌜ (r .found ≡ true → Readable (now (s .entry)) (r .at) 8) ⌝ }
 {
     match text::check(s) {
-        Checked::Refused(_, _) => Place {
+        Checked::Refused(_) => Place {
             found: false,
             at: 0,
         },
-        Checked::Accepted(_) => Place {
+        Checked::Accepted {
+            length: _,
+            canonical: _,
+        } => Place {
             found: true,
             at: text_view::value::root(s),
         },
@@ -53,6 +66,29 @@ fn content_of(s: &[u8]) -> Place
     }
 }
 
+// The rule at position i matches the image with that ID and the `self` aliases of the group `own` found in `image`.
+fn matches_id(rule: &[u8], i: usize, id: &[u8], image: &[u8], own: Found) -> bool
+    requires { ⌜ Inside (now rule) i × SomeFound (now image) 6 own ⌝ }
+    ensures { λ r. ⌜ ((o : Option Value) → Finds (now (image .entry)) 6 o own
+        → r ≡ matches (ruleOf (contentFrom (now (rule .entry)) i)) (imageId (now (id .entry))) (namesOf (foundMembers o))) ⌝ }
+{
+    match reference::id::read(id) {
+        Id::Bad => false,
+        Id::Image {
+            algorithm,
+            signer,
+            manifest,
+        } => {
+            let mut x = [0u8; 48];
+            let mut y = [0u8; 48];
+            reference::digest::write_plain(id, signer, algorithm, &mut x);
+            reference::digest::write_plain(id, manifest, algorithm, &mut y);
+            let n = algorithm.digest_bytes();
+            manifest_view::matching::matches(rule, i, algorithm, &x[0..n], &y[0..n], image, own)
+        }
+    }
+}
+
 // Whether the rule matches the image with that ID and the `self` aliases of that manifest.
 fn show_match(id: &[u8], rule: &[u8], image: &[u8]) {
     let r = content_of(rule);
@@ -67,7 +103,7 @@ fn show_match(id: &[u8], rule: &[u8], image: &[u8]) {
     }
     let i = r.at;
     let at = m.at;
-    if manifest_view::matching::matches(rule, i, id, image, at) {
+    if matches_id(rule, i, id, image, manifest_view::accessor::own(image, at)) {
         io::write_all(1, b"yes\n");
     } else {
         io::write_all(1, b"no\n");

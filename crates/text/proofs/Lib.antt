@@ -1,5 +1,4 @@
 pub mod Checks
-pub mod Equal
 pub mod Forms
 pub mod Keys
 pub mod Numbers

@@ -5,7 +5,6 @@ use mathlib.Core.List.{List}
 use mathlib.Core.Bool.{Bool, true, false, not}
 use native.Mathlib.Omega.{arith}
 use lib.Dec.{ltb}
-use lib.ListN.{length}
 use Rattle.laws.proofs.Order.{by-test, false-true}
 use Rattle.text_utf8.specs.Utf8.{utf8, verdict}
 use Rattle.text_utf8.specs.declared.Verdict.{Verdict}
@@ -23,10 +22,10 @@ use Rattle.text.specs.declared.Checked.the-variants.{Accepted, Refused}
 byQuestions : Bool → Bool → Bool → Bool → ℕ
 byQuestions a b c d = elim a [ true ↦ 3 | false ↦ elim b [ true ↦ 4 | false ↦ elim c [ true ↦ 5 | false ↦ elim d [ true ↦ 6 | false ↦ 0 ] ] ] ]
 
-tree-number : (n : ℕ) (x : Read Syntax) → numberOf (byTree n x) ≡ byQuestions (isStuck x) (faulty stringFault x) (faulty numberFault x) (faulty keyFault x)
+tree-number : (s : List ℕ) (x : Read Syntax) → numberOf (byTree s x) ≡ byQuestions (isStuck x) (faulty stringFault x) (faulty numberFault x) (faulty keyFault x)
 unfolding byTree byFaults byQuestions isStuck faulty
-tree-number n (stuck r) = refl
-tree-number n (found t r) =
+tree-number s (stuck r) = refl
+tree-number s (found t r) =
     by-test (ltb 0 (stringFault t)) (λ e. rw (e, byFaults)) (λ e. rw (e, byFaults)
     (by-test (ltb 0 (numberFault t)) (λ f. rw f) (λ f. rw f
     (by-test (ltb 0 (keyFault t)) (λ g. rw g) (λ g. rw g)))))
@@ -57,5 +56,5 @@ unfolding checked byVerdict notJson badString badNumber sameKeys
 number-checked s = by-test (tooLong s) (λ e. rw (e, checked) (sym (number-long s e))) (λ e. rw (e, checked) (go (verdict s) refl e))
   where
     go : (v : Verdict) → verdict s ≡ v → tooLong s ≡ false → numberOf (byVerdict s v) ≡ textNumber s
-    go WellFormed e f = tree-number (length s) (readText 8 s) ∙ sym (number-after s f (is-utf8 s (verdict-well-formed s .0 e)))
+    go WellFormed e f = tree-number s (readText 8 s) ∙ sym (number-after s f (is-utf8 s (verdict-well-formed s .0 e)))
     go (Bad k) e f = sym (number-utf8 s f (not-utf8 s k e))

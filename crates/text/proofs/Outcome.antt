@@ -1,4 +1,4 @@
--- What checking says of canonical's answer.
+-- What checking says of the answers of canonical and is_canonical.
 use Prim.Native.Nat.{ℕ, _<_, _≤_}
 use mathlib.Core.Path.{_≡_, refl, sym, ap, subst, _∙_}
 use mathlib.Core.List.{List, [], _++_}
@@ -7,6 +7,7 @@ use native.Mathlib.Omega.{arith}
 use borrow.Author.Tests.{eq-eqb, ne-eqb, lt-ltb, le-ltb, eqb-true}
 use lib.Dec.{ltb, eqb}
 use lib.ListN.{length, drop}
+use Rattle.laws.specs.Order.{same}
 use Rattle.laws.proofs.Order.{by-test}
 use Rattle.text_utf8.specs.Utf8.{verdict}
 use Rattle.text_utf8.specs.declared.Verdict.{Verdict}
@@ -17,54 +18,64 @@ use Rattle.text_content.specs.Value.{content}
 use Rattle.text_content.specs.Canonical.{canonical}
 use Rattle.text_content.specs.Fault.{stringFault, numberFault, keyFault}
 use Rattle.text.specs.Question.{tooLong, textNumber}
-use Rattle.text.specs.Answer.{byFaults, byTree, byVerdict, checked, numberOf, formOf, form, canonicalNumber, canonicalLength, canonicalBytes}
+use Rattle.text.specs.Answer.{faultNumber, byFaults, byTree, byVerdict, checked, numberOf, formOf, form, canonicalNumber, canonicalLength, canonicalBytes, isCanonical}
+use Rattle.text.specs.declared.Fault.{Fault}
+use Rattle.text.specs.declared.Fault.the-variants.{TooLong, NotUtf8, NotJson, BadString, BadNumber, SameKeys}
 use Rattle.text.specs.declared.Checked.{Checked}
 use Rattle.text.specs.declared.Checked.the-variants.{Accepted, Refused}
 use Rattle.text.proofs.Numbers.{number-checked}
 use Rattle.text.proofs.Taken.{taken, form-short, text-small}
 
--- a refusal has a number that is not 0, and what is taken has the length of its form
-pub data Outcome (f : List ℕ) : Checked → Type 0 where
-  is-refused : {n k : ℕ} → 0 < n → Outcome f (Refused n k)
-  is-accepted : {n : ℕ} → n ≡ length f → Outcome f (Accepted n)
+-- the number of a fault is not 0
+fault-positive : (f : Fault) → 0 < faultNumber f
+fault-positive TooLong = omega arith
+fault-positive (NotUtf8 k) = omega arith
+fault-positive (NotJson k) = omega arith
+fault-positive (BadString k) = omega arith
+fault-positive (BadNumber k) = omega arith
+fault-positive (SameKeys k) = omega arith
 
-by-tree : (n : ℕ) (x : Read Syntax) → Outcome (formOf x) (byTree n x)
+pub refused-positive : (f : Fault) (n : ℕ) → n ≡ faultNumber f → 0 < n
+refused-positive f n e = let h = fault-positive f in omega arith
+
+-- what is taken has the length of its form, and whether it is its form
+data Outcome (s f : List ℕ) : Checked → Type 0 where
+  is-refused : {x : Fault} → Outcome s f (Refused x)
+  is-accepted : Outcome s f (Accepted (length f) (same f s))
+
+by-tree : (s : List ℕ) (x : Read Syntax) → Outcome s (formOf x) (byTree s x)
 unfolding byTree byFaults formOf
-by-tree n (stuck r) = is-refused {n = 3} (omega arith)
-by-tree n (found t r) =
-    by-test (ltb 0 (stringFault t)) (λ e. rw (e, byFaults) (is-refused {n = 4} (omega arith))) (λ e. rw (e, byFaults)
-    (by-test (ltb 0 (numberFault t)) (λ f. rw f (is-refused {n = 5} (omega arith))) (λ f. rw f
-    (by-test (ltb 0 (keyFault t)) (λ g. rw g (is-refused {n = 6} (omega arith))) (λ g. rw g (is-accepted refl))))))
+by-tree s (stuck r) = is-refused
+by-tree s (found t r) =
+    by-test (ltb 0 (stringFault t)) (λ e. rw (e, byFaults) is-refused) (λ e. rw (e, byFaults)
+    (by-test (ltb 0 (numberFault t)) (λ f. rw f is-refused) (λ f. rw f
+    (by-test (ltb 0 (keyFault t)) (λ g. rw g is-refused) (λ g. rw g is-accepted)))))
 
-pub outcome : (s : List ℕ) → Outcome (form s) (checked s)
+outcome : (s : List ℕ) → Outcome s (form s) (checked s)
 unfolding checked byVerdict form
-outcome s = by-test (tooLong s) (λ e. rw (e, checked) (is-refused {n = 1} (omega arith))) (λ e. rw (e, checked) (go (verdict s)))
+outcome s = by-test (tooLong s) (λ e. rw (e, checked) is-refused) (λ e. rw (e, checked) (go (verdict s)))
   where
-    go : (v : Verdict) → Outcome (formOf (readText 8 s)) (byVerdict s v)
-    go WellFormed = by-tree (length s) (readText 8 s)
-    go (Bad k) = is-refused {n = 2} (omega arith)
+    go : (v : Verdict) → Outcome s (formOf (readText 8 s)) (byVerdict s v)
+    go WellFormed = by-tree s (readText 8 s)
+    go (Bad k) = is-refused
 
-positive : (f : List ℕ) (c : Checked) (n k : ℕ) → Outcome f c → c ≡ Refused n k → 0 < n
-positive f c n k (is-refused {n = m} h) e = let q : m ≡ n = cc in omega arith
-positive f c n k (is-accepted h) e = let z : _≡_ {A = ℕ} 0 1 = cc in absurd (omega arith)
-
-sized : (f : List ℕ) (c : Checked) (n : ℕ) → Outcome f c → c ≡ Accepted n → n ≡ length f
-sized f c n (is-accepted {n = m} h) e = let q : m ≡ n = cc in omega arith
-sized f c n (is-refused h) e = let z : _≡_ {A = ℕ} 0 1 = cc in absurd (omega arith)
+holds : (s f : List ℕ) (x : Checked) (n : ℕ) (c : Bool) → Outcome s f x → x ≡ Accepted n c → (n ≡ length f) × (c ≡ same f s)
+holds s f x n c is-accepted e =
+    let l : length f ≡ n = cc in
+    let d : same f s ≡ c = cc in
+    (sym l, sym d)
+holds s f x n c is-refused e = let z : _≡_ {A = ℕ} 0 1 = cc in absurd (omega arith)
 
 module _ (s out : List ℕ) where
   -- a refusal by 1 to 6
-  module _ (n k : ℕ) (e : checked s ≡ Refused n k) where
-    number-is : textNumber s ≡ n
+  module _ (f : Fault) (e : checked s ≡ Refused f) where
+    number-is : textNumber s ≡ faultNumber f
     number-is = sym (number-checked s) ∙ ap numberOf e
 
-    pub refused-positive : 0 < n
-    refused-positive = positive (form s) (checked s) n k (outcome s) e
-
     not-zero : eqb (textNumber s) 0 ≡ false
-    not-zero = let h = positive (form s) (checked s) n k (outcome s) e in ne-eqb (textNumber s) 0 (λ z. omega (arith, number-is))
+    not-zero = let h = fault-positive f in ne-eqb (textNumber s) 0 (λ z. omega (arith, number-is))
 
-    pub refused-number : n ≡ canonicalNumber s (length out)
+    pub refused-number : faultNumber f ≡ canonicalNumber s (length out)
     unfolding canonicalNumber
     refused-number = sym (rw (not-zero, canonicalNumber) number-is)
 
@@ -81,12 +92,12 @@ module _ (s out : List ℕ) where
     unfolding canonicalBytes
     refused-bytes = sym (rw (is-number, canonicalBytes))
 
-  module _ (n : ℕ) (e : checked s ≡ Accepted n) where
+  module _ (n : ℕ) (c : Bool) (e : checked s ≡ Accepted n c) where
     pub accepted-number : textNumber s ≡ 0
     accepted-number = sym (number-checked s) ∙ ap numberOf e
 
     pub accepted-size : n ≡ length (form s)
-    accepted-size = sized (form s) (checked s) n (outcome s) e
+    accepted-size = holds s (form s) (checked s) n c (outcome s) e .0
 
     zero : eqb (textNumber s) 0 ≡ true
     zero = eq-eqb (textNumber s) 0 accepted-number
@@ -135,3 +146,18 @@ length-small s m =
     by-test (eqb (canonicalNumber s m) 0)
     (λ e. rw (e, canonicalLength) (let p = taken s (zero-taken s m (eqb-true (canonicalNumber s m) 0 e)) in omega (arith, form-short s p, p .short)))
     (λ e. rw (e, canonicalLength) (omega arith))
+
+-- the length that is told of a text that is taken is that of its form
+pub accepted-length : (s : List ℕ) (n : ℕ) (c : Bool) → checked s ≡ Accepted n c → n ≡ length (form s)
+accepted-length s n c e = holds s (form s) (checked s) n c (outcome s) e .0
+
+-- the flag of a text that is taken says whether it is its own form
+pub accepted-flag : (s : List ℕ) (n : ℕ) (c : Bool) → checked s ≡ Accepted n c → c ≡ isCanonical s
+unfolding isCanonical
+accepted-flag s n c e =
+    holds s (form s) (checked s) n c (outcome s) e .1 ∙ sym (rw (eq-eqb (textNumber s) 0 (accepted-number s [] n c e)))
+
+-- a text that is refused is not
+pub refused-flag : (s : List ℕ) (f : Fault) → checked s ≡ Refused f → isCanonical s ≡ false
+unfolding isCanonical
+refused-flag s f e = rw (not-zero s [] f e)

@@ -1,4 +1,4 @@
--- What checking a text answers, with the place of its fault; and what canonical answers and writes.
+-- What checking a text answers, with document 01's number and the place of each fault; and what canonical answers and writes.
 use Prim.Native.Nat.{ℕ, _-_}
 use mathlib.Core.List.{List, [], _++_}
 use mathlib.Core.Bool.{Bool, true, false, _&&_}
@@ -11,41 +11,62 @@ use Rattle.text_utf8.specs.declared.Verdict.the-variants.{WellFormed, Bad}
 use Rattle.text_json.specs.Syntax.{Syntax}
 use Rattle.text_json.specs.Read.{Read, found, stuck, readText}
 use Rattle.text_content.specs.Value.{content}
-use Rattle.text_content.specs.Canonical.{canonical}
+use Rattle.text_content.specs.Canonical.{canonical, ordered}
 use Rattle.text_content.specs.Fault.{stringFault, numberFault, keyFault}
 use Rattle.text.specs.Question.{tooLong, textNumber}
+use Rattle.text.specs.declared.Fault.{Fault}
+use Rattle.text.specs.declared.Fault.the-variants.{TooLong, NotUtf8, NotJson, BadString, BadNumber, SameKeys}
 use Rattle.text.specs.declared.Checked.{Checked}
 use Rattle.text.specs.declared.Checked.the-variants.{Accepted, Refused}
 
--- a fault's place is the text's length less what is left from there on
-unfoldable pub byFaults : ℕ → Syntax → Checked
-byFaults n t =
+-- the number of each fault in document 01's table ("What comes back")
+abbrev pub faultNumber : Fault → ℕ
+faultNumber TooLong = 1
+faultNumber (NotUtf8 k) = 2
+faultNumber (NotJson k) = 3
+faultNumber (BadString k) = 4
+faultNumber (BadNumber k) = 5
+faultNumber (SameKeys k) = 6
+
+-- the offset of each fault; a text that is too long has none, which is told by 0
+abbrev pub faultPlace : Fault → ℕ
+faultPlace TooLong = 0
+faultPlace (NotUtf8 k) = k
+faultPlace (NotJson k) = k
+faultPlace (BadString k) = k
+faultPlace (BadNumber k) = k
+faultPlace (SameKeys k) = k
+
+-- document 01's number for an answer, 0 where the text is taken
+abbrev pub numberOf : Checked → ℕ
+numberOf (Accepted n c) = 0
+numberOf (Refused f) = faultNumber f
+
+-- The answer for a text of n bytes with the syntax tree t, where c says whether it is its own form. A fault's offset is the text's length
+-- less what is left from the fault on.
+unfoldable pub byFaults : ℕ → Bool → Syntax → Checked
+byFaults n c t =
     elim (ltb 0 (stringFault t)) [
-      | true ↦ Refused 4 (n - stringFault t)
+      | true ↦ Refused (BadString (n - stringFault t))
       | false ↦
           elim (ltb 0 (numberFault t)) [
-            | true ↦ Refused 5 (n - numberFault t)
+            | true ↦ Refused (BadNumber (n - numberFault t))
             | false ↦
-                elim (ltb 0 (keyFault t)) [ true ↦ Refused 6 (n - keyFault t) | false ↦ Accepted (length (canonical (content t))) ]
+                elim (ltb 0 (keyFault t)) [ true ↦ Refused (SameKeys (n - keyFault t)) | false ↦ Accepted (length (canonical (content t))) c ]
           ]
     ]
 
-unfoldable pub byTree : ℕ → Read Syntax → Checked
-byTree n (found t r) = byFaults n t
-byTree n (stuck r) = Refused 3 (n - length r)
+unfoldable pub byTree : List ℕ → Read Syntax → Checked
+byTree s (found t r) = byFaults (length s) (same (canonical (content t)) s) t
+byTree s (stuck r) = Refused (NotJson (length s - length r))
 
 unfoldable pub byVerdict : List ℕ → Verdict → Checked
-byVerdict s WellFormed = byTree (length s) (readText 8 s)
-byVerdict s (Bad k) = Refused 2 k
+byVerdict s WellFormed = byTree s (readText 8 s)
+byVerdict s (Bad k) = Refused (NotUtf8 k)
 
--- the number of the fault and its place, or the length of the canonical form
+-- the fault of the lowest number that applies, or the length of the canonical form and whether the text is that form
 unfoldable pub checked : List ℕ → Checked
-checked s = elim (tooLong s) [ true ↦ Refused 1 0 | false ↦ byVerdict s (verdict s) ]
-
--- document 01's number for an answer
-abbrev pub numberOf : Checked → ℕ
-numberOf (Accepted n) = 0
-numberOf (Refused n k) = n
+checked s = elim (tooLong s) [ true ↦ Refused TooLong | false ↦ byVerdict s (verdict s) ]
 
 -- the canonical form of a text
 unfoldable pub formOf : Read Syntax → List ℕ
@@ -72,3 +93,7 @@ canonicalBytes s out =
 -- the text is accepted and is its own canonical form
 unfoldable pub isCanonical : List ℕ → Bool
 isCanonical s = eqb (textNumber s) 0 && same (form s) s
+
+-- the same of a text of n bytes by its syntax tree: it is as long as the form, and the keys of every object are in rising order
+unfoldable pub isForm : ℕ → Syntax → Bool
+isForm n t = eqb (length (canonical (content t))) n && ordered (content t)

@@ -1,5 +1,5 @@
 -- The questions 1 to 6 of document 01's table ("What comes back"), each over the whole text, and the number that is given: the
--- lowest that applies, 0 where none does.
+-- lowest that applies, 0 where none does. Where a fault stands is said by `checked` (Answer).
 use Prim.Native.Nat.{ℕ}
 use mathlib.Core.List.{List, [], _∷_}
 use mathlib.Core.Bool.{Bool, true, false, not}

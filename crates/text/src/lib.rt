@@ -3,9 +3,8 @@ use text_scan::Scanned;
 use text_utf8::Verdict;
 ghost use mathlib.Core.Path.{_≡_};
 ghost use mathlib.Core.List.{_++_};
-ghost use Rattle.text.specs.Keys.{KeyRoom, RootKeys, FormReady, refusedText};
-ghost use Rattle.text.specs.Answer.{checked, byTree, byFaults, form, canonicalNumber, canonicalLength, canonicalBytes, isCanonical};
-ghost use Rattle.laws.specs.Order.{same};
+ghost use Rattle.text.specs.Keys.{KeyRoom, RootKeys, FormReady, refusedText, withCount};
+ghost use Rattle.text.specs.Answer.{faultNumber, faultPlace, checked, byTree, byFaults, isForm, form, canonicalNumber, canonicalLength, canonicalBytes, isCanonical};
 ghost use Prim.Native.Nat.{_-_, _≤_};
 ghost use lib.ListN.{length, drop};
 ghost use Rattle.text_json.specs.Syntax.{Syntax};
@@ -13,10 +12,50 @@ ghost use Rattle.text_json.specs.Read.{readText};
 ghost use Rattle.text_canonical.specs.Room.{WritableRoot, WritesValue};
 ghost use Rattle.text_scan.specs.Summary.{summary};
 
-// A text that is taken, with the length of its canonical form; or document 01's number and the offset of the fault.
+// Why a text is refused, by document 01's questions 1 to 6, each with the offset of the fault; a text that is too long has none.
+pub enum Fault {
+    TooLong,
+    NotUtf8(usize),
+    NotJson(usize),
+    BadString(usize),
+    BadNumber(usize),
+    SameKeys(usize),
+}
+
+impl Fault {
+    // Its number in document 01's table.
+    pub fn number(self) -> usize
+        ensures { λ r. ⌜ r ≡ faultNumber self ⌝ }
+    {
+        match self {
+            Fault::TooLong => 1,
+            Fault::NotUtf8(_) => 2,
+            Fault::NotJson(_) => 3,
+            Fault::BadString(_) => 4,
+            Fault::BadNumber(_) => 5,
+            Fault::SameKeys(_) => 6,
+        }
+    }
+
+    // Its offset in the text, 0 where the text is too long.
+    pub fn place(self) -> usize
+        ensures { λ r. ⌜ r ≡ faultPlace self ⌝ }
+    {
+        match self {
+            Fault::TooLong => 0,
+            Fault::NotUtf8(at) => at,
+            Fault::NotJson(at) => at,
+            Fault::BadString(at) => at,
+            Fault::BadNumber(at) => at,
+            Fault::SameKeys(at) => at,
+        }
+    }
+}
+
+// A text that is taken, with the length of its canonical form and whether it is that form itself; or its fault.
 pub enum Checked {
-    Accepted(usize),
-    Refused(usize, usize),
+    Accepted { length: usize, canonical: bool },
+    Refused(Fault),
 }
 
 pub fn check(text: &[u8]) -> Checked
@@ -28,18 +67,18 @@ pub fn check(text: &[u8]) -> Checked
     known.answer
 }
 
-// What checking answers, and where the text is taken, how many keys its value has itself: they are left sorted.
+// What checking answers, and how many keys the text's value has itself: 0 where it is no object or the text is refused. The keys are left sorted.
 pub struct Known {
     pub answer: Checked,
     pub count: usize,
 }
 
 // A refusal leaves no keys.
-fn refusal(number: usize, at: usize) -> Known
-    ensures { λ r. ⌜ r ≡ refusedText number at ⌝ }
+fn refusal(fault: Fault) -> Known
+    ensures { λ r. ⌜ r ≡ refusedText fault ⌝ }
 {
     Known {
-        answer: Checked::Refused(number, at),
+        answer: Checked::Refused(fault),
         count: 0,
     }
 }
@@ -51,43 +90,69 @@ fn check_with(text: &[u8], keys: &mut [u16], spare: &mut [u16]) -> Known
     ensures { λ r. ⌜ RootKeys (now (text .entry)) (r .answer) (r .count) (now (keys .exit)) ⌝ }
 {
     if 16384 < text.len() {
-        return refusal(1, 0);
+        return refusal(Fault::TooLong);
     }
     match text_utf8::check(text) {
         Verdict::WellFormed => check_json(text, keys, spare),
-        Verdict::Bad(at) => refusal(2, at),
+        Verdict::Bad(at) => refusal(Fault::NotUtf8(at)),
     }
 }
 
 fn check_json(text: &[u8], keys: &mut [u16], spare: &mut [u16]) -> Known
     requires { ⌜ (length (now text) ≤ 16384) × KeyRoom (now keys) (now spare) ⌝ }
-    ensures { λ r. ⌜ r .answer ≡ byTree (length (now (text .entry))) (readText 8 (now (text .entry))) ⌝ }
+    ensures { λ r. ⌜ r .answer ≡ byTree (now (text .entry)) (readText 8 (now (text .entry))) ⌝ }
     ensures { λ r. ⌜ RootKeys (now (text .entry)) (r .answer) (r .count) (now (keys .exit)) ⌝ }
 {
     let f = match text_scan::text(text, keys, spare) {
         Scanned::Value(f) => f,
-        Scanned::Stuck(at) => return refusal(3, at),
+        Scanned::Stuck(at) => return refusal(Fault::NotJson(at)),
     };
     let sum = f.sum;
-    let answer = by_faults(text.len(), sum);
-    let count = f.count;
-    Known { answer, count }
+    let canonical = is_form(text.len(), sum);
+    let answer = by_faults(text.len(), sum, canonical);
+    with_count(answer, f.count)
+}
+
+// A text of that length is as long as its form, and the keys of every object are in rising order.
+fn is_form(len: usize, sum: text_scan::Summary) -> bool
+    ensures { λ r. ⌜ ((t : Syntax) → sum ≡ summary t → r ≡ isForm len t) ⌝ }
+{
+    if sum.size != len {
+        return false;
+    }
+    sum.ordered
 }
 
 // The first fault of a text of that length, or the length of its canonical form.
-fn by_faults(len: usize, sum: text_scan::Summary) -> Checked
-    ensures { λ r. ⌜ ((t : Syntax) → sum ≡ summary t → r ≡ byFaults len t) ⌝ }
+fn by_faults(len: usize, sum: text_scan::Summary, canonical: bool) -> Checked
+    ensures { λ r. ⌜ ((t : Syntax) → sum ≡ summary t → r ≡ byFaults len canonical t) ⌝ }
 {
     if 0 < sum.string {
-        return Checked::Refused(4, offset(len, sum.string));
+        return Checked::Refused(Fault::BadString(offset(len, sum.string)));
     }
     if 0 < sum.number {
-        return Checked::Refused(5, offset(len, sum.number));
+        return Checked::Refused(Fault::BadNumber(offset(len, sum.number)));
     }
     if 0 < sum.key {
-        return Checked::Refused(6, offset(len, sum.key));
+        return Checked::Refused(Fault::SameKeys(offset(len, sum.key)));
     }
-    Checked::Accepted(sum.size)
+    Checked::Accepted {
+        length: sum.size,
+        canonical,
+    }
+}
+
+// The answer, with the number of keys where the text is taken.
+fn with_count(answer: Checked, count: usize) -> Known
+    ensures { λ r. ⌜ r ≡ withCount answer count ⌝ }
+{
+    match answer {
+        Checked::Accepted {
+            length: _,
+            canonical: _,
+        } => Known { answer, count },
+        Checked::Refused(fault) => refusal(fault),
+    }
 }
 
 // The offset of the place from which on so many bytes of the text are left.
@@ -114,9 +179,12 @@ pub fn canonical(text: &[u8], out: &mut [u8]) -> Answer
     let known = check_with(text, &mut keys, &mut spare);
     let answer = known.answer;
     match answer {
-        Checked::Refused(number, _) => refused(out, number),
-        Checked::Accepted(size) => {
-            if out.len() < size {
+        Checked::Refused(fault) => refused(out, fault.number()),
+        Checked::Accepted {
+            length,
+            canonical: _,
+        } => {
+            if out.len() < length {
                 return refused(out, 20);
             }
             write_form(text, known.count, out, &mut keys, &mut spare)
@@ -168,29 +236,11 @@ fn write_value(
 pub fn is_canonical(text: &[u8]) -> bool
     ensures { λ r. ⌜ r ≡ isCanonical (now (text .entry)) ⌝ }
 {
-    let mut buffer = [0u8; 16384];
-    let a = canonical(text, &mut buffer);
-    let n = a.length;
-    if a.number == 0 {
-        if n <= 16384 {
-            return equal_bytes(&buffer[..n], text);
-        }
+    match check(text) {
+        Checked::Accepted {
+            length: _,
+            canonical,
+        } => canonical,
+        Checked::Refused(_) => false,
     }
-    false
-}
-
-fn equal_bytes(a: &[u8], b: &[u8]) -> bool
-    ensures { λ r. ⌜ r ≡ same (now (a .entry)) (now (b .entry)) ⌝ }
-{
-    if a.len() != b.len() {
-        return false;
-    }
-    let mut i = 0;
-    while i < a.len() {
-        if a[i] != b[i] {
-            return false;
-        }
-        i += 1;
-    }
-    true
 }

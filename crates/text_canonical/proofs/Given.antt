@@ -5,10 +5,10 @@ use mathlib.Core.List.{List, [], _∷_}
 use lib.ListN.{length, take, drop}
 use Rattle.laws.specs.Sort.{sort}
 use Rattle.text_json.specs.Syntax.{Syntax, Member, object as tree, members}
-use Rattle.text_json.specs.Grammar.{Word, Items, Listed, Pair, Value as Derives}
+use Rattle.text_json.specs.Grammar.{Word, Items, Listed, Pair, Value as Derives, Stops}
 use Rattle.text_json.specs.Read.{found, read}
 use Rattle.text_json.specs.Content.{unescape}
-use Rattle.text_json.proofs.Grammar.Complete.{Stops, brace-closes, comma-stops, space-stops, read-complete}
+use Rattle.text_json.proofs.Grammar.Complete.{brace-closes, comma-stops, space-stops, read-complete}
 use Rattle.text_content.specs.Value.{Fields, no-fields, object, content, fields}
 use Rattle.text_content.specs.Canonical.{sortedFields}
 use Rattle.text_strings.specs.InString.{keyLe}

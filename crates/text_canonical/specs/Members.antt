@@ -5,9 +5,8 @@ use mathlib.Core.List.{List, [], _∷_, _++_}
 use lib.ListN.{length, take, drop}
 use Rattle.laws.specs.Sort.{sort}
 use Rattle.text_json.specs.Syntax.{Member}
-use Rattle.text_json.specs.Grammar.{Pair, Value as Derives}
+use Rattle.text_json.specs.Grammar.{Pair, Value as Derives, Stops}
 use Rattle.text_json.specs.Content.{unescape, quoted}
-use Rattle.text_json.proofs.Grammar.Complete.{Stops}
 use Rattle.text_content.specs.Value.{Value, Fields, no-fields, field, object, content}
 use Rattle.text_content.specs.Canonical.{sorted, sortedFields, canonical}
 use Rattle.text_strings.specs.InString.{keyLe}

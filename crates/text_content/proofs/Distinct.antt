@@ -45,7 +45,7 @@ fresh-inserted : {k j : List ℕ} {v : Value} {fs gs : Fields} → Inserted j v 
 fresh-inserted here n f = fresh-field n f
 fresh-inserted (there i) n (fresh-field m f) = fresh-field m (fresh-inserted i n f)
 
-fresh-same : {k : List ℕ} {fs gs : Fields} → SameFields fs gs → Fresh k fs → Fresh k gs
+pub fresh-same : {k : List ℕ} {fs gs : Fields} → SameFields fs gs → Fresh k fs → Fresh k gs
 fresh-same same-empty f = f
 fresh-same (same-field p i h) (fresh-field n f) = fresh-inserted i n (fresh-same h f)
 

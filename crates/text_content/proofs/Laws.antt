@@ -22,13 +22,13 @@ pub record Clean (d : ℕ) (s : List ℕ) (t : Syntax) : Type 0 where
   pub keys : keyFault t ≡ 0
 
 -- what is known of a text's value
-text-distinct : {d : ℕ} {s : List ℕ} {t : Syntax} → Text d s t → keyFault t ≡ 0 → Distinct (content t)
+pub text-distinct : {d : ℕ} {s : List ℕ} {t : Syntax} → Text d s t → keyFault t ≡ 0 → Distinct (content t)
 text-distinct {d} (Text.text {s₁ = s₁} {s₂ = s₂} {t = t} g h g′) e = content-distinct d s₁ t s₂ h e
 
 text-in-range : {d : ℕ} {s : List ℕ} {t : Syntax} → Text d s t → numberFault t ≡ 0 → InRange (content t)
 text-in-range {d} (Text.text {s₁ = s₁} {s₂ = s₂} {t = t} g h g′) e = content-in-range d s₁ t s₂ h e
 
-text-reads-back : {d : ℕ} {s : List ℕ} {t : Syntax} → Text d s t → stringFault t ≡ 0 → ReadsText d (canonical (content t)) (sorted (content t))
+pub text-reads-back : {d : ℕ} {s : List ℕ} {t : Syntax} → Text d s t → stringFault t ≡ 0 → ReadsText d (canonical (content t)) (sorted (content t))
 text-reads-back {d} (Text.text {s₁ = s₁} {s₂ = s₂} {t = t} g h g′) e = canonical-reads-back d s₁ t s₂ h e
 
 clean-distinct : {d : ℕ} {s : List ℕ} {t : Syntax} → Clean d s t → Distinct (content t)

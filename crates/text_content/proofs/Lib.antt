@@ -7,5 +7,7 @@ pub mod ReadBack
 pub mod Same
 pub mod Distinct
 pub mod Laws
+pub mod Ordered
+pub mod OwnForm
 pub mod Utf8Parts
 pub mod FormUtf8

@@ -19,11 +19,11 @@ use Rattle.text_content.specs.Canonical.{canonical}
 use Rattle.text_content.proofs.Size.{enclosed, sizeOf, sizeOfElements, sizeOfMembers, size-canonical}
 
 -- what each part of the grammar takes of a text, at least
-space-length : {s r : List ℕ} → Space s r → length r ≤ length s
+pub space-length : {s r : List ℕ} → Space s r → length r ≤ length s
 space-length Space.end = omega arith
 space-length (Space.more e h) = omega (arith, space-length h)
 
-word-length : {w s r : List ℕ} → Word w s r → length w + length r ≡ length s
+pub word-length : {w s r : List ℕ} → Word w s r → length w + length r ≡ length s
 word-length Word.end = omega arith
 word-length (Word.more e h) = omega (arith, word-length h)
 
@@ -31,18 +31,18 @@ digits-length : {s ds r : List ℕ} → Digits s ds r → length ds + length r �
 digits-length Digits.end = omega arith
 digits-length (Digits.more e h) = omega (arith, digits-length h)
 
-some-digits-length : {s r : List ℕ} → SomeDigits s r → length r ≤ length s
+pub some-digits-length : {s r : List ℕ} → SomeDigits s r → length r ≤ length s
 some-digits-length (SomeDigits.digits e h) = omega (arith, digits-length h)
 
-int-length : {s ds r : List ℕ} → Int s ds r → length ds + length r ≡ length s
+pub int-length : {s ds r : List ℕ} → Int s ds r → length ds + length r ≡ length s
 int-length (Int.lone-zero e) = omega arith
 int-length (Int.from-nonzero e n h) = omega (arith, digits-length h)
 
-frac-length : {s r : List ℕ} {f : Bool} → Frac s f r → length r ≤ length s
+pub frac-length : {s r : List ℕ} {f : Bool} → Frac s f r → length r ≤ length s
 frac-length Frac.absent = omega arith
 frac-length (Frac.present e h) = omega (arith, some-digits-length h)
 
-exp-length : {s r : List ℕ} {e : Bool} → Exp s e r → length r ≤ length s
+pub exp-length : {s r : List ℕ} {e : Bool} → Exp s e r → length r ≤ length s
 exp-length Exp.absent = omega arith
 exp-length (Exp.unsigned e h) = omega (arith, some-digits-length h)
 exp-length (Exp.signed e f h) = omega (arith, some-digits-length h)
@@ -50,7 +50,7 @@ exp-length (Exp.signed e f h) = omega (arith, some-digits-length h)
 unsigned-length : {negative : Bool} {s r : List ℕ} {n : Numeral} → Unsigned negative s n r → length (n .digits) + length r ≤ length s
 unsigned-length (Unsigned.unsigned i f e) = omega (arith, int-length i, frac-length f, exp-length e)
 
-unsigned-sign : {negative : Bool} {s r : List ℕ} {n : Numeral} → Unsigned negative s n r → n .negative ≡ negative
+pub unsigned-sign : {negative : Bool} {s r : List ℕ} {n : Numeral} → Unsigned negative s n r → n .negative ≡ negative
 unsigned-sign (Unsigned.unsigned i f e) = refl
 
 number-length : {s r : List ℕ} {n : Numeral} → Number s n r → length (signed (n .negative) (n .digits)) + length r ≤ length s
@@ -59,11 +59,11 @@ number-length (Number.plain h) = rw (unsigned-sign h, signed) (unsigned-length h
 number-length (Number.minus e h) = rw (unsigned-sign h, signed) (omega (arith, unsigned-length h))
 
 -- a byte in a string is written by at most two, and by one if it is neither the quotation mark nor the backslash
-escaped-byte : (b : ℕ) (s : List ℕ) → length (escaped (b ∷ s)) ≤ 2 + length (escaped s)
+pub escaped-byte : (b : ℕ) (s : List ℕ) → length (escaped (b ∷ s)) ≤ 2 + length (escaped s)
 unfolding escaped
 escaped-byte b s = by-test (eqb b 0x22 || eqb b 0x5C) (λ e. rw (e, escaped) (omega arith)) (λ e. rw (e, escaped) (omega arith))
 
-escaped-plain : (b : ℕ) (s : List ℕ) → (b ≡ 0x22 → ⊥) → (b ≡ 0x5C → ⊥) → escaped (b ∷ s) ≡ b ∷ escaped s
+pub escaped-plain : (b : ℕ) (s : List ℕ) → (b ≡ 0x22 → ⊥) → (b ≡ 0x5C → ⊥) → escaped (b ∷ s) ≡ b ∷ escaped s
 unfolding escaped
 escaped-plain b s p q = rw (ne-eqb b 0x22 p, escaped) (rw (ne-eqb b 0x5C q))
 
@@ -110,12 +110,12 @@ escaped-encode u =
         )
         (omega (arith, escaped-none))
 
--- what a char takes in canonical form, at most; the text has at least that for it
-charSize : Char → ℕ
+-- what a char takes in canonical form, at most; the text has at least that for it, and more for a \u escape
+unfoldable pub charSize : Char → ℕ
 charSize (byte b) = length (escaped (b ∷ []))
-charSize (unit u) = 6
+charSize (unit u) = 4
 
-charsSize : List Char → ℕ
+unfoldable pub charsSize : List Char → ℕ
 charsSize [] = 0
 charsSize (c ∷ cs) = charSize c + charsSize cs
 
@@ -132,7 +132,7 @@ unfolding unescape
 unescape-lone u v cs e =
     ap (λ (t : Bool). elim t as (λ _. List ℕ) [ true ↦ encode (pairValue u v) ++ unescape cs | false ↦ encode u ++ unescape (unit v ∷ cs) ]) e
 
-escaped-size : (cs : List Char) → length (escaped (unescape cs)) ≤ charsSize cs
+pub escaped-size : (cs : List Char) → length (escaped (unescape cs)) ≤ charsSize cs
 unfolding unescape charSize charsSize
 escaped-size [] = omega (arith, escaped-none)
 escaped-size (byte b ∷ cs) = omega (arith, escaped-split (b ∷ []) (unescape cs), escaped-size cs)
@@ -148,19 +148,22 @@ escaped-size (unit u ∷ unit v ∷ cs) = by-test (isPair u v) (two (escaped-siz
         → length (escaped (unescape (unit u ∷ unit v ∷ cs))) ≤ charsSize (unit u ∷ unit v ∷ cs)
     one ih e = rw (unescape-lone u v cs e) (omega (arith, escaped-split (encode u) (unescape (unit v ∷ cs)), escaped-encode u))
 
-unescaped-size : (b : ℕ) → isUnescaped b ≡ true → length (escaped (b ∷ [])) ≡ 1
+-- a byte that stands for itself is written as it stands
+pub escaped-unescaped : (b : ℕ) (s : List ℕ) → isUnescaped b ≡ true → escaped (b ∷ s) ≡ b ∷ escaped s
 unfolding isUnescaped
-unescaped-size b e =
-    ap length (escaped-plain b [] (λ q. false-true (ap isUnescaped (sym q) ∙ e)) (λ q. false-true (ap isUnescaped (sym q) ∙ e))) ∙ omega (arith, escaped-none)
+escaped-unescaped b s e = escaped-plain b s (λ q. false-true (ap isUnescaped (sym q) ∙ e)) (λ q. false-true (ap isUnescaped (sym q) ∙ e))
 
-chars-size : {s r : List ℕ} {cs : List Char} → Chars s cs r → charsSize cs + 1 + length r ≤ length s
+unescaped-size : (b : ℕ) → isUnescaped b ≡ true → length (escaped (b ∷ [])) ≡ 1
+unescaped-size b e = ap length (escaped-unescaped b [] e) ∙ omega (arith, escaped-none)
+
+pub chars-size : {s r : List ℕ} {cs : List Char} → Chars s cs r → charsSize cs + 1 + length r ≤ length s
 unfolding charSize charsSize
 chars-size (Chars.close e) = omega arith
 chars-size (Chars.unescaped {b = b} e h) = omega (arith, chars-size h, unescaped-size b e)
 chars-size (Chars.short {b = b} e f h) = omega (arith, chars-size h, escaped-byte (shortValue b) [], escaped-none)
 chars-size (Chars.hex e f g i j k h) = omega (arith, chars-size h)
 
-string-length : {s r : List ℕ} {cs : List Char} → String s cs r → length (quoted (unescape cs)) + length r ≤ length s
+pub string-length : {s r : List ℕ} {cs : List Char} → String s cs r → length (quoted (unescape cs)) + length r ≤ length s
 unfolding quoted
 string-length (String.quoted {cs = cs} e h) = simp length-append (omega (arith, chars-size h, escaped-size cs))
 
@@ -173,41 +176,41 @@ scalar-length (Scalar.is-number h) = number-length h
 scalar-length (Scalar.is-string h) = string-length h
 
 -- the items of a list, each with the mark after it
-totalSize : {A : Type 0} → (A → ℕ) → List A → ℕ
+unfoldable pub totalSize : {A : Type 0} → (A → ℕ) → List A → ℕ
 totalSize f [] = 0
 totalSize f (t ∷ ts) = f t + 1 + totalSize f ts
 
-memberSize : Member → ℕ
+unfoldable pub memberSize : Member → ℕ
 memberSize m = length (quoted (unescape (m .key))) + 1 + sizeOf (m .value)
 
-elements-size : (ts : List Syntax) → sizeOfElements (elements ts) ≡ totalSize sizeOf ts
+pub elements-size : (ts : List Syntax) → sizeOfElements (elements ts) ≡ totalSize sizeOf ts
 unfolding elements sizeOfElements totalSize
 elements-size [] = refl
 elements-size (t ∷ ts) = omega (arith, elements-size ts)
 
-members-size : (ms : List Member) → sizeOfMembers (members ms) ≡ totalSize memberSize ms
+pub members-size : (ms : List Member) → sizeOfMembers (members ms) ≡ totalSize memberSize ms
 unfolding members sizeOfMembers totalSize memberSize
 members-size [] = refl
 members-size (m ∷ ms) = omega (arith, members-size ms)
 
 module _
     {A : Type 0} (Item : List ℕ → A → List ℕ → Type 0) (f : A → ℕ) (fits : (s : List ℕ) (t : A) (r : List ℕ) → Item s t r → f t + length r ≤ length s) where
-  items-length : {m : ℕ} {s r : List ℕ} {ts : List A} → Items Item m s ts r → (1 ≤ totalSize f ts) × (totalSize f ts + length r ≤ length s)
+  pub items-length : {m : ℕ} {s r : List ℕ} {ts : List A} → Items Item m s ts r → (1 ≤ totalSize f ts) × (totalSize f ts + length r ≤ length s)
   unfolding totalSize
   items-length (Items.last h g w) = omega (arith, fits _ _ _ h, space-length g, word-length w)
   items-length (Items.next h g w g′ i) = omega (arith, fits _ _ _ h, space-length g, word-length w, space-length g′, items-length i)
 
-  listed-length : {m : ℕ} {s r : List ℕ} {ts : List A} → Listed Item m s ts r → enclosed (totalSize f ts) + length r ≤ suc (length s)
+  pub listed-length : {m : ℕ} {s r : List ℕ} {ts : List A} → Listed Item m s ts r → enclosed (totalSize f ts) + length r ≤ suc (length s)
   unfolding totalSize enclosed
   listed-length (Listed.empty g w) = omega (arith, space-length g, word-length w)
   listed-length (Listed.items g i) = omega (arith, space-length g, items-length i)
 
-pair-length : (Value : List ℕ → Syntax → List ℕ → Type 0) → ((s : List ℕ) (t : Syntax) (r : List ℕ) → Value s t r → sizeOf t + length r ≤ length s)
+pub pair-length : (Value : List ℕ → Syntax → List ℕ → Type 0) → ((s : List ℕ) (t : Syntax) (r : List ℕ) → Value s t r → sizeOf t + length r ≤ length s)
     → (s : List ℕ) (m : Member) (r : List ℕ) → Pair Value s m r → memberSize m + length r ≤ length s
 unfolding memberSize
 pair-length Value fits s m r (Pair.pair k g w g′ v) = omega (arith, string-length k, space-length g, word-length w, space-length g′, fits _ _ _ v)
 
-value-length : (d : ℕ) (s : List ℕ) (t : Syntax) (r : List ℕ) → Grammar.Value d s t r → sizeOf t + length r ≤ length s
+pub value-length : (d : ℕ) (s : List ℕ) (t : Syntax) (r : List ℕ) → Grammar.Value d s t r → sizeOf t + length r ≤ length s
 unfolding sizeOf
 value-length zero s t r h = scalar-length h
 value-length (suc d) s t r (Nested.is-scalar h) = scalar-length h

@@ -2,7 +2,7 @@
 -- newline outside strings, strings as raw UTF-8 with only the quotation mark and the backslash escaped.
 use Prim.Native.Nat.{ℕ}
 use mathlib.Core.List.{List, [], _∷_, _++_}
-use mathlib.Core.Bool.{Bool, true, false}
+use mathlib.Core.Bool.{Bool, true, false, _&&_}
 use Rattle.laws.specs.Order.{leq}
 use Rattle.text_json.specs.Content.{quoted, signed}
 use Rattle.text_content.specs.Value.{Value, Values, Fields, null, boolean, number, string, array, object, no-values, value, no-fields, field}
@@ -56,3 +56,27 @@ unfoldable mutual
 -- the canonical form of a content
 unfoldable pub canonical : Value → List ℕ
 canonical v = write (sorted v)
+
+-- no key comes after the next one
+unfoldable pub keysOrdered : Fields → Bool
+keysOrdered no-fields = true
+keysOrdered (field k v no-fields) = true
+keysOrdered (field k v (field j w fs)) = leq k j && keysOrdered (field j w fs)
+
+-- the keys of every object are in rising order, at every level
+unfoldable mutual
+  pub ordered : Value → Bool
+  ordered null = true
+  ordered (boolean b) = true
+  ordered (number n ds) = true
+  ordered (string s) = true
+  ordered (array vs) = orderedValues vs
+  ordered (object fs) = keysOrdered fs && orderedFields fs
+
+  pub orderedValues : Values → Bool
+  orderedValues no-values = true
+  orderedValues (value v vs) = ordered v && orderedValues vs
+
+  pub orderedFields : Fields → Bool
+  orderedFields no-fields = true
+  orderedFields (field k v fs) = ordered v && orderedFields fs

@@ -1,4 +1,4 @@
--- The questions 1 to 6 of document 01's table, each over the whole text, and the number that is given: the lowest that applies.
+-- The questions 4, 5 and 6 of document 01's table ("What comes back") over the syntax tree of a text: for each, the place of the first fault.
 -- A fault's place is given by how many bytes of the text are left from there on, 0 where there is no fault: so the first fault in
 -- the text is the one with the most bytes left.
 use Prim.Native.Nat.{ℕ, max}

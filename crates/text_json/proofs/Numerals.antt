@@ -16,7 +16,7 @@ use Rattle.text_json.specs.Syntax.{Numeral}
 use Rattle.text_json.specs.Grammar.{both}
 use Rattle.text_json.specs.Content.{decimal, decimalFrom, limit, signed, refusedNumber}
 use Rattle.text_json.specs.Scan.{Scans}
-use Rattle.text_json.specs.Parts.{Near, IntAt, Stops, Reaches, readTail, refusedParts, signs, WithSign}
+use Rattle.text_json.specs.Parts.{Near, IntAt, ReadTo, Reaches, readTail, refusedParts, signs, WithSign}
 use Rattle.text_json.specs.Size.{Within, numeralSize}
 use Rattle.text_json.specs.declared.Scan.{Scan}
 use Rattle.text_json.specs.declared.Scan.the-variants.{Token, NoToken}
@@ -80,20 +80,20 @@ signed-size false ds = omega arith
 
 -- reading that goes on further ahead
 
-pub stops-from : {A : Type 0} (s : List ℕ) (at next e : ℕ) (x y z : Read A) → at ≤ next → x ≡ y → Stops s next e y z → Stops s at e x z
-stops-from s at next e x y z l p h = record { past = le-trans l (h .past); inside = h .inside; read = p ∙ h .read }
+pub read-to-from : {A : Type 0} (s : List ℕ) (at next e : ℕ) (x y z : Read A) → at ≤ next → x ≡ y → ReadTo s next e y z → ReadTo s at e x z
+read-to-from s at next e x y z l p h = record { past = le-trans l (h .past); inside = h .inside; read = p ∙ h .read }
 
 pub reaches-from : (s : List ℕ) (at next : ℕ) (x y : Read (Unit {0})) (r : Step) → at ≤ next → x ≡ y → Reaches s next y r → Reaches s at x r
-reaches-from s at next x y (End e) l p h = stops-from s at next e x y _ l p h
-reaches-from s at next x y (Stuck e) l p h = stops-from s at next e x y _ l p h
+reaches-from s at next x y (End e) l p h = read-to-from s at next e x y _ l p h
+reaches-from s at next x y (Stuck e) l p h = read-to-from s at next e x y _ l p h
 
 -- a fraction or an exponent that is there, of which digits must be read after its first byte
 module _ (s : List ℕ) (at e : ℕ) (x : Read (Unit {0})) (y : Read Bool) (here : y ≡ andThen x (λ _ r. found false r)) where
-  pub part-found : Stops s (at + 1) e x (found tt (drop e s)) → Stops s at e y (found false (drop e s))
+  pub part-found : ReadTo s (at + 1) e x (found tt (drop e s)) → ReadTo s at e y (found false (drop e s))
   unfolding andThen
   part-found h = record { past = omega (arith, h .past); inside = h .inside; read = here ∙ rw (h .read) }
 
-  pub part-stuck : Stops s (at + 1) e x (stuck (drop e s)) → Stops s at e y (stuck (drop e s))
+  pub part-stuck : ReadTo s (at + 1) e x (stuck (drop e s)) → ReadTo s at e y (stuck (drop e s))
   unfolding andThen
   part-stuck h = record { past = omega (arith, h .past); inside = h .inside; read = here ∙ rw (h .read) }
 
@@ -130,7 +130,7 @@ module _ (negative : Bool) (s : List ℕ) where
   unsigned-stuck r e = rw e
 
 module _ (negative whole : Bool) (s : List ℕ) (at m e v : ℕ) where
-  pub unsigned-token : IntAt s at m v → Stops s m e (readTail (drop m s)) (found whole (drop e s))
+  pub unsigned-token : IntAt s at m v → ReadTo s m e (readTail (drop m s)) (found whole (drop e s))
       → Scans refusedNumber numeralSize s (readUnsigned negative (drop at s)) (Token e (refusedParts negative v whole) (signs negative + (m - at)))
   unfolding andThen refusedNumber refusedParts numeralSize
   unsigned-token int rest =

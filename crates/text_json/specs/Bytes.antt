@@ -16,6 +16,10 @@ isSpace b = eqb b 0x20 || (eqb b 0x0A || (eqb b 0x0D || eqb b 0x09))
 unfoldable pub isDigit : ℕ → Bool
 isDigit b = between 0x30 0x39 b
 
+-- decimal-point (section 6)
+abbrev pub isPoint : ℕ → Bool
+isPoint b = eqb b 0x2E
+
 -- e = %x65 / %x45 (section 6)
 unfoldable pub isExp : ℕ → Bool
 isExp b = eqb b 0x65 || eqb b 0x45

@@ -4,7 +4,7 @@ use Prim.Native.Nat.{ℕ, zero, suc, _+_, _*_}
 use mathlib.Core.Path.{_≡_}
 use mathlib.Core.List.{List, [], _∷_}
 use mathlib.Core.Bool.{Bool, true, false}
-use Rattle.text_json.specs.Bytes.{isSpace, isDigit, isExp, isSign, isHex, hexValue, isUnescaped, isShort, shortValue}
+use Rattle.text_json.specs.Bytes.{isSpace, isDigit, isPoint, isExp, isSign, isHex, hexValue, isUnescaped, isShort, shortValue}
 use Rattle.text_json.specs.Syntax.{Char, byte, unit, Numeral, Syntax, null, boolean, number, string, array, object, Member, elements, members}
 
 -- ws = *( %x20 / %x09 / %x0A / %x0D )
@@ -112,3 +112,14 @@ Value (suc depth) = Nested (Value depth)
 -- JSON-text = ws value ws
 pub data Text (depth : ℕ) : List ℕ → Syntax → Type 0 where
   text : {s s₁ s₂ : List ℕ} {t : Syntax} → Space s s₁ → Value depth s₁ t s₂ → Space s₂ [] → Text depth s t
+
+-- the first byte of the text is in the set
+abbrev pub starts : (ℕ → Bool) → List ℕ → Bool
+starts p [] = false
+starts p (b ∷ s) = p b
+
+-- The text does not go on as a number does. The grammar leaves open where a number ends; before such a text only the longest one ends.
+pub record Stops (r : List ℕ) : Type 0 where
+  pub no-digit : starts isDigit r ≡ false
+  pub no-point : starts isPoint r ≡ false
+  pub no-exp : starts isExp r ≡ false

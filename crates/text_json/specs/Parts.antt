@@ -38,23 +38,23 @@ pub record IntAt (s : List ℕ) (at e v : ℕ) : Type 0 where
   pub count : at + length digits ≡ e
   pub value : Near v (decimal digits)
 
--- reading ends or is stuck at a position that is not before `at`
-pub record Stops {A : Type 0} (s : List ℕ) (at e : ℕ) (x : Read A) (y : Read A) : Type 0 where
+-- reading goes from `at` to e, where it ends or is stuck
+pub record ReadTo {A : Type 0} (s : List ℕ) (at e : ℕ) (x : Read A) (y : Read A) : Type 0 where
   pub past : at ≤ e
   pub inside : e ≤ length s
   pub read : x ≡ y
 
 abbrev pub Ints : List ℕ → ℕ → Int → Type 0
 Ints s at (Digits e v) = IntAt s at e v
-Ints s at (NoInt e) = Stops s at e (readInt (drop at s)) (stuck (drop e s))
+Ints s at (NoInt e) = ReadTo s at e (readInt (drop at s)) (stuck (drop e s))
 
 abbrev pub Parts : List ℕ → ℕ → Read Bool → Part → Type 0
-Parts s at x (Past e f) = Stops s at e x (found f (drop e s))
-Parts s at x (NoPart e) = Stops s at e x (stuck (drop e s))
+Parts s at x (Past e f) = ReadTo s at e x (found f (drop e s))
+Parts s at x (NoPart e) = ReadTo s at e x (stuck (drop e s))
 
 abbrev pub Reaches : List ℕ → ℕ → Read (Unit {0}) → Step → Type 0
-Reaches s at x (End e) = Stops s at e x (found tt (drop e s))
-Reaches s at x (Stuck e) = Stops s at e x (stuck (drop e s))
+Reaches s at x (End e) = ReadTo s at e x (found tt (drop e s))
+Reaches s at x (Stuck e) = ReadTo s at e x (stuck (drop e s))
 
 -- [ frac ] [ exp ]
 unfoldable pub readTail : List ℕ → Read Bool

@@ -1,28 +1,17 @@
--- Steps of the functions that sort: copying, seeing that keys are in order, and sorting by halves.
+-- Steps of the functions that sort: copying and sorting by halves.
 use Prim.Native.Nat.{ℕ, _+_, _<_, _≤_}
 use mathlib.Core.Path.{_≡_, sym, ap, _∙_}
 use mathlib.Core.List.{List}
-use mathlib.Core.Bool.{true}
-use native.Mathlib.Omega.{arith}
 use native.Mathlib.Numerals.{add-one}
 use lib.ListN.{length, take, drop, getD, set}
 use lib.Seq.{take-suc, take-suc-set, length-take-le}
-use Rattle.laws.specs.Sort.{sort, merge}
-use Rattle.laws.proofs.Rising.{sort-more}
+use Rattle.laws.specs.Sort.{merge}
 use Rattle.text_strings.specs.InString.{keyLe}
-use Rattle.text_keys.proofs.Merges.{opened}
 
 -- one more key is copied
 pub copied-next : (keys to : List ℕ) (i : ℕ) → i < length keys → i < length to → take i to ≡ take i keys
     → take (i + 1) (set to i (getD keys i 0)) ≡ take (i + 1) keys
 copied-next keys to i h g e = rw (add-one i, take-suc-set to i (getD keys i 0) g, take-suc keys i 0 h, e)
-
--- a key that is not after the next one stands before keys in order
-pub sorted-before : (s keys : List ℕ) (i : ℕ) → i + 1 < length keys → keyLe s (getD keys i 0) (getD keys (i + 1) 0) ≡ true
-    → sort (keyLe s) (drop (i + 1) keys) ≡ drop (i + 1) keys → sort (keyLe s) (drop i keys) ≡ drop i keys
-sorted-before s keys i h e q =
-    rw (opened keys i (omega arith), opened keys (i + 1) h)
-    (sort-more (keyLe s) (getD keys i 0) (getD keys (i + 1) 0) (drop (i + 1 + 1) keys) e (rw (opened keys (i + 1) h) at q))
 
 -- the left half, copied to the start of a list
 pub copied : (mid : ℕ) (keys to : List ℕ) → mid ≤ length keys → take (length (take mid keys)) to ≡ take mid keys → take mid to ≡ take mid keys

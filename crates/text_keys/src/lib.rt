@@ -3,22 +3,29 @@
 use text_strings::Order;
 ghost use mathlib.Core.Path.{_≡_};
 ghost use mathlib.Core.List.{List};
-ghost use mathlib.Core.Bool.{true};
 ghost use Prim.Native.Nat.{ℕ, _+_, _≤_, max};
 ghost use lib.ListN.{length, take, drop};
 ghost use Rattle.laws.specs.Sort.{sort, merge};
 ghost use Rattle.text_strings.specs.InString.{Inside, keyLe};
-ghost use Rattle.text_keys.specs.Keys.{KeysAt};
+ghost use Rattle.text_keys.specs.Keys.{KeysAt, risingKeys};
 ghost use Rattle.text_keys.specs.Repeats.{sameLeft, repeatLeft};
 
-// Sorts the keys and answers how much of the text is left from the first one on that is equal to an earlier one, 0 if there is none.
-pub fn order_keys(s: &[u8], keys: &mut [u16], spare: &mut [u16]) -> usize
+// What ordering the keys of an object finds: how much of the text is left from the first one on that is equal to an earlier one, 0 if
+// there is none, and whether they stood in rising order.
+pub struct Ordered {
+    pub left: usize,
+    pub rising: bool,
+}
+
+// Sorts the keys, and answers which one repeats an earlier one and whether they were in order already.
+pub fn order_keys(s: &[u8], keys: &mut [u16], spare: &mut [u16]) -> Ordered
     requires { ⌜ KeysAt (now s) (now keys) × (length (now keys) ≤ length (now spare)) ⌝ }
     ensures { λ _. ⌜ now (keys .exit) ≡ sort (keyLe (now (s .entry))) (now (keys .entry)) ⌝ }
-    ensures { λ r. ⌜ r ≡ repeatLeft (now (s .entry)) (now (keys .entry)) ⌝ }
+    ensures { λ r. ⌜ (r .left ≡ repeatLeft (now (s .entry)) (now (keys .entry))) × (r .rising ≡ risingKeys (now (s .entry)) (now (keys .entry))) ⌝ }
 {
-    sort_keys(s, keys, spare);
-    repeat_left(s, keys)
+    let rising = sort_unless_rising(s, keys, spare);
+    let left = repeat_left(s, keys);
+    Ordered { left, rising }
 }
 
 // Sorts the keys by their contents; equal keys keep their order. What `spare` holds is overwritten.
@@ -26,23 +33,33 @@ pub fn sort_keys(s: &[u8], keys: &mut [u16], spare: &mut [u16])
     requires { ⌜ KeysAt (now s) (now keys) × (length (now keys) ≤ length (now spare)) ⌝ }
     ensures { λ _. ⌜ now (keys .exit) ≡ sort (keyLe (now (s .entry))) (now (keys .entry)) ⌝ }
 {
-    // The keys of a text in canonical form are in order already.
-    if !in_order(s, keys) {
+    sort_unless_rising(s, keys, spare);
+}
+
+// Sorts the keys where they are not in rising order, and answers whether they were: those of a text in canonical form are.
+fn sort_unless_rising(s: &[u8], keys: &mut [u16], spare: &mut [u16]) -> bool
+    requires { ⌜ KeysAt (now s) (now keys) × (length (now keys) ≤ length (now spare)) ⌝ }
+    ensures { λ _. ⌜ now (keys .exit) ≡ sort (keyLe (now (s .entry))) (now (keys .entry)) ⌝ }
+    ensures { λ r. ⌜ r ≡ risingKeys (now (s .entry)) (now (keys .entry)) ⌝ }
+{
+    let rising = in_order(s, keys);
+    if !rising {
         merge_sort(s, keys, spare);
     }
+    rising
 }
 
 // No key comes after the next one.
 fn in_order(s: &[u8], keys: &[u16]) -> bool
     requires { ⌜ KeysAt (now s) (now keys) ⌝ }
-    ensures { λ r. ⌜ (r ≡ true → sort (keyLe (now (s .entry))) (now (keys .entry)) ≡ now (keys .entry)) ⌝ }
+    ensures { λ r. ⌜ r ≡ risingKeys (now (s .entry)) (now (keys .entry)) ⌝ }
 {
-    let mut i = 0;
-    while i + 1 < keys.len() {
-        if !not_after(s, keys[i], keys[i + 1]) {
+    let mut at = 0;
+    while at + 1 < keys.len() {
+        if !not_after(s, keys[at], keys[at + 1]) {
             return false;
         }
-        i += 1;
+        at += 1;
     }
     true
 }

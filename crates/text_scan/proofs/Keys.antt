@@ -36,10 +36,10 @@ unfolding sort
 no-keys-left s keys = record { places = []; here = no-places; within = omega arith; sorted = refl }
 
 -- the keys of an object whose end was read, sorted in place before what the list held past them
-pub closed-keys : (s : List ℕ) (x : Read Syntax) (e : ℕ) (sum : Summary) (repeated : ℕ) (ks ls xs rest : List ℕ) (z : Scanned)
-    → z ≡ closedValue e (length ks) sum repeated → xs ≡ sort (keyLe s) ks → length xs ≡ length ks → ks ≡ ls
+pub closed-keys : (s : List ℕ) (x : Read Syntax) (e : ℕ) (sum : Summary) (ks ls xs rest : List ℕ) (z : Scanned)
+    → z ≡ closedValue s e sum ks → xs ≡ sort (keyLe s) ks → length xs ≡ length ks → ks ≡ ls
     → ((n : ℕ) (keys : List ℕ) → n ≤ length keys → take n keys ≡ sort (keyLe s) ls → KeysOf s x n keys) → LeavesKeys s x (xs ++ rest) z
-closed-keys s x e sum repeated ks ls xs rest z a b c d h =
+closed-keys s x e sum ks ls xs rest z a b c d h =
     subst (LeavesKeys s x (xs ++ rest)) (sym a)
     (h (length ks) (xs ++ rest) (omega (arith, length-append xs rest)) (take-at xs rest (length ks) c ∙ b ∙ ap (sort (keyLe s)) d))
 

@@ -2,7 +2,7 @@
 use Prim.Native.Nat.{ℕ, suc, _+_, _*_, _-_, _<_, _≤_, max}
 use mathlib.Core.Path.{_≡_, refl, sym, ap, subst, _∙_}
 use mathlib.Core.List.{List, [], _∷_, _++_}
-use mathlib.Core.Bool.{Bool, true, false, cond}
+use mathlib.Core.Bool.{Bool, true, false, cond, _&&_, and-true, and-assoc}
 use native.Mathlib.Omega.{arith}
 use native.Mathlib.Numerals.{add-one}
 use lib.ListN.{length, take, drop, getD, set, length-append, length-drop, length-set}
@@ -19,8 +19,8 @@ use Rattle.text_json.proofs.Grammar.Ends.{inside-length}
 use Rattle.text_json.proofs.Grammar.Rests.{pair-inside, value-ends}
 use Rattle.text_json.proofs.Grammar.Sound.{string-sound, pair-sound, value-reads}
 use Rattle.text_json.specs.Grammar.{String}
-use Rattle.text_content.specs.Value.{content}
-use Rattle.text_content.specs.Canonical.{canonical}
+use Rattle.text_content.specs.Value.{content, fields}
+use Rattle.text_content.specs.Canonical.{canonical, ordered, orderedFields, keysOrdered}
 use Rattle.text_content.specs.Fault.{mark, repeated, stringFault, keyStringFaults, numberFault, memberNumberFaults, keyFault, memberKeyFaults}
 use Rattle.text_content.proofs.Size.{sizeOf, sizeOfMembers, enclosed, size-canonical, size-empty, size-enclosed, size-members-append}
 use Rattle.laws.specs.Sort.{sort}
@@ -28,11 +28,12 @@ use Rattle.text_strings.specs.InString.{Inside, InString, contentFrom, keyLe}
 use Rattle.text_strings.proofs.Contents.{content-from}
 use Rattle.text_strings.proofs.Views.{rest-at}
 use Rattle.text_keys.specs.Keys.{KeysAt, no-keys, key-at}
-use Rattle.text_keys.specs.Repeats.{Places, no-places, place-at, repeatLeft}
+use Rattle.text_keys.specs.Repeats.{Places, no-places, place-at}
 use Rattle.text_keys.proofs.Keys.{keys-append}
 use Rattle.text_keys.proofs.Repeats.{repeated-places}
-use Rattle.text_scan.specs.Summary.{summary, plus, memberSummary}
-use Rattle.text_scan.specs.Scanned.{Scans, Follows, Room, KeyWithin, readKey, readObject, plainValue, closedValue, KeysOf}
+use Rattle.text_keys.proofs.Orders.{rising-places}
+use Rattle.text_scan.specs.Summary.{summary, plainSummary, plus, memberSummary, memberCount, ownKeys}
+use Rattle.text_scan.specs.Scanned.{Scans, Follows, Room, KeyWithin, readKey, readObject, plainValue, closedSummary, closedValue, KeysOf}
 use Rattle.text_scan.specs.declared.Summary.{Summary}
 use Rattle.text_scan.specs.declared.Found.{Found}
 use Rattle.text_scan.specs.declared.After.{After}
@@ -42,10 +43,16 @@ use Rattle.text_scan.proofs.Progress.{IsValue, scans-stuck, value-later
 use Rattle.text_scan.proofs.Tokens.{mark-at}
 use Rattle.text_scan.proofs.Keys.{keys-of, no-keys-left}
 
--- the faults and the length of the members so far, with the object's opening mark; equal keys are found at its end
+-- the faults, the length and the order of the members so far, with the object's opening mark; its own keys are looked at at its end
 pub objectSum : List Member → Summary
 objectSum ms =
-    record { string = keyStringFaults (members ms); number = memberNumberFaults (members ms); key = memberKeyFaults (members ms); size = 1 + sizeOfMembers (members ms) }
+    record {
+      string = keyStringFaults (members ms);
+      number = memberNumberFaults (members ms);
+      key = memberKeyFaults (members ms);
+      size = 1 + sizeOfMembers (members ms);
+      ordered = orderedFields (fields (members ms));
+    }
 
 -- a member on its own
 pub memberSum : Member → Summary
@@ -84,6 +91,21 @@ key-none : memberKeyFaults no-members ≡ 0
 unfolding memberKeyFaults
 key-none = refl
 
+-- the order of the keys inside the members, one more at the end
+ordered-snoc : (ms : List Member) (m : Member)
+    → orderedFields (fields (members (ms ++ (m ∷ [])))) ≡ (orderedFields (fields (members ms)) && ordered (content (m .value)))
+unfolding members fields orderedFields
+ordered-snoc [] m = and-true (ordered (content (m .value)))
+ordered-snoc (n ∷ ms) m =
+    ap (λ (b : Bool). ordered (content (n .value)) && b) (ordered-snoc ms m)
+    ∙ sym (and-assoc (ordered (content (n .value))) (orderedFields (fields (members ms))) (ordered (content (m .value))))
+
+-- an object has as many keys as there are places of them
+own-places : (s : List ℕ) {ms : List Member} {ks : List ℕ} → Places s ms ks → length ks ≡ ownKeys (object (members ms))
+unfolding members ownKeys memberCount
+own-places s no-places = refl
+own-places s (place-at {ks = ks} e f p) = let n = own-places s p in omega arith
+
 no-size : sizeOfMembers no-members ≡ 0
 unfolding sizeOfMembers
 no-size = refl
@@ -98,7 +120,7 @@ size-object ms = refl
 
 sum-snoc : (ms : List Member) (m : Member) → plus (objectSum ms) (memberSum m) ≡ objectSum (ms ++ (m ∷ []))
 unfolding objectSum memberSum memberSummary plus summary
-sum-snoc ms m = λ i. record { string = sym strings i; number = sym numbers i; key = sym keys i; size = sizes i }
+sum-snoc ms m = λ i. record { string = sym strings i; number = sym numbers i; key = sym keys i; size = sizes i; ordered = sym (ordered-snoc ms m) i }
   where
     strings : keyStringFaults (members (ms ++ (m ∷ []))) ≡ max (keyStringFaults (members ms)) (max (mark (refusedString (m .key)) (m .place)) (stringFault (m .value)))
     strings = faults-snoc (λ n. max (mark (refusedString (n .key)) (n .place)) (stringFault (n .value))) keyStringFaults string-none string-one ms m
@@ -112,11 +134,17 @@ sum-snoc ms m = λ i. record { string = sym strings i; number = sym numbers i; k
     sizes : 1 + sizeOfMembers (members ms) + (stringSize (m .key) + length (canonical (content (m .value))) + 1) + 1 ≡ 1 + sizeOfMembers (members (ms ++ (m ∷ [])))
     sizes = omega (arith, size-members-append ms (m ∷ []), size-canonical (m .value), one-size m)
 
--- the whole object's summary, with the first key that is equal to an earlier one
-sum-object : (ms : List Member) → 1 ≤ length ms
-    → record { string = objectSum ms .string; number = objectSum ms .number; key = max (repeated [] (members ms)) (objectSum ms .key); size = objectSum ms .size } ≡ summary (object (members ms))
-unfolding objectSum summary stringFault numberFault keyFault
-sum-object ms h = λ i. record { string = keyStringFaults (members ms); number = memberNumberFaults (members ms); key = max (repeated [] (members ms)) (memberKeyFaults (members ms)); size = size i }
+-- the whole object's summary, with the first key that is equal to an earlier one, and the order of its own keys
+sum-object : (s : List ℕ) (ms : List Member) (ks : List ℕ) → Places s ms ks → 1 ≤ length ms → closedSummary s (objectSum ms) ks ≡ summary (object (members ms))
+unfolding closedSummary objectSum summary stringFault numberFault keyFault content ordered
+sum-object s ms ks p h = λ i.
+    record {
+      string = keyStringFaults (members ms);
+      number = memberNumberFaults (members ms);
+      key = max (sym (repeated-places s p) i) (memberKeyFaults (members ms));
+      size = size i;
+      ordered = rising-places s p i && orderedFields (fields (members ms));
+    }
   where
     some : (ns : List Member) → 1 ≤ length ns → 1 ≤ sizeOfMembers (members ns)
     some [] k = absurd (omega arith)
@@ -125,9 +153,9 @@ sum-object ms h = λ i. record { string = keyStringFaults (members ms); number =
     size : 1 + sizeOfMembers (members ms) ≡ length (canonical (content (object (members ms))))
     size = sym (size-enclosed (sizeOfMembers (members ms)) (some ms h)) ∙ sym (size-object (members ms)) ∙ size-canonical (object (members ms))
 
-sum-empty : summary (object no-members) ≡ record { string = 0; number = 0; key = 0; size = 2 }
-unfolding summary stringFault numberFault keyFault repeated
-sum-empty = λ i. record { string = 0; number = 0; key = 0; size = (sym (size-canonical (object no-members)) ∙ size-object no-members ∙ ap enclosed no-size ∙ size-empty) i }
+sum-empty : summary (object no-members) ≡ plainSummary 2
+unfolding summary stringFault numberFault keyFault repeated content ordered keysOrdered
+sum-empty = λ i. record { string = 0; number = 0; key = 0; size = (sym (size-canonical (object no-members)) ∙ size-object no-members ∙ ap enclosed no-size ∙ size-empty) i; ordered = true }
 
 -- a member is read as its key with the colon, and its value
 pair-by-key : (value : List ℕ → Read Syntax) (s : List ℕ)
@@ -222,20 +250,20 @@ module _ (s : List ℕ) (at depth : ℕ) where
   nothing i p w e = rw (listed-empty (readPair (read depth)) 0x7D s at i (p .1) w e)
 
   pub empty : (i : ℕ) → (at ≤ i) × At s i (spaces (drop at s)) → i < length s → getD s i 0 ≡ 0x7D → Scans s (readObject depth (drop at s)) (plainValue (i + 1) 2)
-  unfolding members
-  empty i p w e = rw (nothing i p w e) ((omega arith, refl), sym sum-empty)
+  unfolding members ownKeys memberCount
+  empty i p w e = rw (nothing i p w e) ((omega arith, refl), sym sum-empty, refl)
 
   pub empty-keys : (i : ℕ) → (at ≤ i) × At s i (spaces (drop at s)) → i < length s → getD s i 0 ≡ 0x7D → (keys : List ℕ) → KeysOf s (readObject depth (drop at s)) 0 keys
   empty-keys i p w e keys = keys-of s (readObject depth (drop at s)) [] (drop (i + 1) s) 0 keys (nothing i p w e) (no-keys-left s keys)
 
   pub start : (i : ℕ) → (at ≤ i) × At s i (spaces (drop at s)) → (i < length s → getD s i 0 ≡ 0x7D → ⊥)
-      → Progress s at depth i [] (record { string = 0; number = 0; key = 0; size = 1 })
-  unfolding prependAll objectSum members keyStringFaults memberNumberFaults memberKeyFaults
+      → Progress s at depth i [] (plainSummary 1)
+  unfolding prependAll objectSum members keyStringFaults memberNumberFaults memberKeyFaults fields orderedFields
   start i p n =
       record {
         done = [];
         reads = listed-items (readPair (read depth)) 0x7D s at i (p .1) n;
-        holds = λ k. record { string = 0; number = 0; key = 0; size = (sym (ap (λ (m : ℕ). 1 + m) no-size)) k };
+        holds = λ k. record { string = 0; number = 0; key = 0; size = (sym (ap (λ (m : ℕ). 1 + m) no-size)) k; ordered = true };
         places = no-places;
         keys = no-keys;
         from = omega (arith, p .0);
@@ -243,116 +271,115 @@ module _ (s : List ℕ) (at depth : ℕ) where
         small = omega (arith, p .0);
       }
 
-  module _ (i : ℕ) (ks : List ℕ) (sum : Summary) (p : Progress s at depth i ks sum) where
-    -- no member can be read at i
-    stuck-pair : (e : ℕ) → e ≤ length s → readPair (read depth) (drop i s) ≡ stuck (drop e s) → Scans s (readObject depth (drop at s)) (Stuck e)
-    unfolding readObject andThen
-    stuck-pair e w q =
-        rw (item-stuck (readPair (read depth)) 0x7D (pair-shorter depth) (pair-nothing depth) s i (p .done) (readListed (readPair (read depth)) 0x7D (drop at s)) (p .reads) e q) (w, refl)
+module _ {s : List ℕ} {at depth i : ℕ} {ks : List ℕ} {sum : Summary} (p : Progress s at depth i ks sum) where
+  -- no member can be read at i
+  stuck-pair : (e : ℕ) → e ≤ length s → readPair (read depth) (drop i s) ≡ stuck (drop e s) → Scans s (readObject depth (drop at s)) (Stuck e)
+  unfolding readObject andThen
+  stuck-pair e w q =
+      rw (item-stuck (readPair (read depth)) 0x7D (pair-shorter depth) (pair-nothing depth) s i (p .done) (readListed (readPair (read depth)) 0x7D (drop at s)) (p .reads) e q) (w, refl)
 
-    pub stuck-key : (e : ℕ) → TokenScans refusedString stringSize s (readKey (drop i s)) (NoToken e) → Scans s (readObject depth (drop at s)) (Stuck e)
+  pub stuck-key : (e : ℕ) → TokenScans refusedString stringSize s (readKey (drop i s)) (NoToken e) → Scans s (readObject depth (drop at s)) (Stuck e)
+  unfolding andThen
+  stuck-key e q = let r = none-stuck s i e q in stuck-pair e (r .0) (pair-by-key (read depth) (drop i s) ∙ rw (r .1))
+
+  module _ {v fault size : ℕ} (q : IsName s i v fault size) where
+    pub stuck-value : (e : ℕ) → Scans s (read depth (drop v s)) (Stuck e) → Scans s (readObject depth (drop at s)) (Stuck e)
     unfolding andThen
-    stuck-key e q = let r = none-stuck s i e q in stuck-pair e (r .0) (pair-by-key (read depth) (drop i s) ∙ rw (r .1))
+    stuck-value e z =
+        let r = scans-stuck s (read depth (drop v s)) e z in
+        stuck-pair e (r .0) (pair-by-key (read depth) (drop i s) ∙ rw (q .reads) (rw (r .1)))
 
-    module _ (v fault size : ℕ) (q : IsName s i v fault size) where
-      pub stuck-value : (e : ℕ) → Scans s (read depth (drop v s)) (Stuck e) → Scans s (readObject depth (drop at s)) (Stuck e)
-      unfolding andThen
-      stuck-value e z =
-          let r = scans-stuck s (read depth (drop v s)) e z in
-          stuck-pair e (r .0) (pair-by-key (read depth) (drop i s) ∙ rw (q .reads) (rw (r .1)))
+    pub inside : Inside s (i + 1)
+    inside = record { bytes = unescape (q .chars); here = name-inside s i v fault size q }
 
-      pub inside : Inside s (i + 1)
-      inside = record { bytes = unescape (q .chars); here = name-inside s i v fault size q }
+    pub keys-now : KeysAt s (ks ++ (i ∷ []))
+    keys-now = keys-append (p .keys) (key-at inside no-keys)
 
-      pub keys-now : KeysAt s (ks ++ (i ∷ []))
-      keys-now = keys-append (p .keys) (key-at inside no-keys)
+    -- there is a place for the key, and enough of them after it for the value's
+    pub key-room : (l : ℕ) → length s < at + 4 * l → length ks < l
+    key-room l h = omega (arith, p .from, q .later, q .within)
 
-      -- there is a place for the key, and enough of them after it for the value's
-      pub key-room : (l : ℕ) → length s < at + 4 * l → length ks < l
-      key-room l h = omega (arith, p .from, q .later, q .within)
+    pub value-room : (l : ℕ) → length s < at + 4 * l → length s ≤ v + 4 * (l - (length ks + 1))
+    value-room l h = omega (arith, p .from, q .later, key-room l h)
 
-      pub value-room : (l : ℕ) → length s < at + 4 * l → length s ≤ v + 4 * (l - (length ks + 1))
-      value-room l h = omega (arith, p .from, q .later, key-room l h)
+    module _ {f : Found} (z : IsValue s (read depth (drop v s)) f) where
+      tree : Member
+      tree = record { place = drop i s; key = q .chars; value = z .tree }
 
-      module _ (f : Found) (z : IsValue s (read depth (drop v s)) f) where
-        tree : Member
-        tree = record { place = drop i s; key = q .chars; value = z .tree }
+      pair-reads : readPair (read depth) (drop i s) ≡ found tree (drop (f .end) s)
+      unfolding andThen tree
+      pair-reads = pair-by-key (read depth) (drop i s) ∙ rw (q .reads) (rw (z .reads))
 
-        pair-reads : readPair (read depth) (drop i s) ≡ found tree (drop (f .end) s)
-        unfolding andThen tree
-        pair-reads = pair-by-key (read depth) (drop i s) ∙ rw (q .reads) (rw (z .reads))
+      pub later : v < f .end
+      later = value-later s depth v f (q .within) z
 
-        pub later : v < f .end
-        later = value-later s depth v f (q .within) z
+      pub fits : sum .size + size + f .sum .size + 1 + at ≤ f .end + 1
+      fits = omega (arith, value-size s depth v f (q .within) z, p .small, q .short)
 
-        pub fits : sum .size + size + f .sum .size + 1 + at ≤ f .end + 1
-        fits = omega (arith, value-size s depth v f (q .within) z, p .small, q .short)
+      now-holds : plus sum (memberSummary fault size (f .sum)) ≡ objectSum (p .done ++ (tree ∷ []))
+      unfolding memberSum tree
+      now-holds =
+          ap (λ (x : Summary). plus x (memberSummary fault size (f .sum))) (p .holds)
+          ∙ ap (λ (k : ℕ). plus (objectSum (p .done)) (memberSummary k size (f .sum))) (q .faulty)
+          ∙ ap (λ (k : ℕ). plus (objectSum (p .done)) (memberSummary (mark (refusedString (q .chars)) (drop i s)) k (f .sum))) (q .sized)
+          ∙ ap (λ (x : Summary). plus (objectSum (p .done)) (memberSummary (mark (refusedString (q .chars)) (drop i s)) (stringSize (q .chars)) x)) (z .sum)
+          ∙ sum-snoc (p .done) tree
 
-        now-holds : plus sum (memberSummary fault size (f .sum)) ≡ objectSum (p .done ++ (tree ∷ []))
-        unfolding memberSum tree
-        now-holds =
-            ap (λ (x : Summary). plus x (memberSummary fault size (f .sum))) (p .holds)
-            ∙ ap (λ (k : ℕ). plus (objectSum (p .done)) (memberSummary k size (f .sum))) (q .faulty)
-            ∙ ap (λ (k : ℕ). plus (objectSum (p .done)) (memberSummary (mark (refusedString (q .chars)) (drop i s)) k (f .sum))) (q .sized)
-            ∙ ap (λ (x : Summary). plus (objectSum (p .done)) (memberSummary (mark (refusedString (q .chars)) (drop i s)) (stringSize (q .chars)) x)) (z .sum)
-            ∙ sum-snoc (p .done) tree
+      now-places : Places s (p .done ++ (tree ∷ [])) (ks ++ (i ∷ []))
+      unfolding tree
+      now-places = places-snoc s tree i (p .places) refl (sym (content-from s (i + 1) (unescape (q .chars)) (name-inside s i v fault size q)))
 
-        now-places : Places s (p .done ++ (tree ∷ [])) (ks ++ (i ∷ []))
-        unfolding tree
-        now-places = places-snoc s tree i (p .places) refl (sym (content-from s (i + 1) (unescape (q .chars)) (name-inside s i v fault size q)))
+      whole-reads : (e : ℕ) → Follows s (f .end) 0x7D (After.End e) → readObject depth (drop at s) ≡ found (object (members (p .done ++ (tree ∷ [])))) (drop e s)
+      unfolding readObject andThen
+      whole-reads e w =
+          rw (item-ends (readPair (read depth)) 0x7D (pair-shorter depth) (pair-nothing depth) s i (p .done) (readListed (readPair (read depth)) 0x7D (drop at s)) (p .reads) tree (f .end) pair-reads e w)
 
-        whole-reads : (e : ℕ) → Follows s (f .end) 0x7D (After.End e) → readObject depth (drop at s) ≡ found (object (members (p .done ++ (tree ∷ [])))) (drop e s)
-        unfolding readObject andThen
-        whole-reads e w =
-            rw (item-ends (readPair (read depth)) 0x7D (pair-shorter depth) (pair-nothing depth) s i (p .done) (readListed (readPair (read depth)) 0x7D (drop at s)) (p .reads) tree (f .end) pair-reads e w)
+      pub ends : (e : ℕ) → Follows s (f .end) 0x7D (After.End e)
+          → Scans s (readObject depth (drop at s)) (closedValue s e (plus sum (memberSummary fault size (f .sum))) (ks ++ (i ∷ [])))
+      ends e w = rw (whole-reads e w) ((w .1, refl), closing, own-places s now-places)
+        where
+          closing : closedSummary s (plus sum (memberSummary fault size (f .sum))) (ks ++ (i ∷ [])) ≡ summary (object (members (p .done ++ (tree ∷ []))))
+          closing =
+              ap (λ (x : Summary). closedSummary s x (ks ++ (i ∷ []))) now-holds
+              ∙ sum-object s (p .done ++ (tree ∷ [])) (ks ++ (i ∷ [])) now-places (omega (arith, length-append (p .done) (tree ∷ [])))
 
-        pub ends : (e n : ℕ) → Follows s (f .end) 0x7D (After.End e)
-            → Scans s (readObject depth (drop at s)) (closedValue e n (plus sum (memberSummary fault size (f .sum))) (repeatLeft s (ks ++ (i ∷ []))))
-        ends e n w = rw (whole-reads e w) ((w .1, refl), closing)
-          where
-            whole : Summary → ℕ → Summary
-            whole x k = record { string = x .string; number = x .number; key = max k (x .key); size = x .size }
+      -- its keys, once they are sorted
+      pub ends-keys : (e : ℕ) → Follows s (f .end) 0x7D (After.End e)
+          → (n : ℕ) (keys : List ℕ) → n ≤ length keys → take n keys ≡ sort (keyLe s) (ks ++ (i ∷ [])) → KeysOf s (readObject depth (drop at s)) n keys
+      ends-keys e w n keys h k =
+          keys-of s (readObject depth (drop at s)) (p .done ++ (tree ∷ [])) (drop e s) n keys (whole-reads e w)
+          (record { places = ks ++ (i ∷ []); here = now-places; within = h; sorted = k })
 
-            closing : whole (plus sum (memberSummary fault size (f .sum))) (repeatLeft s (ks ++ (i ∷ []))) ≡ summary (object (members (p .done ++ (tree ∷ []))))
-            closing =
-                ap (λ (x : Summary). whole x (repeatLeft s (ks ++ (i ∷ [])))) now-holds
-                ∙ ap (whole (objectSum (p .done ++ (tree ∷ [])))) (sym (repeated-places s now-places))
-                ∙ sum-object (p .done ++ (tree ∷ [])) (omega (arith, length-append (p .done) (tree ∷ [])))
+      pub sticks : (e : ℕ) → Follows s (f .end) 0x7D (After.Stuck e) → Scans s (readObject depth (drop at s)) (Stuck e)
+      unfolding readObject andThen
+      sticks e w =
+          rw (item-sticks (readPair (read depth)) 0x7D (pair-shorter depth) (pair-nothing depth) s i (p .done) (readListed (readPair (read depth)) 0x7D (drop at s)) (p .reads) tree (f .end) pair-reads e w)
+          (w .0 .0, refl)
 
-        -- its keys, once they are sorted
-        pub ends-keys : (e : ℕ) → Follows s (f .end) 0x7D (After.End e)
-            → (n : ℕ) (keys : List ℕ) → n ≤ length keys → take n keys ≡ sort (keyLe s) (ks ++ (i ∷ [])) → KeysOf s (readObject depth (drop at s)) n keys
-        ends-keys e w n keys h k =
-            keys-of s (readObject depth (drop at s)) (p .done ++ (tree ∷ [])) (drop e s) n keys (whole-reads e w)
-            (record { places = ks ++ (i ∷ []); here = now-places; within = h; sorted = k })
+      pub goes-on : (j : ℕ) → Follows s (f .end) 0x7D (After.More j) → Progress s at depth j (ks ++ (i ∷ [])) (plus sum (memberSummary fault size (f .sum)))
+      unfolding plus memberSummary
+      goes-on j w =
+          record {
+            done = p .done ++ (tree ∷ []);
+            reads = item-more (readPair (read depth)) 0x7D (pair-shorter depth) (pair-nothing depth) s i (p .done) (readListed (readPair (read depth)) 0x7D (drop at s)) (p .reads) tree (f .end) pair-reads j w;
+            holds = now-holds;
+            places = now-places;
+            keys = keys-now;
+            from = omega (arith, p .from, q .later, later, w .0, length-append ks (i ∷ []));
+            within = w .1;
+            small = omega (arith, fits, w .0);
+          }
 
-        pub sticks : (e : ℕ) → Follows s (f .end) 0x7D (After.Stuck e) → Scans s (readObject depth (drop at s)) (Stuck e)
-        unfolding readObject andThen
-        sticks e w =
-            rw (item-sticks (readPair (read depth)) 0x7D (pair-shorter depth) (pair-nothing depth) s i (p .done) (readListed (readPair (read depth)) 0x7D (drop at s)) (p .reads) tree (f .end) pair-reads e w)
-            (w .0 .0, refl)
+-- the keys with one more, before the part that was lent and comes back
+abbrev pub withKey : List ℕ → ℕ → ℕ → List ℕ → List ℕ
+withKey keys n i part = putMid (n + 1) (length (set keys n i) - (n + 1)) (set keys n i) part
 
-        pub goes-on : (j : ℕ) → Follows s (f .end) 0x7D (After.More j) → Progress s at depth j (ks ++ (i ∷ [])) (plus sum (memberSummary fault size (f .sum)))
-        unfolding plus memberSummary
-        goes-on j w =
-            record {
-              done = p .done ++ (tree ∷ []);
-              reads = item-more (readPair (read depth)) 0x7D (pair-shorter depth) (pair-nothing depth) s i (p .done) (readListed (readPair (read depth)) 0x7D (drop at s)) (p .reads) tree (f .end) pair-reads j w;
-              holds = now-holds;
-              places = now-places;
-              keys = keys-now;
-              from = omega (arith, p .from, q .later, later, w .0, length-append ks (i ∷ []));
-              within = w .1;
-              small = omega (arith, fits, w .0);
-            }
-
--- The keys with one more, after the part behind them was lent.
 module _ (keys : List ℕ) (n i : ℕ) (h : n < length keys) (part : List ℕ)
     (kept : length part ≡ length (midOf (n + 1) (length (set keys n i) - (n + 1)) (set keys n i))) where
-  pub stored-length : length (putMid (n + 1) (length (set keys n i) - (n + 1)) (set keys n i) part) ≡ length keys
+  pub stored-length : length (withKey keys n i part) ≡ length keys
   stored-length = same-len-mid (n + 1) (length (set keys n i) - (n + 1)) (set keys n i) part kept ∙ length-set keys n i
 
-  pub stored-keys : take (n + 1) (putMid (n + 1) (length (set keys n i) - (n + 1)) (set keys n i) part) ≡ take n keys ++ (i ∷ [])
+  pub stored-keys : take (n + 1) (withKey keys n i part) ≡ take n keys ++ (i ∷ [])
   stored-keys =
       take-put (n + 1) (length (set keys n i) - (n + 1)) (set keys n i) part (simp length-set (omega arith))
       ∙ ap (λ (m : ℕ). take m (set keys n i)) (add-one n) ∙ take-suc-set keys n i h
@@ -365,7 +392,7 @@ unfolding memberSummary
 member-size fault size v x e = ap (λ (y : Summary). y .size) e
 
 -- an object's end and what it holds, by equal parts
-pub closed-same : (s : List ℕ) (r : Read Syntax) (e k : ℕ) (x m n sum : Summary) (ks ls : List ℕ) (z : Scanned) → z ≡ closedValue e k x (repeatLeft s ks) → x ≡ plus sum m → m ≡ n → ks ≡ ls
-    → Scans s r (closedValue e k (plus sum n) (repeatLeft s ls)) → Scans s r z
-closed-same s r e k x m n sum ks ls z a b c d p =
-    subst (Scans s r) (sym (a ∙ ap (λ (w : Summary). closedValue e k w (repeatLeft s ks)) (b ∙ ap (plus sum) c) ∙ ap (λ (l : List ℕ). closedValue e k (plus sum n) (repeatLeft s l)) d)) p
+pub closed-same : (s : List ℕ) (r : Read Syntax) (e : ℕ) (x m n sum : Summary) (ks ls : List ℕ) (z : Scanned)
+    → z ≡ closedValue s e x ks → x ≡ plus sum m → m ≡ n → ks ≡ ls → Scans s r (closedValue s e (plus sum n) ls) → Scans s r z
+closed-same s r e x m n sum ks ls z a b c d p =
+    subst (Scans s r) (sym (a ∙ ap (λ (w : Summary). closedValue s e w ks) (b ∙ ap (plus sum) c) ∙ ap (closedValue s e (plus sum n)) d)) p

@@ -16,7 +16,7 @@ use Rattle.text_json.proofs.Grammar.Sound.{read-sound, read-shorter}
 use Rattle.text_content.specs.Value.{content}
 use Rattle.text_content.specs.Canonical.{canonical}
 use Rattle.text_content.proofs.NotLonger.{value-not-longer}
-use Rattle.text_scan.specs.Summary.{summary}
+use Rattle.text_scan.specs.Summary.{summary, ownKeys}
 use Rattle.text_scan.specs.Scanned.{Scans, Follows}
 use Rattle.text_scan.specs.declared.Scanned.{Scanned}
 use Rattle.text_scan.specs.declared.Found.{Found}
@@ -31,22 +31,16 @@ pub record IsValue (s : List ℕ) (x : Read Syntax) (f : Found) : Type 0 where
   pub tree : Syntax
   pub reads : x ≡ found tree (drop (f .end) s)
   pub sum : f .sum ≡ summary tree
+  pub count : f .count ≡ ownKeys tree
   pub within : f .end ≤ length s
 
 pub scans-value : (s : List ℕ) (x : Read Syntax) (f : Found) → Scans s x (Value f) → IsValue s x f
-scans-value s (found t r) f p = record { tree = t; reads = ap (found t) (p .0 .1); sum = p .1; within = p .0 .0 }
+scans-value s (found t r) f p = record { tree = t; reads = ap (found t) (p .0 .1); sum = p .1; count = p .2; within = p .0 .0 }
 scans-value s (stuck r) f p = absurd p
 
 pub scans-stuck : (s : List ℕ) (x : Read Syntax) (e : ℕ) → Scans s x (Stuck e) → (e ≤ length s) × (x ≡ stuck (drop e s))
 scans-stuck s (found t r) e p = absurd p
 scans-stuck s (stuck r) e p = (p .0, ap stuck (p .1))
-
-pub value-scans : (s : List ℕ) (x : Read Syntax) (f : Found) (t : Syntax) → x ≡ found t (drop (f .end) s) → f .sum ≡ summary t → f .end ≤ length s
-    → Scans s x (Value f)
-value-scans s x f t e q w = rw e ((w, refl), q)
-
-pub stuck-scans : (s : List ℕ) (x : Read Syntax) (e : ℕ) → e ≤ length s → x ≡ stuck (drop e s) → Scans s x (Stuck e)
-stuck-scans s x e w q = rw q (w, refl)
 
 -- a value has a byte, and its canonical form is no longer than it is
 pub value-later : (s : List ℕ) (d i : ℕ) (f : Found) → i ≤ length s → IsValue s (read d (drop i s)) f → i < f .end

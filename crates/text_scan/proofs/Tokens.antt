@@ -19,9 +19,9 @@ use Rattle.text_json.specs.declared.Step.the-variants.{End}
 use Rattle.text_json.specs.declared.Scan.{Scan}
 use Rattle.text_json.specs.declared.Scan.the-variants.{Token, NoToken}
 use Rattle.text_content.specs.Value.{content}
-use Rattle.text_content.specs.Canonical.{canonical, sorted, write}
+use Rattle.text_content.specs.Canonical.{canonical, ordered, sorted, write}
 use Rattle.text_content.specs.Fault.{mark, stringFault, numberFault, keyFault}
-use Rattle.text_scan.specs.Summary.{summary}
+use Rattle.text_scan.specs.Summary.{summary, plainSummary, ownKeys}
 use Rattle.text_scan.specs.Scanned.{Scans, literalAnswer}
 use Rattle.text_scan.specs.declared.Summary.{Summary}
 use Rattle.text_scan.specs.declared.Scanned.{Scanned}
@@ -37,10 +37,11 @@ module _ (s : List ℕ) (at : ℕ) where
   pub string-token : (x : Read (List Char)) (e n k : ℕ) (f : Bool) → k ≡ cond f (length s - at) 0
       → TokenScans refusedString stringSize s x (Token e f n)
       → Scans s (andThen x (λ cs q. found (Syntax.string (drop at s) cs) q))
-      (Value (record { end = e; count = 0; sum = record { string = k; number = 0; key = 0; size = n } }))
-  unfolding andThen summary stringFault numberFault keyFault content canonical sorted write stringSize
+      (Value (record { end = e; count = 0; sum = record { string = k; number = 0; key = 0; size = n; ordered = true } }))
+  unfolding andThen summary stringFault numberFault keyFault content canonical ordered sorted write stringSize ownKeys
   string-token (found cs r) e n k f m p =
-      (p .0, λ i. record { string = (m ∙ sym (mark-at f s at) ∙ ap (λ (b : Bool). mark b (drop at s)) (p .1)) i; number = 0; key = 0; size = (p .2) i })
+      let e = m ∙ sym (mark-at f s at) ∙ ap (λ (b : Bool). mark b (drop at s)) (p .1) in
+      (p .0, λ i. record { string = e i; number = 0; key = 0; size = (p .2) i; ordered = true }, refl)
   string-token (stuck r) e n k f m p = absurd p
 
   pub string-none : (x : Read (List Char)) (e : ℕ) → TokenScans refusedString stringSize s x (NoToken e)
@@ -52,10 +53,11 @@ module _ (s : List ℕ) (at : ℕ) where
   pub number-token : (x : Read Numeral) (e n k : ℕ) (f : Bool) → k ≡ cond f (length s - at) 0
       → TokenScans refusedNumber numeralSize s x (Token e f n)
       → Scans s (andThen x (λ m q. found (Syntax.number (drop at s) m) q))
-      (Value (record { end = e; count = 0; sum = record { string = 0; number = k; key = 0; size = n } }))
-  unfolding andThen summary stringFault numberFault keyFault content canonical sorted write numeralSize
+      (Value (record { end = e; count = 0; sum = record { string = 0; number = k; key = 0; size = n; ordered = true } }))
+  unfolding andThen summary stringFault numberFault keyFault content canonical ordered sorted write numeralSize ownKeys
   number-token (found cs r) e n k f m p =
-      (p .0, λ i. record { string = 0; number = (m ∙ sym (mark-at f s at) ∙ ap (λ (b : Bool). mark b (drop at s)) (p .1)) i; key = 0; size = (p .2) i })
+      let e = m ∙ sym (mark-at f s at) ∙ ap (λ (b : Bool). mark b (drop at s)) (p .1) in
+      (p .0, λ i. record { string = 0; number = e i; key = 0; size = (p .2) i; ordered = true }, refl)
   number-token (stuck r) e n k f m p = absurd p
 
   pub number-none : (x : Read Numeral) (e : ℕ) → TokenScans refusedNumber numeralSize s x (NoToken e)
@@ -66,9 +68,9 @@ module _ (s : List ℕ) (at : ℕ) where
 
 -- a literal name
 pub word-literal : (s : List ℕ) (x : Read (Unit {0})) (t : Syntax) (n : ℕ) (w : Step)
-    → summary t ≡ record { string = 0; number = 0; key = 0; size = n } → Steps s x w → Scans s (andThen x (λ _ q. found t q)) (literalAnswer w n)
+    → (summary t ≡ plainSummary n) × (ownKeys t ≡ 0) → Steps s x w → Scans s (andThen x (λ _ q. found t q)) (literalAnswer w n)
 unfolding andThen
-word-literal s (found u r) t n (End e) h p = (p, sym h)
+word-literal s (found u r) t n (End e) h p = (p, sym (h .0), sym (h .1))
 word-literal s (found u r) t n (Step.Stuck e) h p = absurd p
 word-literal s (stuck r) t n (End e) h p = absurd p
 word-literal s (stuck r) t n (Step.Stuck e) h p = p
@@ -99,17 +101,17 @@ of-number b q e f g h = rw (ne-eqb b 0x22 e, readScalar) (rw (ne-eqb b 0x6E f) (
 pub here : (s : List ℕ) (at : ℕ) → at < length s → drop at s ≡ getD s at 0 ∷ drop (at + 1) s
 here s at w = drop-cons s at 0 w ∙ ap (λ (n : ℕ). getD s at 0 ∷ drop n s) (sym (add-one at))
 
-pub summary-null : summary Syntax.null ≡ record { string = 0; number = 0; key = 0; size = 4 }
-unfolding summary stringFault numberFault keyFault content canonical sorted write
-summary-null = refl
+pub summary-null : (summary Syntax.null ≡ plainSummary 4) × (ownKeys Syntax.null ≡ 0)
+unfolding summary stringFault numberFault keyFault content canonical ordered sorted write ownKeys
+summary-null = (refl, refl)
 
-pub summary-true : summary (Syntax.boolean true) ≡ record { string = 0; number = 0; key = 0; size = 4 }
-unfolding summary stringFault numberFault keyFault content canonical sorted write
-summary-true = refl
+pub summary-true : (summary (Syntax.boolean true) ≡ plainSummary 4) × (ownKeys (Syntax.boolean true) ≡ 0)
+unfolding summary stringFault numberFault keyFault content canonical ordered sorted write ownKeys
+summary-true = (refl, refl)
 
-pub summary-false : summary (Syntax.boolean false) ≡ record { string = 0; number = 0; key = 0; size = 5 }
-unfolding summary stringFault numberFault keyFault content canonical sorted write
-summary-false = refl
+pub summary-false : (summary (Syntax.boolean false) ≡ plainSummary 5) × (ownKeys (Syntax.boolean false) ≡ 0)
+unfolding summary stringFault numberFault keyFault content canonical ordered sorted write ownKeys
+summary-false = (refl, refl)
 
 module _ (s : List ℕ) (at : ℕ) where
   pub scalar-end : length s ≤ at → at ≤ length s → Scans s (readScalar (drop at s)) (Stuck at)

@@ -66,6 +66,6 @@ module _ (s : List ℕ) (at : ℕ) (p : At s at (spaces s)) where
     unfolding readText andThen atEnd
     text-junk h = rw (p .1, q .reads, w .1, here s end h) (w .0, sym (here s end h))
 
-    pub text-whole : (n : ℕ) → length s ≤ end → Scans s (readText 8 s) (Value (record { end = end; count = n; sum = f .sum }))
+    pub text-whole : length s ≤ end → Scans s (readText 8 s) (Value (record { end = end; count = f .count; sum = f .sum }))
     unfolding readText andThen atEnd
-    text-whole n h = rw (p .1, q .reads, w .1, drop-of-length-le s {i = end} h) ((w .0, sym (drop-of-length-le s {i = end} h)), q .sum)
+    text-whole h = rw (p .1, q .reads, w .1, drop-of-length-le s {i = end} h) ((w .0, sym (drop-of-length-le s {i = end} h)), q .sum, q .count)

@@ -2,7 +2,7 @@
 use Prim.Native.Nat.{ℕ, _+_, _*_, _<_, _≤_, max}
 use mathlib.Core.Path.{_≡_}
 use mathlib.Core.List.{List, [], _∷_}
-use mathlib.Core.Bool.{false}
+use mathlib.Core.Bool.{false, _&&_}
 use lib.ListN.{length, take, drop}
 use lib.Dec.{eqb}
 use Rattle.laws.specs.Sort.{sort}
@@ -14,8 +14,9 @@ use Rattle.text_json.specs.declared.Step.{Step}
 use Rattle.text_json.specs.declared.Step.the-variants.{End}
 use Rattle.text_json.specs.Scan.{At}
 use Rattle.text_strings.specs.InString.{keyLe}
-use Rattle.text_keys.specs.Repeats.{Places}
-use Rattle.text_scan.specs.Summary.{summary}
+use Rattle.text_keys.specs.Keys.{risingKeys}
+use Rattle.text_keys.specs.Repeats.{Places, repeatLeft}
+use Rattle.text_scan.specs.Summary.{summary, plainSummary, ownKeys}
 use Rattle.text_scan.specs.declared.After.{After}
 use Rattle.text_scan.specs.declared.Summary.{Summary}
 use Rattle.text_scan.specs.declared.Scanned.{Scanned}
@@ -26,9 +27,9 @@ abbrev pub Misfits : ℕ → List ℕ → Type 0
 Misfits mark [] = Unit {0}
 Misfits mark (b ∷ s) = (eqb b mark ≡ false) × (eqb b 0x2C ≡ false)
 
--- the position after the value and the value's summary, or where reading is stuck
+-- the position after the value, the value's summary and how many keys it has itself, or where reading is stuck
 abbrev pub Scans : List ℕ → Read Syntax → Scanned → Type 0
-Scans s (found t r) (Value f) = At s (f .end) r × (f .sum ≡ summary t)
+Scans s (found t r) (Value f) = At s (f .end) r × (f .sum ≡ summary t) × (f .count ≡ ownKeys t)
 Scans s (found t r) (Stuck e) = ⊥
 Scans s (stuck r) (Value f) = ⊥
 Scans s (stuck r) (Stuck e) = At s e r
@@ -52,12 +53,23 @@ LeavesKeys s x keys (Stuck e) = Unit {0}
 
 -- a value that is no fault and whose canonical form has that length
 abbrev pub plainValue : ℕ → ℕ → Scanned
-plainValue e n = Value (record { end = e; count = 0; sum = record { string = 0; number = 0; key = 0; size = n } })
+plainValue e n = Value (record { end = e; count = 0; sum = plainSummary n })
 
--- an object that ends there and has n keys, where the first key that is equal to an earlier one of it has so many bytes left
-abbrev pub closedValue : ℕ → ℕ → Summary → ℕ → Scanned
-closedValue e n v repeated =
-    Value (record { end = e; count = n; sum = record { string = v .string; number = v .number; key = max repeated (v .key); size = v .size } })
+-- members that hold v, with their keys at the positions ks: one that is equal to an earlier one is a fault, and they are to be in
+-- rising order
+unfoldable pub closedSummary : List ℕ → Summary → List ℕ → Summary
+closedSummary s v ks =
+    record {
+      string = v .string;
+      number = v .number;
+      key = max (repeatLeft s ks) (v .key);
+      size = v .size;
+      ordered = risingKeys s ks && v .ordered;
+    }
+
+-- an object that ends there and has those members
+abbrev pub closedValue : List ℕ → ℕ → Summary → List ℕ → Scanned
+closedValue s e v ks = Value (record { end = e; count = length ks; sum = closedSummary s v ks })
 
 -- the answer for a literal name whose letters were stepped over
 abbrev pub literalAnswer : Step → ℕ → Scanned

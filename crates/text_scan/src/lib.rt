@@ -1,4 +1,5 @@
-// Reads a whole JSON text in one pass: is it one, which strings, numbers and keys are faulty, and how long is its canonical form.
+// Reads a whole JSON text in one pass: is it one, which strings, numbers and keys are faulty, how long is its canonical form,
+// and are the keys of its objects in rising order.
 ghost use mathlib.Core.Path.{_≡_};
 ghost use mathlib.Core.Bool.{true, false, cond};
 ghost use Prim.Native.Nat.{_+_, _-_, _*_, _<_, _≤_, max};
@@ -11,17 +12,17 @@ ghost use Rattle.text_json.specs.Scan.{Scans as TokenScans};
 ghost use Rattle.laws.specs.Sort.{sort};
 ghost use Rattle.text_strings.specs.InString.{keyLe};
 ghost use Rattle.text_keys.specs.Keys.{KeysAt};
-ghost use Rattle.text_keys.specs.Repeats.{repeatLeft};
 ghost use Rattle.text_scan.specs.Summary.{plus, memberSummary};
 ghost use Rattle.text_scan.specs.Scanned.{Scans, Room, Follows, plainValue, closedValue, LeavesKeys, readArray, readObject, literalAnswer, readKey, KeyWithin};
 
-// The first faults of a part of the text by questions 4, 5 and 6, each by the bytes left from there on (0: none), and the length
-// of its canonical form.
+// The first faults of a part of the text by questions 4, 5 and 6, each by the bytes left from there on (0: none), the length of its
+// canonical form, and whether the keys of every object in it are in rising order.
 pub struct Summary {
     pub string: usize,
     pub number: usize,
     pub key: usize,
     pub size: usize,
+    pub ordered: bool,
 }
 
 // A value that was read: the position after it, how many keys it has itself (0 where it is no object), and what it holds.
@@ -55,6 +56,7 @@ fn added(a: Summary, b: Summary) -> Summary
         number,
         key,
         size: a.size + b.size + 1,
+        ordered: a.ordered & b.ordered,
     }
 }
 
@@ -70,6 +72,7 @@ fn plain(end: usize, size: usize) -> Scanned
             number: 0,
             key: 0,
             size,
+            ordered: true,
         },
     })
 }
@@ -121,6 +124,7 @@ fn string(s: &[u8], at: usize) -> Scanned
                 number: 0,
                 key: 0,
                 size,
+                ordered: true,
             },
         }),
         text_json::Scan::NoToken(e) => Scanned::Stuck(e),
@@ -140,6 +144,7 @@ fn number(s: &[u8], at: usize) -> Scanned
                 number: mark(refused, s.len(), at),
                 key: 0,
                 size,
+                ordered: true,
             },
         }),
         text_json::Scan::NoToken(e) => Scanned::Stuck(e),
@@ -241,6 +246,7 @@ fn array(s: &[u8], at: usize, depth: usize, keys: &mut [u16], spare: &mut [u16])
         number: 0,
         key: 0,
         size: 1,
+        ordered: true,
     };
     loop {
         let v = match value(s, i, depth, keys, spare) {
@@ -277,17 +283,19 @@ fn member(name: Name, value: Summary) -> Summary
         number: value.number,
         key: value.key,
         size: name.size + value.size + 1,
+        ordered: value.ordered,
     }
 }
 
-// The end of an object with these keys: the first that is equal to an earlier one is a fault of it. The keys are left sorted.
+// The end of an object with these keys: the first that is equal to an earlier one is a fault of it, and they are in rising order or
+// not. The keys are left sorted.
 fn closed(s: &[u8], end: usize, sum: Summary, keys: &mut [u16], spare: &mut [u16]) -> Scanned
     requires { ⌜ KeysAt (now s) (now keys) × (length (now keys) ≤ length (now spare)) ⌝ }
-    ensures { λ r. ⌜ r ≡ closedValue end (length (now (keys .entry))) sum (repeatLeft (now (s .entry)) (now (keys .entry))) ⌝ }
+    ensures { λ r. ⌜ r ≡ closedValue (now (s .entry)) end sum (now (keys .entry)) ⌝ }
     ensures { λ _. ⌜ now (keys .exit) ≡ sort (keyLe (now (s .entry))) (now (keys .entry)) ⌝ }
 {
-    let repeated = text_keys::order_keys(s, keys, spare);
-    let key = larger(repeated, sum.key);
+    let own = text_keys::order_keys(s, keys, spare);
+    let key = larger(own.left, sum.key);
     Scanned::Value(Found {
         end,
         count: keys.len(),
@@ -296,6 +304,7 @@ fn closed(s: &[u8], end: usize, sum: Summary, keys: &mut [u16], spare: &mut [u16
             number: sum.number,
             key,
             size: sum.size,
+            ordered: own.rising & sum.ordered,
         },
     })
 }
@@ -317,6 +326,7 @@ fn object(s: &[u8], at: usize, depth: usize, keys: &mut [u16], spare: &mut [u16]
         number: 0,
         key: 0,
         size: 1,
+        ordered: true,
     };
     let mut n = 0;
     loop {

@@ -7,13 +7,13 @@ use native.Mathlib.Omega.{arith}
 use lib.ListN.{length, drop, getD, length-drop}
 use Rattle.text_json.specs.Bytes.{isSpace}
 use Rattle.text_json.specs.Syntax.{Char, Member}
-use Rattle.text_json.specs.Grammar.{Space, Word, Chars, String, Items, Listed, Pair, Value as Derives}
+use Rattle.text_json.specs.Grammar.{Space, Word, Chars, String, Items, Listed, Pair, Value as Derives, starts, Stops}
 use Rattle.text_json.specs.Read.{spaces}
 use Rattle.text_json.proofs.Places.{drop-next}
 use Rattle.text_json.proofs.Grammar.Ends.{Inside, inside-length}
 use Rattle.text_json.proofs.Grammar.Rests.{value-inside, value-ends, pair-inside}
-use Rattle.text_json.proofs.Grammar.Bytes.{both-ways, starts}
-use Rattle.text_json.proofs.Grammar.Complete.{Stops, Closes, isFirst, bracket-closes, brace-closes, comma-stops, comma-no-space, space-stops, spaces-complete, first-no-space, value-first, string-begins}
+use Rattle.text_json.proofs.Grammar.Bytes.{both-ways}
+use Rattle.text_json.proofs.Grammar.Complete.{Closes, isFirst, bracket-closes, brace-closes, comma-stops, comma-no-space, space-stops, spaces-complete, first-no-space, value-first, string-begins}
 use Rattle.text_strings.specs.InString.{Inside as InsideString}
 use Rattle.text_view.specs.Place.{StringEndsAt}
 use Rattle.text_view.specs.Listed.{Tree, DerivesItem, endMark, ListAt, SomeItem, ItemValue}

@@ -9,14 +9,14 @@ use lib.Dec.{eqb}
 use lib.ListN.{length, drop, getD}
 use borrow.Author.Tests.{eqb-true, eqb-false}
 use Rattle.text_json.specs.Syntax.{Syntax, Numeral}
-use Rattle.text_json.specs.Grammar.{Scalar, Nested, Value as Derives}
+use Rattle.text_json.specs.Grammar.{Scalar, Nested, Value as Derives, Stops}
 use Rattle.text_json.specs.Read.{Read, found, stuck, andThen, readInt, readUnsigned, readNumber}
 use Rattle.text_json.specs.Content.{decimal}
 use Rattle.text_json.specs.Parts.{Ints, signs, readTail}
 use Rattle.text_json.specs.declared.number.Int.the-variants.{Digits, NoInt}
 use Rattle.text_json.proofs.NumberSteps.{number-minus, number-plain}
 use Rattle.text_json.proofs.Numerals.{unsigned-tail, unsigned-stuck}
-use Rattle.text_json.proofs.Grammar.Complete.{Stops, number-complete}
+use Rattle.text_json.proofs.Grammar.Complete.{number-complete}
 use Rattle.text_content.specs.Value.{number, content}
 use Rattle.text_view.specs.Place.{ValueAt}
 use Rattle.text_view.proofs.Values.{within}

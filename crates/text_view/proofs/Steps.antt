@@ -6,11 +6,10 @@ use mathlib.Core.List.{List, _∷_}
 use mathlib.Core.Bool.{Bool, true, false}
 use native.Mathlib.Omega.{arith}
 use lib.ListN.{length, drop, getD, length-drop}
-use Rattle.text_json.specs.Grammar.{Items, Listed, Value as Derives}
+use Rattle.text_json.specs.Grammar.{Items, Listed, Value as Derives, Stops}
 use Rattle.text_json.specs.Read.{spaces}
 use Rattle.text_json.proofs.Grammar.Ends.{inside-length, ends-length}
 use Rattle.text_json.proofs.Grammar.Rests.{space-ends, word-inside}
-use Rattle.text_json.proofs.Grammar.Complete.{Stops}
 use Rattle.text_content.specs.Value.{content}
 use Rattle.text_view.specs.Place.{Readable, EndsAt, ScalarAt}
 use Rattle.text_view.specs.Listed.{Tree, valueTree, DerivesItem, openMark, endMark, ListAt, SomeList, AnyList, ListEndsAt, SomeItem, ItemValue, Gives, Peeks}

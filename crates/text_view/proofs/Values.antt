@@ -6,7 +6,7 @@ use mathlib.Core.Bool.{Bool, true, false}
 use native.Mathlib.Omega.{arith}
 use lib.Dec.{eqb}
 use lib.ListN.{length, drop, getD, length-drop}
-use borrow.Author.Tests.{ne-eqb, eqb-true}
+use borrow.Author.Tests.{ne-eqb}
 use Rattle.text_json.specs.Syntax.{Syntax, Numeral, elements, members}
 use Rattle.text_json.specs.Grammar.{Word, Int, Unsigned, Number, String, Scalar, Nested, Value as Derives, Text}
 use Rattle.text_json.specs.Read.{spaces}
@@ -15,7 +15,6 @@ use Rattle.text_json.proofs.Numerals.{digit-range}
 use Rattle.text_json.proofs.Grammar.Ends.{inside-length}
 use Rattle.text_json.proofs.Grammar.Rests.{value-inside}
 use Rattle.text_json.proofs.Grammar.Bytes.{both-ways}
-use Rattle.text_json.proofs.Grammar.Answer.{by-test}
 use Rattle.text_json.proofs.Grammar.Complete.{end-stops, space-stops, spaces-complete, first-no-space, value-first}
 use Rattle.text_content.specs.Value.{Value, content}
 use Rattle.text_view.specs.Place.{ValueAt, kindOf}
@@ -202,26 +201,3 @@ pub root-at : (s : List ℕ) (d e : ℕ) (t : Syntax) → spaces s ≡ drop e s 
 root-at s d e t h (Text.text {s₁ = l} {s₂ = r} p q w) =
     let k : l ≡ drop e s = sym (spaces-complete p (first-no-space l (value-first d l t r q))) ∙ h in
     record { tree = t; rest = r; derives = rw (← k) q; stops = space-stops w end-stops; means = refl }
-
--- a boolean is true where its first byte is a t
-abbrev truth : Kind → Bool
-truth (Boolean b) = b
-truth Null = false
-truth ANumber = false
-truth AString = false
-truth Array = false
-truth Object = false
-
-truth-at : (b : ℕ) → truth (kindAt b) ≡ eqb b 0x74
-unfolding kindAt
-truth-at b =
-    by-test (eqb b 0x6E) (λ e. rw (eqb-true b 0x6E e)) (λ e. rw (e, kindAt)
-    (by-test (eqb b 0x74) (λ f. rw f) (λ f. rw f
-    (by-test (eqb b 0x66) (λ g. rw g) (λ g. rw g
-    (by-test (eqb b 0x22) (λ h. rw h) (λ h. rw h
-    (by-test (eqb b 0x5B) (λ i. rw i) (λ i. rw i
-    (by-test (eqb b 0x7B) (λ j. rw j) (λ j. rw j)))))))))))
-
-pub boolean-at : (s : List ℕ) (at d : ℕ) (b : Bool) → ValueAt s at d (Value.boolean b) → eqb (getD s at 0) 0x74 ≡ b
-unfolding kindOf
-boolean-at s at d b p = sym (truth-at (getD s at 0)) ∙ ap truth (kind-at s at d (Value.boolean b) p)

@@ -5,8 +5,7 @@ use mathlib.Core.List.{List, [], _∷_}
 use mathlib.Core.Bool.{Bool, true, false}
 use lib.ListN.{length, drop}
 use Rattle.text_json.specs.Syntax.{Syntax, Member}
-use Rattle.text_json.specs.Grammar.{Listed, Pair, Value as Derives}
-use Rattle.text_json.proofs.Grammar.Complete.{Stops}
+use Rattle.text_json.specs.Grammar.{Listed, Pair, Value as Derives, Stops}
 use Rattle.text_view.specs.declared.value.Item.{Item}
 use Rattle.text_view.specs.declared.value.Item.the-variants.{At, End}
 use Rattle.text_view.specs.declared.value.Peek.{Peek}

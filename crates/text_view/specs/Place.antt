@@ -6,12 +6,11 @@ use mathlib.Core.Bool.{Bool, _&&_}
 use lib.Dec.{leb}
 use lib.ListN.{length, take, drop}
 use Rattle.text_json.specs.Syntax.{Syntax, Char}
-use Rattle.text_json.specs.Grammar.{Chars, Scalar, Value as Derives}
+use Rattle.text_json.specs.Grammar.{Chars, Scalar, Value as Derives, Stops}
 use Rattle.text_json.specs.Content.{decimal}
 use Rattle.text_json.specs.Measure.{isUnmarked, every}
 use Rattle.text_json.specs.declared.Scan.{Scan}
 use Rattle.text_json.specs.declared.Scan.the-variants.{Token, NoToken}
-use Rattle.text_json.proofs.Grammar.Complete.{Stops}
 use Rattle.text_content.specs.Value.{Value, null, boolean, number, string, array, object, content}
 use Rattle.text_view.specs.declared.Kind.{Kind}
 use Rattle.text_view.specs.declared.Kind.the-variants.{Null, Boolean, Number, String, Array, Object}
@@ -35,11 +34,6 @@ pub record SomeValue (s : List ℕ) (at : ℕ) : Type 0 where
   pub depth : ℕ
   pub value : Value
   pub here : ValueAt s at depth value
-
-pub record SomeBoolean (s : List ℕ) (at : ℕ) : Type 0 where
-  pub depth : ℕ
-  pub value : Bool
-  pub here : ValueAt s at depth (boolean value)
 
 -- a whole number of at most 32 bits
 pub record SmallNumber (s : List ℕ) (at : ℕ) : Type 0 where

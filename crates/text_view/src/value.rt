@@ -12,8 +12,8 @@ ghost use Rattle.text_json.specs.Read.{spaces};
 ghost use Rattle.text_json.specs.Scan.{At};
 ghost use Rattle.text_json.specs.Content.{decimal};
 ghost use Rattle.text_strings.specs.InString.{Inside, EscapeAt};
-ghost use Rattle.text_content.specs.Value.{Value, boolean as isBoolean, number, content};
-ghost use Rattle.text_view.specs.Place.{ValueAt, Readable, SomeValue, SomeBoolean, SmallNumber, kindOf, EndsAt, StringEndsAt, CharEndsAt, unmarkedRun, ScalarAt, endOf};
+ghost use Rattle.text_content.specs.Value.{Value, number, content};
+ghost use Rattle.text_view.specs.Place.{ValueAt, Readable, SomeValue, SmallNumber, kindOf, EndsAt, StringEndsAt, CharEndsAt, unmarkedRun, ScalarAt, endOf};
 ghost use Rattle.text_view.specs.Listed.{Tree, ListAt, SomeList, AnyList, ListEndsAt, SomeItem, ItemValue, Gives, Peeks, endMark};
 
 // The value of a whole text: it stands after the first spaces.
@@ -38,13 +38,6 @@ pub fn kind(s: &[u8], at: usize) -> Kind
         b'{' => Kind::Object,
         _ => Kind::Number,
     }
-}
-
-pub fn boolean(s: &[u8], at: usize) -> bool
-    requires { ⌜ SomeBoolean (now s) at ⌝ }
-    ensures { λ r. ⌜ ((depth : ℕ) (b : Bool) → ValueAt (now (s .entry)) at depth (isBoolean b) → r ≡ b) ⌝ }
-{
-    s[at] == b't'
 }
 
 // The number at a position, whose distance from 0 is below 2^32.

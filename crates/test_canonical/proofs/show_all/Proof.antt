@@ -34,17 +34,20 @@ part-show-end c = search needs
 show-requires : tie.Need-show-requires Inv-loop μ-loop
 show-requires c κs = search needs
 
-add-start : tie.Need-add-start Inv-loop μ-loop
-add-start c = search needs
-
 add-i : tie.Need-add-i Inv-loop μ-loop
 add-i c = search needs
 
+add-start : tie.Need-add-start Inv-loop μ-loop
+add-start c = omega (arith, c .before .before .before .is-gap .ensures (c .before .before .if1 .taken))
+
+add-i-2 : tie.Need-add-i-2 Inv-loop μ-loop
+add-i-2 c = ⊎-elim (λ w. omega (arith, c .before .before .is-gap .ensures (w .0 .taken))) (λ w. omega arith) (c .before .if1 .came)
+
 loop-less : tie.Need-loop-less Inv-loop μ-loop
-loop-less c = search needs
+loop-less c = ⊎-elim (λ w. omega (arith, c .before .before .is-gap .ensures (w .0 .taken))) (λ w. omega arith) (c .before .if1 .came)
 
 loop-again : tie.Need-loop-again Inv-loop μ-loop
-loop-again c = ⊎-elim (λ w. omega arith) (λ w. omega arith) (c .if1 .came)
+loop-again c = ⊎-elim (λ w. omega (arith, c .before .before .is-gap .ensures (w .0 .taken))) (λ w. omega arith) (c .before .if1 .came)
 
 sub-show-2 : tie.Need-sub-show-2 Inv-loop μ-loop
 sub-show-2 c = search needs
@@ -73,8 +76,9 @@ show-all-spec =
     part-show-start
     part-show-end
     show-requires
-    add-start
     add-i
+    add-start
+    add-i-2
     loop-less
     loop-again
     sub-show-2

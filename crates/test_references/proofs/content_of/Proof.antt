@@ -26,7 +26,7 @@ root-requires c κs = search needs
 kind-requires : tie.Need-kind-requires
 kind-requires c κs =
     let a = c .before .before .before in
-    let p = accepted _ _ _ (a .check .ensures) (c .before .enum-told2 .given .1) in
+    let p = accepted _ _ _ _ (a .check .ensures) (c .before .enum-told2 .given .1) in
     record { depth = 8; value = content (p .tree); here = c .root .ensures .0 8 (p .tree) (taken-text _ p) }
 
 enum-told-3 : tie.Need-enum-told-3
@@ -36,7 +36,7 @@ add-t7 : tie.Need-add-t7
 add-t7 c =
     let k = c .before .before in
     let t = k .before .before in
-    let p = accepted _ _ _ (t .before .before .check .ensures) (t .enum-told2 .given .1) in
+    let p = accepted _ _ _ _ (t .before .before .check .ensures) (t .enum-told2 .given .1) in
     let h = k .before .root .ensures .0 8 (p .tree) (taken-text _ p) in
     omega (arith, string-short _ _ _ _ (p .short) h (sym (k .kind .ensures 8 _ h) ∙ c .enum-told3 .given .1))
 
@@ -47,7 +47,7 @@ returns-2 : tie.Need-returns-2
 returns-2 c = λ _.
     let k = c .before .before in
     let t = k .before .before in
-    let p = accepted _ _ _ (t .before .before .check .ensures) (t .enum-told2 .given .1) in
+    let p = accepted _ _ _ _ (t .before .before .check .ensures) (t .enum-told2 .given .1) in
     let h = k .before .root .ensures .0 8 (p .tree) (taken-text _ p) in
     string-inside _ _ 8 _ h (sym (k .kind .ensures 8 _ h) ∙ c .enum-told3 .given .1)
 

@@ -17,17 +17,11 @@ write-all-requires c κs = search needs
 returns : tie.Need-returns
 returns c = search needs
 
-read-requires : tie.Need-read-requires
-read-requires c κs = c .before .before .before .content-of .ensures (not-false _ (c .before .if1 .left))
+show-layer-requires : tie.Need-show-layer-requires
+show-layer-requires c κs = c .before .before .before .content-of .ensures (not-false _ (c .before .if1 .left))
 
-print-layer-requires : tie.Need-print-layer-requires
-print-layer-requires c κs = search needs
-
-read-requires-2 : tie.Need-read-requires-2
-read-requires-2 c κs = c .before .before .before .content-of .ensures (not-false _ (c .before .if1 .left))
-
-print-rule-requires : tie.Need-print-rule-requires
-print-rule-requires c κs = search needs
+show-rule-requires : tie.Need-show-rule-requires
+show-rule-requires c κs = c .before .before .before .content-of .ensures (not-false _ (c .before .if1 .left))
 
 is-alias-requires : tie.Need-is-alias-requires
 is-alias-requires c κs = c .before .before .before .content-of .ensures (not-false _ (c .before .if1 .left))
@@ -52,10 +46,8 @@ show-string-spec =
     slice-aggregate-write-all
     write-all-requires
     returns
-    read-requires
-    print-layer-requires
-    read-requires-2
-    print-rule-requires
+    show-layer-requires
+    show-rule-requires
     is-alias-requires
     print-alias-requires
     returns-2

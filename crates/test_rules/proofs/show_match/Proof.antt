@@ -1,7 +1,8 @@
--- `test_rules::show_match` meets its contract: it reads a rule where a string's content begins, and a manifest where a text's value begins.
+-- `test_rules::show_match` meets its contract: it reads a rule where a string's content begins, and the aliases of a manifest where a text's value begins.
 -- Assumes nothing.
 use borrow.Author.Needs.{needs}
 use borrow.Author.Tests.{not-false}
+use Rattle.manifest_fields.specs.Accessors.{selfField}
 use Rattle.test_rules.proofs.show_match.Statement.{statement}
 use Rattle.test_rules.proofs.show_match.Tie as tie
 
@@ -29,11 +30,16 @@ write-all-requires-2 c κs = search needs
 returns-2 : tie.Need-returns-2
 returns-2 c = search needs
 
-matches-requires : tie.Need-matches-requires
-matches-requires c κs =
-    let f = c .before .before in
+own-requires : tie.Need-own-requires
+own-requires c κs = c .before .before .before .before .value-of .ensures (not-false _ (c .if2 .left))
+
+matches-id-requires : tie.Need-matches-id-requires
+matches-id-requires c κs =
+    let e = c .before in
+    let f = e .before .before in
     let m = f .before .before in
-    (m .before .content-of .ensures (not-false _ (f .if1 .left)), m .value-of .ensures (not-false _ (c .if2 .left)))
+    let v = m .value-of .ensures (not-false _ (e .if2 .left)) in
+    (m .before .content-of .ensures (not-false _ (f .if1 .left)), record { value = selfField (v .value); finds = c .own .ensures (v .value) (v .here) })
 
 slice-aggregate-write-all-3 : tie.Need-slice-aggregate-write-all-3
 slice-aggregate-write-all-3 c = search needs
@@ -65,7 +71,8 @@ show-match-spec =
     slice-aggregate-write-all-2
     write-all-requires-2
     returns-2
-    matches-requires
+    own-requires
+    matches-id-requires
     slice-aggregate-write-all-3
     write-all-requires-3
     slice-aggregate-write-all-4

@@ -24,7 +24,7 @@ returns c = λ e. false-true e
 returns-2 : tie.Need-returns-2
 returns-2 c = λ _.
     let t = c .before in
-    root-readable _ _ (t .before .before .check .ensures) _ (t .enum-told2 .given .1) _ (c .root .ensures .0)
+    root-readable _ _ (t .before .before .check .ensures) _ _ (t .enum-told2 .given .1) _ (c .root .ensures .0)
 
 pub value-of-spec : {M : Type 1} → statement M
 value-of-spec = tie.close (tie.spec check-requires enum-told enum-told-2 root-requires returns returns-2)

@@ -12,7 +12,7 @@ refusal-requires : tie.Need-refusal-requires
 refusal-requires c κs = search needs
 
 returns : tie.Need-returns
-returns c = refused-keys _ _ _ _ _ _ (c .refusal .ensures) (too-long _ (c .before .if1 .taken))
+returns c = refused-keys _ _ _ _ _ (c .refusal .ensures) (too-long _ (c .before .if1 .taken))
 
 check-requires : tie.Need-check-requires
 check-requires c κs = search needs
@@ -48,7 +48,7 @@ unfolding byVerdict
 returns-3 c =
     let s = now (c .before .before .before .before .before .before .before .before .before .args .text) in
     let u = c .before .before .before .before .check in
-    refused-keys s _ _ _ _ _ (c .refusal2 .ensures) (by-verdict s (u .result) _ (c .before .before .before .before .before .if1 .left) (u .ensures) (sym (ap (byVerdict s) (c .before .before .at .given .1))))
+    refused-keys s _ _ _ _ (c .refusal2 .ensures) (by-verdict s (u .result) _ (c .before .before .before .before .before .if1 .left) (u .ensures) (sym (ap (byVerdict s) (c .before .before .at .given .1))))
 
 pub check-with-spec : {M : Type 1} → statement M
 check-with-spec =

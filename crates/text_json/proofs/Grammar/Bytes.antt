@@ -33,8 +33,3 @@ exp-cases P p q b h = or-cases (eqb b 0x65) _ h (at P 0x65 p b) (at P 0x45 q b)
 -- a byte of the set is not a byte k outside it
 pub apart : (p : ℕ → Bool) (k b : ℕ) → p k ≡ false → p b ≡ true → eqb b k ≡ false
 apart p k b f e = ne-eqb b k (λ q. both-ways e (rw q f))
-
--- the first byte of the text is in the set
-abbrev pub starts : (ℕ → Bool) → List ℕ → Bool
-starts p [] = false
-starts p (b ∷ s) = p b

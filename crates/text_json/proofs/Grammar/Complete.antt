@@ -9,23 +9,14 @@ use mathlib.Core.Bool.{Bool, true, false, _||_}
 use lib.ListN.{length}
 use lib.Dec.{eqb}
 use borrow.Author.Tests.{eq-eqb, ne-eqb}
-use Rattle.text_json.specs.Bytes.{between, isSpace, isDigit, isExp, isSign, hexValue, isUnescaped, isShort}
+use Rattle.text_json.specs.Bytes.{between, isSpace, isDigit, isPoint, isExp, isSign, hexValue, isUnescaped, isShort}
 use Rattle.text_json.specs.Syntax.{Char, Numeral, Syntax, number, Member}
-use Rattle.text_json.specs.Grammar.{hexNumber, Space, Word, Digits, SomeDigits, Int, Frac, Exp, Unsigned, Number, Chars, String, Scalar, Items, Listed, Pair, Nested, Value}
+use Rattle.text_json.specs.Grammar.{hexNumber, Space, Word, Digits, SomeDigits, Int, Frac, Exp, Unsigned, Number, Chars, String, Scalar, Items, Listed, Pair, Nested, Value, starts, Stops}
 use Rattle.text_json.specs.Read.{Read, found, andThen, spaces, readWord, digitsOf, afterDigits, readSomeDigits, readInt, readFrac, readSigned, readExp, readUnsigned, readNumber, Pending, prepend, readChars, readString, readScalar, afterItem, readItems, readFirst, readListed, readPair, readNested, read}
 use Rattle.text_json.proofs.Grammar.Ends.{Inside, inside-ends, ends-length, inside-length}
 use Rattle.text_json.proofs.Grammar.Answer.{by-test}
 use Rattle.text_json.proofs.Grammar.Rests.{space-ends, word-ends, pair-inside, value-inside}
-use Rattle.text_json.proofs.Grammar.Bytes.{both-ways, space-cases, exp-cases, apart, starts}
-
-abbrev pub isPoint : ℕ → Bool
-isPoint b = eqb b 0x2E
-
--- the text does not go on as a number does
-pub record Stops (r : List ℕ) : Type 0 where
-  pub no-digit : starts isDigit r ≡ false
-  pub no-point : starts isPoint r ≡ false
-  pub no-exp : starts isExp r ≡ false
+use Rattle.text_json.proofs.Grammar.Bytes.{both-ways, space-cases, exp-cases, apart}
 
 pub end-stops : Stops []
 end-stops = record { no-digit = refl; no-point = refl; no-exp = refl }

@@ -1,26 +1,24 @@
-use Prim.Native.Nat.{_≤_, _-_}
-use mathlib.Core.Path.{_≡_, sym, _∙_}
+use Prim.Native.Nat.{_≤_, _-_, _+_}
+use mathlib.Core.Path.{_≡_, refl, sym, ap, _∙_}
+use mathlib.Core.Bool.{Bool, true, false, _&&_}
 use native.Mathlib.Omega.{arith}
-use borrow.Author.Tests.{not-false}
+use borrow.Author.Tests.{not-true, not-false}
 use denote.Ref.{now}
 use lib.ListN.{length, drop, length-drop}
-use Rattle.laws.specs.Sort.{sort}
-use Rattle.laws.proofs.Order.{false-true}
-use Rattle.laws.proofs.Rising.{sort-short}
-use Rattle.text_strings.specs.InString.{keyLe}
+use Rattle.text_keys.specs.Keys.{risingKeys}
 use Rattle.text_keys.proofs.Keys.{keys-get}
-use Rattle.text_keys.proofs.Sorts.{sorted-before}
+use Rattle.text_keys.proofs.Orders.{rising-step, rising-short}
 use Rattle.text_keys.proofs.in_order.Statement.{statement}
 use Rattle.text_keys.proofs.in_order.Tie as tie
 
 abbrev Inv-loop : tie.InvT-loop
-Inv-loop s keys i₀ i = (i ≤ length keys) × (sort (keyLe s) (drop i keys) ≡ drop i keys → sort (keyLe s) keys ≡ keys)
+Inv-loop s keys at₀ at = (at ≤ length keys) × (risingKeys s (drop at keys) ≡ risingKeys s keys)
 
 abbrev μ-loop : tie.MeasureT-loop
-μ-loop s keys i₀ i = length keys - i
+μ-loop s keys at₀ at = length keys - at
 
 loop-holds : tie.Need-loop-holds Inv-loop μ-loop
-loop-holds c = (omega arith, λ e. e)
+loop-holds c = (omega arith, refl)
 
 add-loop : tie.Need-add-loop Inv-loop μ-loop
 add-loop c = omega arith
@@ -45,23 +43,33 @@ not-after-requires c κs =
     let p = c .before .before .before .before .before .before .pre in
     (keys-get p _ (omega arith), keys-get p _ (omega arith))
 
-returns : tie.Need-returns Inv-loop μ-loop
-returns c = λ e. false-true e
+-- the keys from here on are in order if this one does not come after the next, and those after it are
+step : (c : tie.After-not-after Inv-loop μ-loop) (b : Bool) → c .not-after .result ≡ b
+    → let l = c .before .before .before .before .loop in let a = c .before .before .before .before .before .before .before .args in
+    (b && risingKeys (now (a .s)) (drop (l .at + 1) (now (a .keys)))) ≡ risingKeys (now (a .s)) (now (a .keys))
+step c b e =
+    let l = c .before .before .before .before .loop in
+    let a = c .before .before .before .before .before .before .before .args in
+    ap (λ (x : Bool). x && risingKeys (now (a .s)) (drop (l .at + 1) (now (a .keys)))) (sym e ∙ c .not-after .ensures)
+    ∙ sym (rising-step (now (a .s)) (now (a .keys)) (l .at) (omega arith)) ∙ l .inv .1
 
-add-i : tie.Need-add-i Inv-loop μ-loop
-add-i c = omega arith
+returns : tie.Need-returns Inv-loop μ-loop
+returns c = step (c .before) false (not-true _ (c .if1 .taken))
+
+add-at : tie.Need-add-at Inv-loop μ-loop
+add-at c = omega arith
 
 loop-less : tie.Need-loop-less Inv-loop μ-loop
 loop-less c = omega arith
 
 loop-again : tie.Need-loop-again Inv-loop μ-loop
-loop-again c =
-    let l = c .before .before .before .before .before .loop in
-    let a = c .before .before .before .before .before .before .before .before .args in
-    (omega arith, λ e. l .inv .1 (sorted-before (now (a .s)) (now (a .keys)) (l .i) (omega arith) (sym (c .before .not-after .ensures) ∙ not-false _ (c .if1 .left)) e))
+loop-again c = (omega arith, step (c .before) true (not-false _ (c .if1 .left)))
 
 returns-2 : tie.Need-returns-2 Inv-loop μ-loop
-returns-2 c = λ e. c .before .loop .inv .1 (sort-short _ _ (rw length-drop (omega arith)))
+returns-2 c =
+    let a = c .before .before .before .before .args in
+    let l = c .before .loop in
+    sym (rising-short (now (a .s)) (drop (l .at) (now (a .keys))) (rw length-drop (omega arith))) ∙ l .inv .1
 
 pub in-order-spec : {M : Type 1} → statement M
 in-order-spec =
@@ -78,7 +86,7 @@ in-order-spec =
     shared-slice-read-not-after-2
     not-after-requires
     returns
-    add-i
+    add-at
     loop-less
     loop-again
     returns-2)

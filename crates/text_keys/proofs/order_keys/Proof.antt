@@ -1,3 +1,4 @@
+-- `text_keys::order_keys` meets its contract. Assumes nothing.
 use borrow.Author.Needs.{needs}
 use mathlib.Core.Path.{sym, subst}
 use denote.Ref.{now}
@@ -6,13 +7,13 @@ use Rattle.text_keys.proofs.Keys.{keys-sort}
 use Rattle.text_keys.proofs.order_keys.Statement.{statement}
 use Rattle.text_keys.proofs.order_keys.Tie as tie
 
-sort-keys-requires : tie.Need-sort-keys-requires
-sort-keys-requires c κs = search needs
+sort-unless-rising-requires : tie.Need-sort-unless-rising-requires
+sort-unless-rising-requires c κs = search needs
 
 repeat-left-requires : tie.Need-repeat-left-requires
 repeat-left-requires c κs =
     let a = c .before .before .before .before .before .before .before .before .before .before .before in
-    subst (KeysAt (now (a .args .s))) (sym (c .before .before .before .before .before .sort-keys .ensures)) (keys-sort (a .pre .0))
+    subst (KeysAt (now (a .args .s))) (sym (c .before .before .before .before .before .sort-unless-rising .ensures .0)) (keys-sort (a .pre .0))
 
 same-length : tie.Need-same-length
 same-length c = search needs
@@ -22,9 +23,10 @@ same-length-2 c = search needs
 
 returns : tie.Need-returns
 returns c =
-    let e = c .before .before .before .before .before .before .sort-keys .ensures in
-    (e, c .repeat-left .ensures _ e)
+    let e = c .before .before .before .before .before .before .sort-unless-rising .ensures in
+    (e .0, (c .repeat-left .ensures _ (e .0), e .1))
 
 pub order-keys-spec : {M : Type 1} → statement M
 order-keys-spec =
-    tie.close (tie.spec sort-keys-requires repeat-left-requires same-length same-length-2 returns)
+    tie.close
+    (tie.spec sort-unless-rising-requires repeat-left-requires same-length same-length-2 returns)

@@ -1,4 +1,5 @@
 use Prim.Native.Nat.{_+_}
+use mathlib.Core.Bool.{_&&_}
 use Rattle.text_scan.specs.Summary.{plus}
 use borrow.Author.Needs.{needs}
 use Rattle.text_scan.proofs.added.Statement.{statement}
@@ -24,7 +25,16 @@ add-t7 c = search needs
 
 returns : tie.Need-returns
 unfolding plus
-returns c = λ i. record { string = c .before .before .before .before .larger .ensures i; number = c .before .before .before .larger2 .ensures i; key = c .before .before .larger3 .ensures i; size = c .before .before .before .before .before .args .a .size + c .before .before .before .before .before .args .b .size + 1 }
+returns c =
+    let third = c .before .before .before .before in
+    let a = third .before .before .before .args in
+    λ i. record {
+      string = third .before .before .larger .ensures i;
+      number = third .before .larger2 .ensures i;
+      key = third .larger3 .ensures i;
+      size = a .a .size + a .b .size + 1;
+      ordered = a .a .ordered && a .b .ordered;
+    }
 
 pub added-spec : {M : Type 1} → statement M
 added-spec =

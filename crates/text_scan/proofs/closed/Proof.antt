@@ -1,5 +1,7 @@
 use Prim.Native.Nat.{ℕ, max}
+use mathlib.Core.Bool.{_&&_}
 use mathlib.Core.Path.{ap, _∙_}
+use Rattle.text_scan.specs.Scanned.{closedSummary}
 use Rattle.text_scan.specs.declared.Scanned.the-variants.{Value}
 use borrow.Author.Needs.{needs}
 use Rattle.text_scan.proofs.closed.Statement.{statement}
@@ -22,11 +24,23 @@ same-length-2 : tie.Need-same-length-2
 same-length-2 c = search needs
 
 returns : tie.Need-returns
+unfolding closedSummary
 returns c =
-    let a = c .before .before .before .before .before .before .before .before .before .before .before .args in
-    let o = c .before .before .before .before .before .order-keys in
-    let key = c .larger .ensures ∙ ap (λ (k : ℕ). max k (a .sum .key)) (o .ensures .1) in (
-      λ i. Value (record { end = a .end; count = o .kept .1 .0 i; sum = record { string = a .sum .string; number = a .sum .number; key = key i; size = a .sum .size } }),
+    let l = c .before .before in
+    let o = l .before .before .before .before .before .order-keys in
+    let a = l .before .before .before .before .before .before .before .before .before .before .before .args in
+    let key = l .larger .ensures ∙ ap (λ (k : ℕ). max k (a .sum .key)) (o .ensures .1 .0) in (
+      λ i. Value (record {
+        end = a .end;
+        count = o .kept .1 .0 i;
+        sum = record {
+          string = a .sum .string;
+          number = a .sum .number;
+          key = key i;
+          size = a .sum .size;
+          ordered = o .ensures .1 .1 i && a .sum .ordered;
+        };
+      }),
       o .ensures .0,
     )
 

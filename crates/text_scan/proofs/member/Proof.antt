@@ -18,7 +18,15 @@ add-t5 c = search needs
 
 returns : tie.Need-returns
 unfolding memberSummary
-returns c = λ i. record { string = c .before .before .larger .ensures i; number = c .before .before .before .args .value .number; key = c .before .before .before .args .value .key; size = c .before .before .before .args .name .size + c .before .before .before .args .value .size + 1 }
+returns c =
+    let a = c .before .before .before .args in
+    λ i. record {
+      string = c .before .before .larger .ensures i;
+      number = a .value .number;
+      key = a .value .key;
+      size = a .name .size + a .value .size + 1;
+      ordered = a .value .ordered;
+    }
 
 pub member-spec : {M : Type 1} → statement M
 member-spec = tie.close (tie.spec larger-requires add-t4 add-t5 returns)

@@ -66,7 +66,7 @@ same-length-6 c = search needs
 returns-3 : tie.Need-returns-3
 returns-3 c =
     let p = c .before .before .before .before .before .before .before .before .before .before .before .before .before .skip-spaces .ensures .1 in (
-      text-whole _ _ p _ (val (c .before .before .before)) _ (c .before .before .skip-spaces2 .ensures .1) _ (c .before .if1 .left),
+      text-whole _ _ p _ (val (c .before .before .before)) _ (c .before .before .skip-spaces2 .ensures .1) (c .before .if1 .left),
       text-keys _ _ _ _ p ((rw (c .before .before .before .before .f .given .1) at (c .before .before .before .before .before .before .before .before .before .before .root .ensures)) .1),
     )
 

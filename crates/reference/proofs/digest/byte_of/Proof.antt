@@ -2,7 +2,7 @@
 use borrow.Author.Needs.{needs}
 use native.Mathlib.Omega.{arith}
 use Rattle.text_json.proofs.ByteTests.{hex-below}
-use Rattle.reference.proofs.Hex.{is-hex}
+use Rattle.reference.proofs.Digests.{is-hex}
 use Rattle.reference.proofs.digest.byte_of.Statement.{statement}
 use Rattle.reference.proofs.digest.byte_of.Tie as tie
 

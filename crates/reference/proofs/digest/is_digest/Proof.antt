@@ -9,10 +9,10 @@ hex-digits-requires : tie.Need-hex-digits-requires
 hex-digits-requires c κs = search needs
 
 returns : tie.Need-returns
-returns c = let x = c .before .before .args in digest-test (x .a) (x .length) _ (x .hex) (c .before .hex-digits .ensures) (c .if1 .taken)
+returns c = let x = c .before .before .args in digest-test (x .a) (x .digits) _ (x .hex) (c .before .hex-digits .ensures) (c .if1 .taken)
 
 returns-2 : tie.Need-returns-2
-returns-2 c = let x = c .before .before .args in no-digest-test (x .a) (x .length) _ (x .hex) (c .before .hex-digits .ensures) (c .if1 .left)
+returns-2 c = let x = c .before .before .args in no-digest-test (x .a) (x .digits) _ (x .hex) (c .before .hex-digits .ensures) (c .if1 .left)
 
 pub is-digest-spec : {M : Type 1} → statement M
 is-digest-spec = tie.close (tie.spec hex-digits-requires returns returns-2)

@@ -62,7 +62,8 @@ returns-5 c =
     let y = z .before in
     let x = y .before .before in
     id-reads _ _ (x .before .read-plain .ensures .0) (x .if1 .left) _ (y .before .read-plain2 .ensures .0) (y .if2 .left) _ (z .read-plain3 .ensures .0)
-    (not-false _ (e .if3 .left)) _ (n .named .ensures) _ (h .a .given .1) (c .under .result)
+    (not-false _ (e .if3 .left)) _ (n .named .ensures) (x .before .read-plain .ensures .1) (y .before .read-plain2 .ensures .1)
+    _ (h .a .given .1) (c .under .result)
     (c .under .ensures _ _ (y .before .read-plain2 .ensures .0 .counts) (z .read-plain3 .ensures .0 .counts))
 
 pub read-spec : {M : Type 1} → statement M

@@ -3,7 +3,7 @@
 use mathlib.Core.Path.{refl, sym, _∙_}
 use borrow.Author.Tests.{not-true, not-false}
 use Rattle.reference.proofs.Forms.{digest-counted}
-use Rattle.reference.proofs.Steps.{id-no-signer, id-no-manifest, id-good}
+use Rattle.reference.proofs.Steps.{id-no-signer, id-no-manifest}
 use borrow.Author.Needs.{needs}
 use Rattle.reference.proofs.id.under.Statement.{statement}
 use Rattle.reference.proofs.id.under.Tie as tie
@@ -32,8 +32,9 @@ returns-3 c = λ x y k l.
     let a = e .before .before .args in (
       refl,
       refl,
-      id-good (a .a) _ _ (sym (e .before .is-digest .ensures ∙ digest-counted (a .a) x (a .signer) k) ∙ not-false _ (e .if1 .left))
-          (sym (c .before .is-digest2 .ensures ∙ digest-counted (a .a) y (a .manifest) l) ∙ not-false _ (c .if2 .left)),
+      refl,
+      sym (e .before .is-digest .ensures ∙ digest-counted (a .a) x (a .signer) k) ∙ not-false _ (e .if1 .left),
+      sym (c .before .is-digest2 .ensures ∙ digest-counted (a .a) y (a .manifest) l) ∙ not-false _ (c .if2 .left),
     )
 
 pub under-spec : {M : Type 1} → statement M

@@ -73,11 +73,12 @@ returns-5 c =
     let n = h .before .before in
     let w = n .before in
     let a = w .before .before .before .before in
-    let d = a .pre in (
-      d .0 .second .inside,
+    let d = a .pre in
+    let x = sym (e .before .is-digest .ensures ∙ digest-counted _ _ (a .args .third) (d .1 .second .counts)) ∙ not-false _ (e .if2 .left) in (
+      record { inside = d .0 .second .inside; digest = x },
       d .1 .second .inside,
       by-known _ _ _ _ (d .0) _ (d .1) _ (d .2) _ _ (d .3) (n .named .ensures) (h .a .given .1) (sym (w .before .is .ensures) ∙ not-false _ (w .if1 .left))
-          ∙ alias-good _ _ _ (sym (e .before .is-digest .ensures ∙ digest-counted _ _ (a .args .third) (d .1 .second .counts)) ∙ not-false _ (e .if2 .left))
+          ∙ alias-good _ _ _ x
           (sym (c .before .is-alias-part .ensures ∙ ap isAlias (whole _ _ _ (d .2 .second) (d .3))) ∙ not-false _ (c .if3 .left)),
     )
 

@@ -37,11 +37,12 @@ returns-2 c =
     let h = c .before .before .before in
     let n = h .before .before in
     let a = n .before .before in
-    let w = whole _ _ _ (a .pre .0 .second) (a .pre .1) in (
-      a .pre .0 .first .inside,
+    let w = whole _ _ _ (a .pre .0 .second) (a .pre .1) in
+    let d = sym (c .before .is-digest .ensures ∙ digest-counted _ _ (a .args .second) (a .pre .0 .second .counts)) ∙ c .if1 .taken in (
+      record { inside = a .pre .0 .first .inside; digest = d },
       layer-by-digest _ _ _ _ (a .pre .0) _ (a .pre .1) (n .named .ensures)
           ∙ ap (λ (k : Known). digestLayer k (contentFrom (now (a .args .s)) (a .args .first .next))) (h .a .given .1)
-          ∙ digest-good _ _ (sym (c .before .is-digest .ensures ∙ digest-counted _ _ (a .args .second) (a .pre .0 .second .counts) ∙ ap (isDigest _) w) ∙ c .if1 .taken),
+          ∙ digest-good _ _ _ w d,
     )
 
 returns-3 : tie.Need-returns-3

@@ -5,7 +5,8 @@ use mathlib.Core.List.{List}
 use Prim.Native.Nat.{ℕ}
 use Rattle.laws.specs.Order.{same}
 use Rattle.reference.specs.Aliases.{star}
-use Rattle.reference.specs.Digests.{isDigest}
+use Rattle.reference.specs.Digests.{isDigest, digestOf}
+use Rattle.reference.specs.References.{manifest}
 use Rattle.reference.proofs.Forms.{digest-counted}
 use Rattle.reference.proofs.Steps.{whole, manifest-any, manifest-one, manifest-alias}
 use borrow.Author.Needs.{needs}
@@ -31,11 +32,13 @@ returns-2 : tie.Need-returns-2
 returns-2 c =
     let e = c .before .before in
     let a = e .before .before .before .before in
+    let d = sym (c .before .is-digest .ensures ∙ digest-counted (a .args .a) _ (a .args .p) (a .pre .1 .counts)) ∙ c .if2 .taken in
     let w = whole _ _ _ (a .pre .1) (a .pre .2) in (
-      a .pre .0,
-      manifest-one _ (a .args .a)
+      record { inside = a .pre .0; digest = d },
+      ap (λ (x : List ℕ). manifest (digestOf x)) w
+          ∙ manifest-one _ (a .args .a)
           (sym (e .before .is .ensures ∙ ap (λ (x : List ℕ). same x star) w) ∙ e .if1 .left)
-          (sym (c .before .is-digest .ensures ∙ digest-counted (a .args .a) _ (a .args .p) (a .pre .1 .counts) ∙ ap (isDigest (a .args .a)) w) ∙ c .if2 .taken),
+          (sym (ap (isDigest (a .args .a)) w) ∙ d),
     )
 
 returns-3 : tie.Need-returns-3

@@ -26,7 +26,10 @@ returns-2 c =
     (sym (c .before .is-manifest .ensures ∙ ap (isManifest (a .args .a)) w) ∙ not-true _ (c .if2 .taken))
 
 signer-of-requires : tie.Need-signer-of-requires
-signer-of-requires c κs = search needs
+signer-of-requires c κs =
+    let e = c .before .before in
+    let a = e .before .before .before in
+    (a .pre .0 .here, a .pre .0 .first, sym (e .before .is-signer .ensures) ∙ not-false _ (e .if1 .left))
 
 manifest-of-requires : tie.Need-manifest-of-requires
 manifest-of-requires c κs = search needs

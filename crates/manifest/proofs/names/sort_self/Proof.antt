@@ -1,0 +1,23 @@
+-- `manifest::names::sort_self` meets its contract: the names of the group `self` are sorted. Assumes nothing.
+use borrow.Author.Needs.{needs}
+use Rattle.manifest.proofs.Groups.{self-space, self-sorted}
+use Rattle.manifest.proofs.names.sort_self.Statement.{statement}
+use Rattle.manifest.proofs.names.sort_self.Tie as tie
+
+sort-names-requires : tie.Need-sort-names-requires
+sort-names-requires c κs = let a = c .before .before .before .before .before in self-space _ _ (a .pre .0) _ _ (a .pre .1)
+
+same-length : tie.Need-same-length
+same-length c = search needs
+
+same-length-2 : tie.Need-same-length-2
+same-length-2 c = search needs
+
+returns : tie.Need-returns
+returns c =
+    let f = c .before .before .before .before in
+    let a = f .before .before .before .before .before .before in
+    (f .sort-names .ensures .0, self-sorted _ _ (a .pre .0) _ (f .sort-names .ensures .1))
+
+pub sort-self-spec : {M : Type 1} → statement M
+sort-self-spec = tie.close (tie.spec sort-names-requires same-length same-length-2 returns)

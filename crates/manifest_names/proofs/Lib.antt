@@ -1,0 +1,9 @@
+pub mod Any
+pub mod Nexts
+pub mod Searching
+pub mod Walking
+pub mod Objects
+pub mod Founds
+pub mod Elsewhere
+pub mod Keying
+pub mod Goods

@@ -1,0 +1,131 @@
+-- How far the strings of an array, and the aliases of a group, were tried by a test. What the test is asked against is given by an index, so that
+-- one walk answers for everything that it stands for. Assumes nothing.
+use Prim.Native.Nat.{ℕ, _+_}
+use mathlib.Core.Path.{_≡_, sym, ap, _∙_}
+use mathlib.Core.List.{List}
+use mathlib.Core.Bool.{Bool, true, false}
+use Rattle.text_content.specs.Value.{Values, no-values, Fields, no-fields, array, object}
+use Rattle.text_strings.specs.InString.{Inside, contentFrom}
+use Rattle.text_view.specs.Place.{ValueAt}
+use Rattle.text_view.specs.Cursor.{SomeElements, ElementsLeft, NextElement, SomeObject, SomeMembers, MembersLeft, NextMember}
+use Rattle.text_view.specs.declared.Elements.{Elements}
+use Rattle.text_view.specs.declared.Members.{Members}
+use Rattle.manifest_fields.specs.Accessors.{texts}
+use Rattle.manifest_values.specs.Entries.{allPass}
+use Rattle.manifest_fields.specs.Rules.{everyMember, namesPass}
+use Rattle.manifest_values.specs.declared.entry.Entry.the-variants.{Text}
+use Rattle.manifest_values.proofs.Counting.{one-array}
+use Rattle.manifest_fields.proofs.Finding.{one-object}
+use Rattle.manifest_names.specs.Contents.{Named, namedUnder, namedIn, anyOf}
+use Rattle.manifest_names.specs.Groups.{AliasGroup, AliasList}
+use Rattle.manifest_names.proofs.Any.{any-first, any-second, any-under}
+use Rattle.manifest_names.proofs.Nexts.{NextString, next-string, NextAliases, next-aliases}
+
+-- The elements `others` stand before the cursor, and one of their strings passes where one of the array's does.
+pub record InTexts {I : Type 0} (g : I → List ℕ → Bool) (t : List ℕ) (at depth : ℕ) (left : Elements) : Type 0 where
+  pub others : Values
+  pub here : ElementsLeft t left others
+  pub first : Bool
+  pub strings : allPass Text first others ≡ true
+  pub kept : (i : I) (vs : Values) → ValueAt t at depth (array vs) → anyOf (g i) (texts vs) ≡ anyOf (g i) (texts others)
+
+module _ {I : Type 0} (g : I → List ℕ → Bool) (t : List ℕ) (at depth : ℕ) where
+  pub texts-started : (o : AliasList t at depth) (left : Elements) → ElementsLeft t left (o .values) → InTexts g t at depth left
+  texts-started o left l =
+      record {
+        others = o .values;
+        here = l;
+        first = true;
+        strings = o .strings;
+        kept = λ i vs v. ap (λ (ws : Values). anyOf (g i) (texts ws)) (one-array t at depth vs (o .values) v (o .here));
+      }
+
+  module _ (left : Elements) (p : InTexts g t at depth left) where
+    pub some-elements : SomeElements t left
+    some-elements = record { values = p .others; left = p .here }
+
+    -- no element is left
+    pub not-in-texts : p .others ≡ no-values → (i : I) (vs : Values) → ValueAt t at depth (array vs) → false ≡ anyOf (g i) (texts vs)
+    unfolding anyOf texts
+    not-in-texts e i vs v = sym (p .kept i vs v ∙ ap (λ (ws : Values). anyOf (g i) (texts ws)) e)
+
+    -- the next element
+    module _ (q : ℕ) (rest : Elements) (x : NextElement t left (p .others) q rest) where
+      text : NextString t (p .others) (x .others) q
+      text = next-string t left (p .others) (p .first) (p .strings) q rest x
+
+      pub text-inside : Inside t (q + 1)
+      text-inside = text .inside
+
+      module _ (r : Bool) (f : (i : I) → r ≡ g i (contentFrom t (q + 1))) where
+        pub in-texts : r ≡ true → (i : I) (vs : Values) → ValueAt t at depth (array vs) → true ≡ anyOf (g i) (texts vs)
+        unfolding anyOf
+        in-texts e i vs v = let h : g i (contentFrom t (q + 1)) ≡ true = sym (f i) ∙ e in sym (p .kept i vs v ∙ ap (anyOf (g i)) (text .split) ∙ rw h)
+
+        pub texts-go-on : r ≡ false → InTexts g t at depth rest
+        unfolding anyOf
+        texts-go-on e =
+            record {
+              others = x .others;
+              here = x .left;
+              first = false;
+              strings = text .strings;
+              kept = λ i vs v. let h : g i (contentFrom t (q + 1)) ≡ false = sym (f i) ∙ e in p .kept i vs v ∙ ap (anyOf (g i)) (text .split) ∙ rw h;
+            }
+
+-- The members `others` stand before the cursor, and one of their aliases passes where one of the group's does.
+pub record InNamed {I : Type 0} (g : I → Named → Bool) (t : List ℕ) (at depth : ℕ) (left : Members) : Type 0 where
+  pub others : Fields
+  pub here : MembersLeft t left others
+  pub strings : everyMember namesPass others ≡ true
+  pub kept : (i : I) (fs : Fields) → ValueAt t at depth (object fs) → anyOf (g i) (namedIn fs) ≡ anyOf (g i) (namedIn others)
+
+module _ {I : Type 0} (g : I → Named → Bool) (t : List ℕ) (at depth : ℕ) where
+  pub named-started : (o : AliasGroup t at depth) (left : Members) → MembersLeft t left (o .fields) → InNamed g t at depth left
+  named-started o left l =
+      record {
+        others = o .fields;
+        here = l;
+        strings = o .strings;
+        kept = λ i fs v. ap (λ (gs : Fields). anyOf (g i) (namedIn gs)) (one-object t at depth fs (o .fields) v (o .here));
+      }
+
+  module _ (left : Members) (p : InNamed g t at depth left) where
+    pub some-members : SomeMembers t left
+    some-members = record { fields = p .others; left = p .here }
+
+    -- no member is left
+    pub not-in-named : p .others ≡ no-fields → (i : I) (fs : Fields) → ValueAt t at depth (object fs) → false ≡ anyOf (g i) (namedIn fs)
+    unfolding anyOf namedIn
+    not-in-named e i fs v = sym (p .kept i fs v ∙ ap (λ (gs : Fields). anyOf (g i) (namedIn gs)) e)
+
+    -- the next member
+    module _ (k q : ℕ) (rest : Members) (x : NextMember t left (p .others) k q rest) where
+      aliases : NextAliases t (p .others) (x .others) k q (left .depth)
+      aliases = next-aliases t left (p .others) (p .strings) k q rest x
+
+      pub alias-list : AliasList t q (left .depth)
+      alias-list = aliases .list
+
+      pub key-inside : Inside t (k + 1)
+      key-inside = aliases .key
+
+      abbrev its-named : List Named
+      its-named = namedUnder (contentFrom t (k + 1)) (texts (aliases .list .values))
+
+      module _ (r : Bool) (f : (i : I) (vs : Values) → ValueAt t q (left .depth) (array vs)
+          → r ≡ anyOf (λ (n : List ℕ). g i (record { name = n; key = contentFrom t (k + 1) })) (texts vs)) where
+        tried : (i : I) → anyOf (g i) its-named ≡ r
+        tried i = any-under (g i) (contentFrom t (k + 1)) (texts (aliases .list .values)) ∙ sym (f i (aliases .list .values) (aliases .list .here))
+
+        pub in-named : r ≡ true → (i : I) (fs : Fields) → ValueAt t at depth (object fs) → true ≡ anyOf (g i) (namedIn fs)
+        in-named e i fs v = sym (p .kept i fs v ∙ ap (anyOf (g i)) (aliases .split) ∙ any-first (g i) its-named (namedIn (x .others)) (tried i ∙ e))
+
+        pub named-goes-on : r ≡ false → InNamed g t at depth rest
+        named-goes-on e =
+            record {
+              others = x .others;
+              here = x .left;
+              strings = aliases .strings;
+              kept = λ i fs v. p .kept i fs v ∙ ap (anyOf (g i)) (aliases .split) ∙ any-second (g i) its-named (namedIn (x .others)) (tried i ∙ e);
+            }

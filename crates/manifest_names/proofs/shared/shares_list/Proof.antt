@@ -1,0 +1,106 @@
+-- `manifest_names::shared::shares_list` meets its contract. The loop's invariant: one of the strings that are left is one of the names where one of the
+-- array's is. The measure is how much of the text is left. Assumes nothing.
+use borrow.Author.Needs.{needs}
+use Prim.Native.Nat.{ℕ, _-_}
+use mathlib.Core.Path.{subst}
+use mathlib.Core.List.{List}
+use mathlib.Core.Bool.{Bool}
+use native.Mathlib.Omega.{arith}
+use denote.Ref.{now}
+use lib.ListN.{length}
+use Rattle.text_strings.proofs.Orders.{inside-within}
+use Rattle.text_view.specs.Cursor.{GivesElement, NextElement}
+use Rattle.reference.specs.Matches.{isOneOf}
+use Rattle.manifest_names.specs.Contents.{shareName}
+use Rattle.manifest_names.specs.Placed.{SortedNames}
+use Rattle.manifest_names.proofs.Walking.{InTexts, texts-started, some-elements, not-in-texts, text-inside, in-texts, texts-go-on}
+use Rattle.manifest_names.proofs.shared.shares_list.Statement.{statement}
+use Rattle.manifest_names.proofs.shared.shares_list.Tie as tie
+
+-- one of the names that the positions stand for
+abbrev test : (s ks : List ℕ) → ((cs : List (List ℕ)) × SortedNames s cs ks) → List ℕ → Bool
+test s ks i n = isOneOf n (i .0)
+
+abbrev Inv-loop : tie.InvT-loop
+Inv-loop s names t at depth left₀ left = InTexts (test s names) t at depth left
+
+abbrev μ-loop : tie.MeasureT-loop
+μ-loop s names t at depth left₀ left = length t - left .at
+
+new-requires : tie.Need-new-requires Inv-loop μ-loop
+new-requires c κs = let o = c .before .before .before .pre .1 in record { values = o .values; here = o .here }
+
+loop-holds : tie.Need-loop-holds Inv-loop μ-loop
+loop-holds c =
+    let o = c .before .before .before .before .pre .1 in
+    texts-started _ _ _ _ o _ (c .new .ensures .0 (o .values) (o .here))
+
+next-requires : tie.Need-next-requires Inv-loop μ-loop
+next-requires c κs = some-elements _ _ _ _ _ (c .loop .inv)
+
+enum-told : tie.Need-enum-told Inv-loop μ-loop
+enum-told c = search needs
+
+returns : tie.Need-returns Inv-loop μ-loop
+unfolding shareName
+returns c =
+    let d = c .before .before in
+    let p = d .before .loop .inv in
+    λ cs vs m v. not-in-texts _ _ _ _ _ p (rw (c .enum-told .given .1) at (d .next .ensures (p .others) (p .here))) (cs, m) vs v
+
+enum-known-p : tie.Need-enum-known-p Inv-loop μ-loop
+enum-known-p c = search needs
+
+-- what `next` gave: an element
+abbrev inv : (c : tie.After-known-told Inv-loop μ-loop) → let b = c .before .before .before .before in let a = b .before .before .before .before .before .args in
+    InTexts (test (now (a .s)) (now (a .names))) (now (a .t)) (a .at) (a .depth) (b .loop .left)
+inv c = c .before .before .before .before .loop .inv
+
+given : (c : tie.After-known-told Inv-loop μ-loop) → let b = c .before .before .before .before in let a = b .before .before .before .before .before .args in
+    let g = c .before .p .given .0 in
+    NextElement (now (a .t)) (b .loop .left) (b .loop .inv .others) (g .0) (g .1 .0)
+given c =
+    let p = inv c in
+    let d = c .before .before .before in
+    let a = d .before .before .before .before .before .before .args in
+    subst (GivesElement (now (a .t)) (d .before .loop .left) (p .others)) (c .before .p .given .1) (d .next .ensures (p .others) (p .here))
+
+add-has-name : tie.Need-add-has-name Inv-loop μ-loop
+add-has-name c = omega (arith, inside-within _ _ (text-inside _ _ _ _ _ (inv c) _ _ (given c)))
+
+has-name-requires : tie.Need-has-name-requires Inv-loop μ-loop
+has-name-requires c κs = (c .before .before .before .before .before .before .before .before .before .pre .0, text-inside _ _ _ _ _ (inv c) _ _ (given c))
+
+returns-2 : tie.Need-returns-2 Inv-loop μ-loop
+unfolding shareName
+returns-2 c =
+    let n = c .before in
+    let k = n .before in
+    λ cs vs m v. in-texts _ _ _ _ _ (inv k) _ _ (given k) _ (λ i. n .has-name .ensures (i .0) (i .1)) (c .if1 .taken) (cs, m) vs v
+
+loop-less : tie.Need-loop-less Inv-loop μ-loop
+loop-less c = let x = given (c .before .before) in omega (arith, x .later, x .within)
+
+loop-again : tie.Need-loop-again Inv-loop μ-loop
+loop-again c =
+    let n = c .before in
+    let k = n .before in
+    texts-go-on _ _ _ _ _ (inv k) _ _ (given k) _ (λ i. n .has-name .ensures (i .0) (i .1)) (c .if1 .left)
+
+pub shares-list-spec : {M : Type 1} → statement M
+shares-list-spec =
+    tie.close
+    (tie.spec
+    Inv-loop
+    μ-loop
+    new-requires
+    loop-holds
+    next-requires
+    enum-told
+    returns
+    enum-known-p
+    add-has-name
+    has-name-requires
+    returns-2
+    loop-less
+    loop-again)

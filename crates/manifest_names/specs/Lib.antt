@@ -1,0 +1,5 @@
+pub mod Contents
+pub mod Placed
+pub mod Groups
+pub mod Keyed
+pub mod Searches

@@ -1,0 +1,188 @@
+// Reads manifests from standard input, one to a line, or two with a tab between them, and prints what each says: its number; of a good one the length of its
+// canonical form, whether it is that form, what its layers are, whether it rejects, its instances, whether it has `noRestart`, `writableFS`, an
+// entrypoint and the variable A=b, and its signals. Of two good ones, whether the first accepts the image
+// sha224 with 28 bytes 0xaa as signer, 28 bytes 0xbb as manifest digest, and the second as its manifest.
+use manifest::Checked;
+use manifest::Fault;
+use manifest::Places;
+use manifest::SignalNumber;
+use reference::LayerIndex;
+use reference::algorithm::Algorithm;
+use reference::layer::Layer;
+ghost use Prim.Native.Nat.{_≤_};
+ghost use lib.ListN.{length};
+ghost use Rattle.manifest.specs.Opened.{Opens};
+
+fn show_flag(b: bool) {
+    if b {
+        io::write_all(1, b" yes");
+    } else {
+        io::write_all(1, b" no");
+    }
+}
+
+// What a layer is: a digest or an alias.
+fn show_layer(l: Layer) {
+    match l {
+        Layer::Digest(_, _) => {
+            io::write_all(1, b" digest");
+        }
+        Layer::Alias {
+            algorithm: _,
+            signer: _,
+            alias: _,
+        } => {
+            io::write_all(1, b" alias");
+        }
+        Layer::Bad => {
+            io::write_all(1, b" bad");
+        }
+    }
+}
+
+fn show_layers(s: &[u8], p: Places)
+    requires { ⌜ Opens (now s) p ⌝ }
+{
+    let n = manifest::layer_count(s, p);
+    let mut i = 0;
+    while i < n {
+        show_layer(manifest::layer(s, p, LayerIndex(i)));
+        i += 1;
+    }
+}
+
+fn show_signal(n: SignalNumber) {
+    if n.negative {
+        io::write_all(1, b" -");
+    } else {
+        io::write_all(1, b" +");
+    }
+    io::print_decimal(1, n.magnitude as u64);
+}
+
+fn show_signals(s: &[u8], p: Places)
+    requires { ⌜ Opens (now s) p ⌝ }
+{
+    let n = manifest::signal_count(s, p);
+    let mut i = 0;
+    while i < n {
+        show_signal(manifest::signal(s, p, i));
+        i += 1;
+    }
+}
+
+// What a good manifest says.
+fn show_good(s: &[u8], length: usize, canonical: bool, p: Places)
+    requires { ⌜ Opens (now s) p ⌝ }
+{
+    io::print_decimal(1, manifest::number(s) as u64);
+    io::write_all(1, b" ");
+    io::print_decimal(1, length as u64);
+    show_flag(canonical);
+    show_layers(s, p);
+    show_flag(manifest::rejects(s, p));
+    io::write_all(1, b" ");
+    io::print_decimal(1, manifest::max_instances(s, p) as u64);
+    show_flag(manifest::no_restart(s, p));
+    show_flag(manifest::writable_fs(s, p));
+    show_flag(manifest::has_entrypoint(s, p));
+    show_flag(manifest::has_variable(s, p, b"A=b"));
+    show_signals(s, p);
+    io::write_all(1, b"\n");
+}
+
+fn show_fault(f: Fault) {
+    io::print_decimal(1, f.number() as u64);
+    io::write_all(1, b"\n");
+}
+
+fn show_one(s: &[u8]) {
+    match manifest::check(s) {
+        Checked::Refused(f) => show_fault(f),
+        Checked::Good {
+            length,
+            canonical,
+            places,
+        } => show_good(s, length, canonical, places),
+    }
+}
+
+// Whether s accepts the image whose manifest is t.
+fn show_accepts(s: &[u8], p: Places, t: &[u8], q: Places)
+    requires { ⌜ Opens (now s) p × Opens (now t) q ⌝ }
+{
+    let signer = [0xaau8; 28];
+    let digest = [0xbbu8; 28];
+    show_flag(manifest::accepts(s, p, Algorithm::Sha224, &signer, &digest, t, q));
+    io::write_all(1, b"\n");
+}
+
+fn show_bad() {
+    io::write_all(1, b" bad\n");
+}
+
+fn show_pair(s: &[u8], p: Places, t: &[u8])
+    requires { ⌜ Opens (now s) p ⌝ }
+{
+    match manifest::check(t) {
+        Checked::Refused(_) => show_bad(),
+        Checked::Good {
+            length: _,
+            canonical: _,
+            places,
+        } => show_accepts(s, p, t, places),
+    }
+}
+
+// Where the next tab is; the length where there is none.
+fn tab(s: &[u8]) -> usize
+    ensures { λ r. ⌜ r ≤ length (now (s .entry)) ⌝ }
+{
+    let mut i = 0;
+    while i < s.len() {
+        if s[i] == b'\t' {
+            return i;
+        }
+        i += 1;
+    }
+    i
+}
+
+fn show_two(s: &[u8], t: &[u8]) {
+    match manifest::check(s) {
+        Checked::Refused(_) => show_bad(),
+        Checked::Good {
+            length: _,
+            canonical: _,
+            places,
+        } => show_pair(s, places, t),
+    }
+}
+
+fn show(line: &[u8]) {
+    let n = tab(line);
+    if n < line.len() {
+        let second = n + 1;
+        show_two(&line[0..n], &line[second..]);
+        return;
+    }
+    show_one(line);
+}
+
+fn show_all(s: &[u8]) {
+    let mut start = 0;
+    let mut i = 0;
+    while i < s.len() {
+        if s[i] == b'\n' {
+            show(&s[start..i]);
+            start = i + 1;
+        }
+        i += 1;
+    }
+}
+
+fn main() {
+    let mut buffer = io::large_buffer();
+    let n = io::read_full(0, &mut buffer);
+    show_all(&buffer[..n]);
+}

@@ -1,0 +1,55 @@
+-- `test_names::show_conflict` meets its contract: a good manifest has fewer bytes than there is room for keys. Assumes nothing.
+use mathlib.Core.Path.{sym}
+use native.Mathlib.Omega.{arith}
+use lib.Seq.{length-take-le}
+use Rattle.manifest.proofs.Opening.{opened-short}
+use borrow.Author.Needs.{needs}
+use Rattle.test_names.proofs.show_conflict.Statement.{statement}
+use Rattle.test_names.proofs.show_conflict.Tie as tie
+
+slice-aggregate-sort-contents : tie.Need-slice-aggregate-sort-contents
+slice-aggregate-sort-contents c = search needs
+
+slice-aggregate-sort-contents-2 : tie.Need-slice-aggregate-sort-contents-2
+slice-aggregate-sort-contents-2 c = search needs
+
+slice-aggregate-sort-contents-3 : tie.Need-slice-aggregate-sort-contents-3
+slice-aggregate-sort-contents-3 c = search needs
+
+sort-contents-requires : tie.Need-sort-contents-requires
+sort-contents-requires c κs =
+    let a = c .before .before .before .before .before in
+    (a .pre .0, record { room = omega arith; sorting = omega arith }, omega (arith, opened-short _ _ (a .pre .0)))
+
+array-share-prefix-names : tie.Need-array-share-prefix-names
+array-share-prefix-names c = search needs
+
+slice-aggregate-conflicts : tie.Need-slice-aggregate-conflicts
+slice-aggregate-conflicts c = sym (length-take-le _ _ (c .before .before .before .before .sort-contents .ensures .0))
+
+slice-aggregate-conflicts-2 : tie.Need-slice-aggregate-conflicts-2
+slice-aggregate-conflicts-2 c = search needs
+
+conflicts-requires : tie.Need-conflicts-requires
+conflicts-requires c κs = search needs
+
+say-requires : tie.Need-say-requires
+say-requires c κs = search needs
+
+returns : tie.Need-returns
+returns c = search needs
+
+pub show-conflict-spec : {M : Type 1} → statement M
+show-conflict-spec =
+    tie.close
+    (tie.spec
+    slice-aggregate-sort-contents
+    slice-aggregate-sort-contents-2
+    slice-aggregate-sort-contents-3
+    sort-contents-requires
+    array-share-prefix-names
+    slice-aggregate-conflicts
+    slice-aggregate-conflicts-2
+    conflicts-requires
+    say-requires
+    returns)

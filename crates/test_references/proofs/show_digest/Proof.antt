@@ -1,0 +1,118 @@
+-- `test_references::show_digest` meets its contract: where a digest is found, it can be written and compared.
+-- Assumes nothing.
+use Prim.Native.Nat.{_≤_}
+use native.Mathlib.Omega.{arith}
+use borrow.Author.Needs.{needs}
+use Rattle.reference.proofs.Digests.{digest-bounds}
+use Rattle.test_references.proofs.show_digest.Statement.{statement}
+use Rattle.test_references.proofs.show_digest.Tie as tie
+
+-- a digest fits the buffer, and has two bytes at least
+few : (c : tie.After-digest-bytes) → (28 ≤ c .digest-bytes .result) × (c .digest-bytes .result ≤ 48)
+few c =
+    let d = digest-bounds (c .before .before .args .a) in
+    let e = c .digest-bytes .ensures .0 in
+    (omega arith, omega arith)
+
+digest-bytes-requires : tie.Need-digest-bytes-requires
+digest-bytes-requires c κs = search needs
+
+slice-aggregate-write : tie.Need-slice-aggregate-write
+slice-aggregate-write c = search needs
+
+write-requires : tie.Need-write-requires
+write-requires c κs = let a = c .before .before .before in (a .pre, omega (arith, digest-bounds (a .args .a) .1))
+
+sub-print-bytes : tie.Need-sub-print-bytes
+sub-print-bytes c = let f = few (c .before .before .before) in omega arith
+
+part-print-bytes-start : tie.Need-part-print-bytes-start
+part-print-bytes-start c = let f = few (c .before .before .before .before) in omega arith
+
+part-print-bytes-end : tie.Need-part-print-bytes-end
+part-print-bytes-end c = let f = few (c .before .before .before .before) in omega arith
+
+print-bytes-requires : tie.Need-print-bytes-requires
+print-bytes-requires c κs = search needs
+
+sub-show-is : tie.Need-sub-show-is
+sub-show-is c = let f = few (c .before .before .before .before .before .before) in omega arith
+
+part-show-is-start : tie.Need-part-show-is-start
+part-show-is-start c = let f = few (c .before .before .before .before .before .before .before) in omega arith
+
+part-show-is-end : tie.Need-part-show-is-end
+part-show-is-end c = let f = few (c .before .before .before .before .before .before .before) in omega arith
+
+show-is-requires : tie.Need-show-is-requires
+show-is-requires c κs = c .before .before .before .before .before .before .before .before .before .before .pre
+
+sub-show-is-2 : tie.Need-sub-show-is-2
+sub-show-is-2 c = let f = few (c .before .before .before .before .before .before .before .before .before) in omega arith
+
+part-show-is-start-2 : tie.Need-part-show-is-start-2
+part-show-is-start-2 c = let f = few (c .before .before .before .before .before .before .before .before .before .before) in omega arith
+
+part-show-is-end-2 : tie.Need-part-show-is-end-2
+part-show-is-end-2 c = let f = few (c .before .before .before .before .before .before .before .before .before .before) in omega arith
+
+show-is-requires-2 : tie.Need-show-is-requires-2
+show-is-requires-2 c κs = c .before .before .before .before .before .before .before .before .before .before .before .before .before .pre
+
+slice-aggregate-change-last : tie.Need-slice-aggregate-change-last
+slice-aggregate-change-last c = search needs
+
+change-last-requires : tie.Need-change-last-requires
+change-last-requires c κs =
+    let f = few (c .before .before .before .before .before .before .before .before .before .before .before .before .before) in
+    (omega arith, omega arith)
+
+sub-show-is-3 : tie.Need-sub-show-is-3
+sub-show-is-3 c =
+    let f = few (c .before .before .before .before .before .before .before .before .before .before .before .before .before .before .before) in
+    omega arith
+
+part-show-is-start-3 : tie.Need-part-show-is-start-3
+part-show-is-start-3 c =
+    let f = few (c .before .before .before .before .before .before .before .before .before .before .before .before .before .before .before .before) in
+    omega arith
+
+part-show-is-end-3 : tie.Need-part-show-is-end-3
+part-show-is-end-3 c =
+    let f = few (c .before .before .before .before .before .before .before .before .before .before .before .before .before .before .before .before) in
+    omega arith
+
+show-is-requires-3 : tie.Need-show-is-requires-3
+show-is-requires-3 c κs =
+    let d = c .before .before .before .before .before .before .before .before .before .before .before .before .before .before .before .before .before in
+    d .before .before .pre
+
+returns : tie.Need-returns
+returns c = search needs
+
+pub show-digest-spec : {M : Type 1} → statement M
+show-digest-spec =
+    tie.close
+    (tie.spec
+    digest-bytes-requires
+    slice-aggregate-write
+    write-requires
+    sub-print-bytes
+    part-print-bytes-start
+    part-print-bytes-end
+    print-bytes-requires
+    sub-show-is
+    part-show-is-start
+    part-show-is-end
+    show-is-requires
+    sub-show-is-2
+    part-show-is-start-2
+    part-show-is-end-2
+    show-is-requires-2
+    slice-aggregate-change-last
+    change-last-requires
+    sub-show-is-3
+    part-show-is-start-3
+    part-show-is-end-3
+    show-is-requires-3
+    returns)

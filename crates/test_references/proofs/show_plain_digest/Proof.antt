@@ -1,0 +1,52 @@
+-- `test_references::show_plain_digest` meets its contract: where an Image ID's digest is found, it can be written.
+-- Assumes nothing.
+use Prim.Native.Nat.{_≤_}
+use native.Mathlib.Omega.{arith}
+use borrow.Author.Needs.{needs}
+use Rattle.reference.proofs.Digests.{digest-bounds}
+use Rattle.test_references.proofs.show_plain_digest.Statement.{statement}
+use Rattle.test_references.proofs.show_plain_digest.Tie as tie
+
+-- a digest fits the buffer, and has two bytes at least
+few : (c : tie.After-digest-bytes) → (28 ≤ c .digest-bytes .result) × (c .digest-bytes .result ≤ 48)
+few c =
+    let d = digest-bounds (c .before .before .args .a) in
+    let e = c .digest-bytes .ensures .0 in
+    (omega arith, omega arith)
+
+digest-bytes-requires : tie.Need-digest-bytes-requires
+digest-bytes-requires c κs = search needs
+
+slice-aggregate-write-plain : tie.Need-slice-aggregate-write-plain
+slice-aggregate-write-plain c = search needs
+
+write-plain-requires : tie.Need-write-plain-requires
+write-plain-requires c κs = let a = c .before .before .before in (a .pre, omega (arith, digest-bounds (a .args .a) .1))
+
+sub-print-bytes : tie.Need-sub-print-bytes
+sub-print-bytes c = let f = few (c .before .before .before) in omega arith
+
+part-print-bytes-start : tie.Need-part-print-bytes-start
+part-print-bytes-start c = let f = few (c .before .before .before .before) in omega arith
+
+part-print-bytes-end : tie.Need-part-print-bytes-end
+part-print-bytes-end c = let f = few (c .before .before .before .before) in omega arith
+
+print-bytes-requires : tie.Need-print-bytes-requires
+print-bytes-requires c κs = search needs
+
+returns : tie.Need-returns
+returns c = search needs
+
+pub show-plain-digest-spec : {M : Type 1} → statement M
+show-plain-digest-spec =
+    tie.close
+    (tie.spec
+    digest-bytes-requires
+    slice-aggregate-write-plain
+    write-plain-requires
+    sub-print-bytes
+    part-print-bytes-start
+    part-print-bytes-end
+    print-bytes-requires
+    returns)

@@ -1,0 +1,42 @@
+-- `text_keys::sort_unless_rising` meets its contract: sorting leaves keys in rising order as they are. Assumes nothing.
+use borrow.Author.Needs.{needs}
+use borrow.Author.Tests.{not-false}
+use mathlib.Core.Path.{sym, _∙_}
+use Rattle.text_keys.proofs.Orders.{rising-sorted}
+use Rattle.text_keys.proofs.sort_unless_rising.Statement.{statement}
+use Rattle.text_keys.proofs.sort_unless_rising.Tie as tie
+
+in-order-requires : tie.Need-in-order-requires
+in-order-requires c κs = search needs
+
+merge-sort-requires : tie.Need-merge-sort-requires
+merge-sort-requires c κs = search needs
+
+same-length : tie.Need-same-length
+same-length c = search needs
+
+same-length-2 : tie.Need-same-length-2
+same-length-2 c = search needs
+
+returns : tie.Need-returns
+returns c = search needs
+
+same-length-3 : tie.Need-same-length-3
+same-length-3 c = search needs
+
+returns-2 : tie.Need-returns-2
+returns-2 c =
+    let e = c .before .in-order .ensures in
+    (sym (rising-sorted _ _ (sym e ∙ not-false _ (c .if1 .left))), e)
+
+pub sort-unless-rising-spec : {M : Type 1} → statement M
+sort-unless-rising-spec =
+    tie.close
+    (tie.spec
+    in-order-requires
+    merge-sort-requires
+    same-length
+    same-length-2
+    returns
+    same-length-3
+    returns-2)
