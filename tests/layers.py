@@ -9,7 +9,7 @@ import re
 import sys
 
 # The parts themselves, and programs that only test: these may look inside.
-BELOW = re.compile(r"laws|text(_\w+)?|reference|manifest(_\w+)?|test_\w+")
+BELOW = re.compile(r"laws|text(_\w+)?|reference(_\w+)?|manifest(_\w+)?|test_\w+")
 INNER = re.compile(r"text_\w+")
 
 

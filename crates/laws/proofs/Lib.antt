@@ -1,3 +1,4 @@
+pub mod Any
 pub mod Order
 pub mod Permutations
 pub mod Sort

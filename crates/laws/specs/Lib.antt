@@ -1,2 +1,3 @@
+pub mod Any
 pub mod Order
 pub mod Sort

@@ -7,13 +7,15 @@ use native.Mathlib.Omega.{arith}
 use lib.ListN.{length, getD}
 use Rattle.laws.specs.Order.{same}
 use Rattle.laws.specs.Sort.{insert, sort}
+use Rattle.laws.proofs.Any.{or-none, any-both}
 use Rattle.laws.proofs.Order.{by-test, false-true}
 use Rattle.laws.proofs.Sort.{insert-before, insert-after}
 use Rattle.text_content.specs.Value.{Fields, no-fields, field}
 use Rattle.reference.specs.Matches.{isOneOf}
 use Rattle.manifest_fields.specs.Accessors.{texts, namesOf}
 use Rattle.manifest_values.specs.Values.{entries}
-use Rattle.manifest_names.specs.Contents.{Named, namedUnder, namedIn, anyOf}
+use Rattle.laws.specs.Any.{anyOf}
+use Rattle.manifest_names.specs.Contents.{Named, namedUnder, namedIn}
 use Rattle.manifest_names.specs.Placed.{Placed, no-place, placed}
 
 or-swap : (a b c : Bool) → (a || (b || c)) ≡ (b || (a || c))
@@ -21,27 +23,10 @@ or-swap true true c = refl
 or-swap true false c = refl
 or-swap false b c = refl
 
-pub or-none : (a b : Bool) → (a || b) ≡ false → (a ≡ false) × (b ≡ false)
-or-none true b e = false-true (sym e)
-or-none false b e = (refl, e)
-
 pub one-of-any : (c : List ℕ) (cs : List (List ℕ)) → isOneOf c cs ≡ anyOf (same c) cs
 unfolding isOneOf anyOf
 one-of-any c [] = refl
 one-of-any c (d ∷ cs) = ap (λ (b : Bool). same c d || b) (one-of-any c cs)
-
-module _ {A : Type 0} (p : A → Bool) where
-  pub any-both : (xs ys : List A) → anyOf p (xs ++ ys) ≡ (anyOf p xs || anyOf p ys)
-  unfolding anyOf
-  any-both [] ys = refl
-  any-both (x ∷ xs) ys = ap (λ (b : Bool). p x || b) (any-both xs ys) ∙ sym (or-assoc (p x) (anyOf p xs) (anyOf p ys))
-
-  module _ (xs ys : List A) where
-    pub any-first : anyOf p xs ≡ true → anyOf p (xs ++ ys) ≡ true
-    any-first e = any-both xs ys ∙ rw e
-
-    pub any-second : anyOf p xs ≡ false → anyOf p (xs ++ ys) ≡ anyOf p ys
-    any-second e = any-both xs ys ∙ rw e
 
 -- the aliases of a key, and the names alone
 pub any-under : (p : Named → Bool) (k : List ℕ) (ns : List (List ℕ)) → anyOf p (namedUnder k ns) ≡ anyOf (λ (n : List ℕ). p (record { name = n; key = k })) ns

@@ -17,10 +17,12 @@ use Rattle.manifest_values.specs.Values.{entries}
 use Rattle.manifest_forms.specs.Names.{NamesAt, no-names, name-at}
 use Rattle.manifest_forms.specs.Questions.{repeated}
 use Rattle.manifest_forms.proofs.Repeating.{same-sym}
-use Rattle.manifest_names.specs.Contents.{Named, namedUnder, namedIn, anyOf, isElsewhere, standsElsewhere, conflict}
+use Rattle.laws.specs.Any.{anyOf}
+use Rattle.manifest_names.specs.Contents.{Named, namedUnder, namedIn, isElsewhere, standsElsewhere, conflict}
 use Rattle.manifest_names.specs.Placed.{Placed, no-place, placed, KeyedAt, SortedNames, SomeNames, SortedContents, SomeContents}
 use Rattle.manifest_names.specs.Searches.{Stands}
-use Rattle.manifest_names.proofs.Any.{any-both, any-at, or-none, both-none, Reordered, sort-placed, placed-get}
+use Rattle.laws.proofs.Any.{any-both, or-none}
+use Rattle.manifest_names.proofs.Any.{any-at, both-none, Reordered, sort-placed, placed-get}
 
 -- the names alone
 unfoldable pub namesAlone : List Named → List (List ℕ)

@@ -19,7 +19,8 @@ use Rattle.manifest_fields.proofs.Founds.{found-members}
 use Rattle.manifest_fields.proofs.Ruling.{is-here, its-members}
 use Rattle.manifest_forms.specs.Names.{GroupFound, NamesAt, no-names as no-names-at}
 use Rattle.manifest_forms.proofs.Groups.{object-of}
-use Rattle.manifest_names.specs.Contents.{Named, namedIn, anyOf, shareName, conflict}
+use Rattle.laws.specs.Any.{anyOf}
+use Rattle.manifest_names.specs.Contents.{Named, namedIn, shareName, conflict}
 use Rattle.manifest_names.specs.Groups.{Grouped, AliasGroup}
 use Rattle.manifest_names.specs.Placed.{SortedNames}
 use Rattle.manifest_names.proofs.Searching.{SortedFront}

@@ -27,10 +27,11 @@ use Rattle.manifest_values.specs.declared.entry.Entry.the-variants.{Text}
 use Rattle.manifest_values.proofs.Counting.{one-array}
 use Rattle.manifest_fields.proofs.Finding.{one-object}
 use Rattle.manifest_forms.specs.Names.{Collectable}
-use Rattle.manifest_names.specs.Contents.{Named, namedUnder, namedIn, anyOf, isElsewhere, standsElsewhere, conflict}
+use Rattle.laws.specs.Any.{anyOf}
+use Rattle.manifest_names.specs.Contents.{Named, namedUnder, namedIn, isElsewhere, standsElsewhere, conflict}
 use Rattle.manifest_names.specs.Keyed.{Keyable, AddsKeyed, KeyableGroup}
 use Rattle.manifest_names.specs.Placed.{Placed, no-place, placed, KeyedAt, SortedContents}
-use Rattle.manifest_names.proofs.Any.{or-none}
+use Rattle.laws.proofs.Any.{or-none}
 use Rattle.manifest_names.proofs.Elsewhere.{under-key, none-elsewhere}
 use Rattle.manifest_names.proofs.Nexts.{NextString, next-string, NextAliases, next-aliases}
 use Rattle.manifest_names.proofs.Searching.{SortedFront}

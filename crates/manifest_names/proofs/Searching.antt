@@ -23,7 +23,7 @@ use Rattle.text_keys.proofs.Keys.{keys-get, keys-sort, keys-order}
 use Rattle.reference.specs.Matches.{isOneOf}
 use Rattle.manifest_forms.specs.Names.{NamesAt, no-names, name-at}
 use Rattle.manifest_forms.proofs.Repeating.{names-keys}
-use Rattle.manifest_names.specs.Contents.{anyOf}
+use Rattle.laws.specs.Any.{anyOf}
 use Rattle.manifest_names.specs.Placed.{Placed, no-place, placed, SortedNames, SomeNames}
 use Rattle.manifest_names.specs.Searches.{Stands, Looks}
 use Rattle.manifest_names.specs.declared.sorted.Search.{Search}

@@ -16,9 +16,11 @@ use Rattle.manifest_fields.specs.Rules.{everyMember, namesPass}
 use Rattle.manifest_values.specs.declared.entry.Entry.the-variants.{Text}
 use Rattle.manifest_values.proofs.Counting.{one-array}
 use Rattle.manifest_fields.proofs.Finding.{one-object}
-use Rattle.manifest_names.specs.Contents.{Named, namedUnder, namedIn, anyOf}
+use Rattle.laws.specs.Any.{anyOf}
+use Rattle.manifest_names.specs.Contents.{Named, namedUnder, namedIn}
 use Rattle.manifest_names.specs.Groups.{AliasGroup, AliasList}
-use Rattle.manifest_names.proofs.Any.{any-first, any-second, any-under}
+use Rattle.laws.proofs.Any.{any-first, any-second}
+use Rattle.manifest_names.proofs.Any.{any-under}
 use Rattle.manifest_names.proofs.Nexts.{NextString, next-string, NextAliases, next-aliases}
 
 -- The elements `others` stand before the cursor, and one of their strings passes where one of the array's does.

@@ -4,6 +4,7 @@ use Prim.Native.Nat.{ℕ, _+_}
 use mathlib.Core.List.{List, [], _∷_, _++_}
 use mathlib.Core.Bool.{Bool, true, false, not, _&&_, _||_}
 use mathlib.Core.Option.{Option, none, some}
+use Rattle.laws.specs.Any.{anyOf}
 use Rattle.laws.specs.Order.{same}
 use Rattle.text_content.specs.Value.{Fields, no-fields, field}
 use Rattle.reference.specs.Matches.{isOneOf}
@@ -24,11 +25,6 @@ namedUnder k (n ∷ ns) = record { name = n; key = k } ∷ namedUnder k ns
 unfoldable pub namedIn : Fields → List Named
 namedIn no-fields = []
 namedIn (field k v fs) = namedUnder k (texts (entries v)) ++ namedIn fs
-
--- some element passes
-unfoldable pub anyOf : {A : Type 0} → (A → Bool) → List A → Bool
-anyOf p [] = false
-anyOf p (x ∷ xs) = p x || anyOf p xs
 
 -- a name stands in both lists
 unfoldable pub shareName : List (List ℕ) → List (List ℕ) → Bool

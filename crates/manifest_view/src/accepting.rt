@@ -1,7 +1,7 @@
 // Whether some rule of a launch policy matches an image.
 use crate::matching::matches;
 use manifest_fields::member::Found;
-use reference::algorithm::Algorithm;
+use reference_digests::algorithm::Algorithm;
 use text_view::Element;
 use text_view::Elements;
 use text_view::Kind;

@@ -1,50 +1,21 @@
--- What the definitions of algorithms, digests, aliases, layer references, rules and Image IDs say, case by case.
+-- What the definitions of aliases, layer references, rules and Image IDs say, case by case.
 -- Assumes nothing.
 use Prim.Native.Nat.{ℕ, _≤_, _<_}
 use mathlib.Core.Path.{_≡_, refl, ap, sym, _∙_}
 use mathlib.Core.List.{List, [], _∷_}
 use mathlib.Core.Bool.{Bool, true, false, not, _&&_, and-false}
 use lib.Dec.{eqb}
-use lib.ListN.{length}
 use borrow.Author.Tests.{le-leb, lt-leb, eq-eqb, ne-eqb}
 use Rattle.laws.specs.Order.{same}
-use Rattle.reference.specs.Algorithms.{hexDigits, nameOf, named}
+use Rattle.reference_parts.specs.Parts.{isDivided, firstPart, parts}
+use Rattle.reference_parts.specs.Readings.{Counts}
+use Rattle.reference_parts.specs.declared.part.Part.{Part}
+use Rattle.reference_parts.proofs.Parts.{some-part}
+use Rattle.reference_parts.proofs.Counting.{first-undivided}
+use Rattle.reference_digests.specs.Algorithms.{hexDigits, named}
+use Rattle.reference_digests.specs.declared.algorithm.Algorithm.the-variants.{Sha224, Sha256, Sha384}
 use Rattle.reference.specs.Aliases.{isReserved, isDigestLength, isNameLength, isAlias}
-use Rattle.reference.specs.Digests.{isDigest}
-use Rattle.reference.specs.Parts.{isDivided, firstPart, parts}
-use Rattle.reference.specs.Readings.{Counts}
 use Rattle.reference.specs.References.{no-layer, digestLayer, aliasLayer, signerWord, layerOf, layer, no-rule, ruleUnder, ruleOf, rule, no-id, idUnder, idOf, imageId}
-use Rattle.reference.specs.declared.algorithm.Algorithm.{Algorithm}
-use Rattle.reference.specs.declared.algorithm.Algorithm.the-variants.{Sha224, Sha256, Sha384}
-use Rattle.reference.specs.declared.algorithm.Known.the-variants.{Is, Unknown}
-use Rattle.reference.specs.declared.part.Part.{Part}
-use Rattle.reference.proofs.Parts.{some-part}
-use Rattle.reference.proofs.Counting.{first-undivided}
-
--- algorithms by name
-module _ (h : List ℕ) where
-  pub named-first : same h (nameOf Sha224) ≡ true → named h ≡ Is Sha224
-  unfolding named
-  named-first e = rw (e, named)
-
-  module _ (e : same h (nameOf Sha224) ≡ false) where
-    pub named-second : same h (nameOf Sha256) ≡ true → named h ≡ Is Sha256
-    unfolding named
-    named-second f = rw (e, named) (rw f)
-
-    module _ (f : same h (nameOf Sha256) ≡ false) where
-      pub named-third : same h (nameOf Sha384) ≡ true → named h ≡ Is Sha384
-      unfolding named
-      named-third g = rw (e, named) (rw f (rw g))
-
-      pub named-none : same h (nameOf Sha384) ≡ false → named h ≡ Unknown
-      unfolding named
-      named-none g = rw (e, named) (rw f (rw g))
-
--- a digest by what is counted of it
-pub digest-counted : (a : Algorithm) (c : List ℕ) (p : Part) → Counts c p → (eqb (p .length) (hexDigits a) && p .hex) ≡ isDigest a (firstPart c)
-unfolding isDigest
-digest-counted a c p k = rw (k .size, k .hex)
 
 -- lengths of names
 module _ (n : ℕ) (hex : Bool) where
@@ -147,10 +118,3 @@ other-length n a b c = rw (ne-eqb n (hexDigits Sha224) a, ne-eqb n (hexDigits Sh
 pub lengths-known : (isDigestLength (hexDigits Sha224) ≡ true) × (isDigestLength (hexDigits Sha256) ≡ true) × (isDigestLength (hexDigits Sha384) ≡ true)
 unfolding isDigestLength
 lengths-known = (refl, refl, refl)
-
--- a digest, by the test of its length
-pub digest-test : (a : Algorithm) (n r : ℕ) (hex : Bool) → r ≡ hexDigits a → n ≡ r → hex ≡ (eqb n (hexDigits a) && hex)
-digest-test a n r hex e f = rw (eq-eqb n (hexDigits a) (f ∙ e))
-
-pub no-digest-test : (a : Algorithm) (n r : ℕ) (hex : Bool) → r ≡ hexDigits a → (n ≡ r → ⊥) → false ≡ (eqb n (hexDigits a) && hex)
-no-digest-test a n r hex e f = rw (ne-eqb n (hexDigits a) (λ g. f (g ∙ sym e)))

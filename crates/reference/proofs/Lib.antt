@@ -1,8 +1,3 @@
-pub mod Counting
-pub mod Blocks
-pub mod Digests
-pub mod Hex
-pub mod Parts
 pub mod Forms
 pub mod Names
 pub mod Steps

@@ -7,7 +7,7 @@ use mathlib.Core.Bool.{Bool, true, false, _&&_, _||_}
 use lib.Dec.{eqb}
 use Rattle.laws.specs.Order.{same}
 use Rattle.laws.proofs.Order.{by-test, false-true, same-refl, same-eq}
-use Rattle.reference.specs.Algorithms.{byteOf}
+use Rattle.reference_digests.specs.Algorithms.{byteOf}
 use Rattle.reference.specs.References.{Manifest, any-manifest, manifest, self-alias, Rule, accepts, no-rule, Id, image-id, no-id}
 use Rattle.reference.specs.Matches.{isOneOf, signerMatches, manifestMatches, matches}
 

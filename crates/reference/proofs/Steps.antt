@@ -7,22 +7,23 @@ use mathlib.Core.Bool.{Bool, true, false, _||_}
 use lib.ListN.{length, drop}
 use Rattle.laws.specs.Order.{same}
 use Rattle.text_strings.specs.InString.{contentFrom}
-use Rattle.reference.specs.Algorithms.{named}
+use Rattle.reference_parts.specs.Parts.{firstPart, parts}
+use Rattle.reference_parts.specs.Readings.{PartAt, Divided, PlainPart}
+use Rattle.reference_parts.specs.declared.part.Part.{Part}
+use Rattle.reference_parts.proofs.Counting.{first-whole}
+use Rattle.reference_parts.proofs.Parts.{is-last, last-parts, more-parts, before}
+use Rattle.reference_digests.specs.Algorithms.{named}
+use Rattle.reference_digests.specs.Digests.{isDigest, digestOf}
+use Rattle.reference_digests.specs.declared.algorithm.Algorithm.{Algorithm}
+use Rattle.reference_digests.specs.declared.algorithm.Known.{Known}
+use Rattle.reference_digests.specs.declared.algorithm.Known.the-variants.{Is, Unknown}
 use Rattle.reference.specs.Aliases.{star, isAlias}
-use Rattle.reference.specs.Digests.{isDigest, digestOf}
-use Rattle.reference.specs.Parts.{firstPart, parts}
-use Rattle.reference.specs.Readings.{PartAt, Divided, RuleUnder, RuleReads, PlainPart, IdUnder, IdReads}
+use Rattle.reference.specs.Readings.{RuleUnder, RuleReads, IdUnder, IdReads}
 use Rattle.reference.specs.References.{no-layer, layer-digest, layer-alias, digestLayer, aliasLayer, signerWord, layer, any-signer, signer, signerOf, isSigner, any-manifest, manifest, self-alias, manifestOf, isManifest, accepts, no-rule, ruleUnder, rule, no-id, image-id, idUnder, imageId}
-use Rattle.reference.specs.declared.algorithm.Algorithm.{Algorithm}
-use Rattle.reference.specs.declared.algorithm.Known.{Known}
-use Rattle.reference.specs.declared.algorithm.Known.the-variants.{Is, Unknown}
-use Rattle.reference.specs.declared.part.Part.{Part}
 use Rattle.reference.specs.declared.rule.Rule.{Rule}
 use Rattle.reference.specs.declared.rule.Rule.the-variants.{Accepts, Bad as NoRule}
 use Rattle.reference.specs.declared.id.Id.{Id}
 use Rattle.reference.specs.declared.id.Id.the-variants.{Image, Bad as NoId}
-use Rattle.reference.proofs.Counting.{first-whole}
-use Rattle.reference.proofs.Parts.{is-last, last-parts, more-parts, before}
 use Rattle.reference.proofs.Forms.{layer-two, layer-four, rule-three, id-three}
 
 -- a test that holds, or else another one

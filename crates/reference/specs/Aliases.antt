@@ -7,10 +7,10 @@ use lib.Dec.{leb, eqb}
 use lib.ListN.{length}
 use Rattle.laws.specs.Order.{same}
 use Rattle.text_json.specs.Measure.{every}
-use Rattle.reference.specs.Algorithms.{hexDigits}
-use Rattle.reference.specs.Digests.{isLowerHex}
-use Rattle.reference.specs.Parts.{isDivided}
-use Rattle.reference.specs.declared.algorithm.Algorithm.the-variants.{Sha224, Sha256, Sha384}
+use Rattle.reference_parts.specs.Hex.{isLowerHex}
+use Rattle.reference_parts.specs.Parts.{isDivided}
+use Rattle.reference_digests.specs.Algorithms.{hexDigits}
+use Rattle.reference_digests.specs.declared.algorithm.Algorithm.the-variants.{Sha224, Sha256, Sha384}
 
 -- `*`, which stands for any
 abbrev pub star : List ℕ

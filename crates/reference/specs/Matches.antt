@@ -5,7 +5,7 @@ use mathlib.Core.List.{List, [], _∷_}
 use mathlib.Core.Bool.{Bool, true, false, _&&_, _||_}
 use lib.Dec.{eqb}
 use Rattle.laws.specs.Order.{same}
-use Rattle.reference.specs.Algorithms.{byteOf}
+use Rattle.reference_digests.specs.Algorithms.{byteOf}
 use Rattle.reference.specs.References.{Signer, any-signer, signer, Manifest, any-manifest, manifest, self-alias, Rule, accepts, no-rule, Id, image-id, no-id}
 
 -- the name is one of these, with all its bytes

@@ -4,13 +4,13 @@ use Prim.Native.Nat.{ℕ}
 use mathlib.Core.List.{List, [], _∷_}
 use mathlib.Core.Bool.{Bool, true, false, _&&_, _||_}
 use Rattle.laws.specs.Order.{same}
-use Rattle.reference.specs.Algorithms.{named, nameOf}
+use Rattle.reference_parts.specs.Parts.{parts, joined}
+use Rattle.reference_digests.specs.Algorithms.{named, nameOf}
+use Rattle.reference_digests.specs.Digests.{isDigest, digestOf, hexOf}
+use Rattle.reference_digests.specs.declared.algorithm.Algorithm.{Algorithm}
+use Rattle.reference_digests.specs.declared.algorithm.Known.{Known}
+use Rattle.reference_digests.specs.declared.algorithm.Known.the-variants.{Is, Unknown}
 use Rattle.reference.specs.Aliases.{isAlias, star}
-use Rattle.reference.specs.Digests.{isDigest, digestOf, hexOf}
-use Rattle.reference.specs.Parts.{parts, joined}
-use Rattle.reference.specs.declared.algorithm.Algorithm.{Algorithm}
-use Rattle.reference.specs.declared.algorithm.Known.{Known}
-use Rattle.reference.specs.declared.algorithm.Known.the-variants.{Is, Unknown}
 
 -- the word `signer`
 abbrev pub signerWord : List ℕ

@@ -1,12 +1,12 @@
 // Aliases: names with all of their bytes.
-use crate::algorithm::Algorithm;
-use crate::part;
-use crate::part::Part;
+use reference_digests::algorithm::Algorithm;
+use reference_parts::part;
+use reference_parts::part::Part;
 ghost use mathlib.Core.Path.{_≡_};
 ghost use Rattle.text_strings.specs.InString.{Inside, contentFrom};
+ghost use Rattle.reference_parts.specs.Parts.{firstPart};
+ghost use Rattle.reference_parts.specs.Readings.{PartAt};
 ghost use Rattle.reference.specs.Aliases.{isDigestLength, isNameLength, isReserved, isAlias};
-ghost use Rattle.reference.specs.Parts.{firstPart};
-ghost use Rattle.reference.specs.Readings.{PartAt};
 
 // A digest has that many hexadecimal digits: one of a known algorithm, or of sha512, which no reference names.
 fn is_digest_length(n: usize) -> bool

@@ -1,15 +1,16 @@
 // Image IDs: HASH/SIGNER/MANIFEST, both digests.
-use crate::algorithm::Algorithm;
-use crate::algorithm::Known;
-use crate::part;
-use crate::part::Part;
+use reference_digests::algorithm::Algorithm;
+use reference_digests::algorithm::Known;
+use reference_parts::part;
+use reference_parts::part::Part;
 ghost use mathlib.Core.Path.{_≡_};
 ghost use mathlib.Core.List.{List};
 ghost use Prim.Native.Nat.{ℕ};
 ghost use lib.ListN.{length};
-ghost use Rattle.reference.specs.Algorithms.{named as namedBy};
-ghost use Rattle.reference.specs.Parts.{firstPart};
-ghost use Rattle.reference.specs.Readings.{Counts, IdUnder, IdReads};
+ghost use Rattle.reference_parts.specs.Parts.{firstPart};
+ghost use Rattle.reference_parts.specs.Readings.{Counts};
+ghost use Rattle.reference_digests.specs.Algorithms.{named as namedBy};
+ghost use Rattle.reference.specs.Readings.{IdUnder, IdReads};
 
 // An image's algorithm with the positions of its signer's and its manifest's digest, or none.
 pub enum Id {
@@ -63,10 +64,10 @@ fn named(id: &[u8], len: usize) -> Known
 fn under(a: Algorithm, i: usize, signer: Part, manifest: Part) -> Id
     ensures { λ r. ⌜ ((c d : List ℕ) → Counts c signer → Counts d manifest → IdUnder a (firstPart c) (firstPart d) i (signer .next) r) ⌝ }
 {
-    if !crate::digest::is_digest(a, signer.length, signer.hex) {
+    if !reference_digests::digest::is_digest(a, signer.length, signer.hex) {
         return Id::Bad;
     }
-    if !crate::digest::is_digest(a, manifest.length, manifest.hex) {
+    if !reference_digests::digest::is_digest(a, manifest.length, manifest.hex) {
         return Id::Bad;
     }
     Id::Image {

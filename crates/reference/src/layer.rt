@@ -1,12 +1,13 @@
 // Layer references: HASH/FSLAYER, or signer/HASH/SIGNER/ALIAS.
-use crate::algorithm::Algorithm;
-use crate::algorithm::Known;
-use crate::part;
-use crate::part::Part;
+use reference_digests::algorithm::Algorithm;
+use reference_digests::algorithm::Known;
+use reference_parts::part;
+use reference_parts::part::Part;
 ghost use mathlib.Core.Path.{_≡_};
 ghost use mathlib.Core.Bool.{true};
 ghost use Rattle.text_strings.specs.InString.{Inside};
-ghost use Rattle.reference.specs.Readings.{Divided, LayerReads};
+ghost use Rattle.reference_parts.specs.Readings.{Divided};
+ghost use Rattle.reference.specs.Readings.{LayerReads};
 
 // A layer by its digest, at a position; by an alias, with the positions of its signer and its name; or none of these.
 pub enum Layer {
@@ -48,10 +49,10 @@ fn by_digest(s: &[u8], i: usize, first: Part, second: Part) -> Layer
     requires { ⌜ Divided (now s) i first second × (second .last ≡ true) ⌝ }
     ensures { λ r. ⌜ LayerReads (now (s .entry)) i r ⌝ }
 {
-    match crate::algorithm::named(s, i, first.length) {
+    match reference_digests::algorithm::named(s, i, first.length) {
         Known::Unknown => Layer::Bad,
         Known::Is(a) => {
-            if crate::digest::is_digest(a, second.length, second.hex) {
+            if reference_digests::digest::is_digest(a, second.length, second.hex) {
                 Layer::Digest(a, first.next)
             } else {
                 Layer::Bad
@@ -68,10 +69,10 @@ fn by_alias(s: &[u8], i: usize, first: Part, second: Part, third: Part, fourth: 
     if !part::is(s, i, first.length, b"signer") {
         return Layer::Bad;
     }
-    match crate::algorithm::named(s, first.next, second.length) {
+    match reference_digests::algorithm::named(s, first.next, second.length) {
         Known::Unknown => Layer::Bad,
         Known::Is(a) => {
-            if !crate::digest::is_digest(a, third.length, third.hex) {
+            if !reference_digests::digest::is_digest(a, third.length, third.hex) {
                 return Layer::Bad;
             }
             if !crate::alias::is_alias_part(s, third.next, fourth) {

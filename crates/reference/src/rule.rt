@@ -1,14 +1,15 @@
 // Rules of a launch policy: HASH/SIGNER/MANIFEST, where SIGNER may be `*` and MANIFEST an alias or `*`.
-use crate::algorithm::Algorithm;
-use crate::algorithm::Known;
-use crate::part;
-use crate::part::Part;
+use reference_digests::algorithm::Algorithm;
+use reference_digests::algorithm::Known;
+use reference_parts::part;
+use reference_parts::part::Part;
 ghost use mathlib.Core.Path.{_≡_};
 ghost use mathlib.Core.Bool.{true};
 ghost use Rattle.text_strings.specs.InString.{Inside, contentFrom};
-ghost use Rattle.reference.specs.Parts.{firstPart};
+ghost use Rattle.reference_parts.specs.Parts.{firstPart};
+ghost use Rattle.reference_parts.specs.Readings.{PartAt, Divided};
 ghost use Rattle.reference.specs.References.{isSigner, isManifest, signerOf, manifestOf};
-ghost use Rattle.reference.specs.Readings.{PartAt, Divided, SignerAt, signerForm, ManifestAt, manifestForm, RuleUnder, RuleReads};
+ghost use Rattle.reference.specs.Readings.{SignerAt, signerForm, ManifestAt, manifestForm, RuleUnder, RuleReads};
 
 // Any signer, or the one whose digest stands at a position.
 pub enum Signer {
@@ -49,7 +50,7 @@ pub fn read(s: &[u8], i: usize) -> Rule
     if !manifest.last {
         return Rule::Bad;
     }
-    match crate::algorithm::named(s, i, hash.length) {
+    match reference_digests::algorithm::named(s, i, hash.length) {
         Known::Unknown => Rule::Bad,
         Known::Is(a) => under(s, a, hash.next, signer, manifest),
     }
@@ -78,7 +79,7 @@ fn is_signer(s: &[u8], a: Algorithm, i: usize, p: Part) -> bool
     requires { ⌜ Inside (now s) i × PartAt (now s) i p ⌝ }
     ensures { λ r. ⌜ r ≡ isSigner a (firstPart (contentFrom (now (s .entry)) i)) ⌝ }
 {
-    part::is(s, i, p.length, b"*") || crate::digest::is_digest(a, p.length, p.hex)
+    part::is(s, i, p.length, b"*") || reference_digests::digest::is_digest(a, p.length, p.hex)
 }
 
 fn is_manifest(s: &[u8], a: Algorithm, i: usize, p: Part) -> bool
@@ -86,7 +87,8 @@ fn is_manifest(s: &[u8], a: Algorithm, i: usize, p: Part) -> bool
     ensures { λ r. ⌜ r ≡ isManifest a (firstPart (contentFrom (now (s .entry)) i)) ⌝ }
 {
     part::is(s, i, p.length, b"*")
-        || (crate::digest::is_digest(a, p.length, p.hex) || crate::alias::is_alias_part(s, i, p))
+        || (reference_digests::digest::is_digest(a, p.length, p.hex)
+            || crate::alias::is_alias_part(s, i, p))
 }
 
 fn signer_of(s: &[u8], a: Algorithm, i: usize, p: Part) -> Signer
@@ -106,7 +108,7 @@ fn manifest_of(s: &[u8], a: Algorithm, i: usize, p: Part) -> Manifest
     if part::is(s, i, p.length, b"*") {
         return Manifest::Any;
     }
-    if crate::digest::is_digest(a, p.length, p.hex) {
+    if reference_digests::digest::is_digest(a, p.length, p.hex) {
         return Manifest::Digest(i);
     }
     Manifest::Alias(i)

@@ -15,9 +15,10 @@ use Rattle.text_content.specs.Fault.{mark, stringFault, numberFault, among, rep
 use Rattle.text.specs.Question.{tooLong, notUtf8, isStuck, notJson, faulty, badString, badNumber, sameKeys, questions, lowest, textNumber}
 use Rattle.text.specs.Answer.{formOf, form}
 use Rattle.text_json.specs.Measure.{every as everyByte}
-use Rattle.reference.specs.Algorithms.{named}
-use Rattle.reference.specs.Parts.{isDivided, longer, parts}
-use Rattle.reference.specs.Digests.{isLowerHex, isDigest, digestOf}
+use Rattle.reference_parts.specs.Parts.{isDivided, longer, parts}
+use Rattle.reference_parts.specs.Hex.{isLowerHex}
+use Rattle.reference_digests.specs.Algorithms.{named}
+use Rattle.reference_digests.specs.Digests.{isDigest, digestOf}
 use Rattle.reference.specs.Aliases.{isReserved, isDigestLength, isNameLength, isAlias}
 use Rattle.reference.specs.References.{isSigner, signerOf, isManifest, manifestOf, ruleUnder, ruleOf, rule, idUnder, idOf, imageId}
 use Rattle.reference.specs.Matches.{isOneOf, signerMatches, manifestMatches, matches}

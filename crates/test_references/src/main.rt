@@ -7,14 +7,15 @@ ghost use mathlib.Core.Bool.{true};
 ghost use Prim.Native.Nat.{_≤_};
 ghost use lib.ListN.{length};
 ghost use Rattle.text_strings.specs.InString.{Inside};
-ghost use Rattle.reference.specs.Readings.{DigestAt, PlainDigest, SignerAt, ManifestAt};
-use reference::algorithm::Algorithm;
-use reference::algorithm::Known;
+ghost use Rattle.reference_digests.specs.Readings.{DigestAt, PlainDigest};
+ghost use Rattle.reference.specs.Readings.{SignerAt, ManifestAt};
 use reference::id::Id;
 use reference::layer::Layer;
 use reference::rule::Manifest;
 use reference::rule::Rule;
 use reference::rule::Signer;
+use reference_digests::algorithm::Algorithm;
+use reference_digests::algorithm::Known;
 use text::Checked;
 use text_view::Kind;
 
@@ -76,7 +77,7 @@ fn print_bytes(bytes: &[u8]) {
 fn show_is(s: &[u8], p: usize, a: Algorithm, bytes: &[u8])
     requires { ⌜ DigestAt (now s) p a ⌝ }
 {
-    if reference::digest::is(s, p, a, bytes) {
+    if reference_digests::digest::is(s, p, a, bytes) {
         io::write_all(1, b" yes");
     } else {
         io::write_all(1, b" no");
@@ -96,7 +97,7 @@ fn show_digest(s: &[u8], p: usize, a: Algorithm)
 {
     let n = a.digest_bytes();
     let mut bytes = [0u8; 48];
-    reference::digest::write(s, p, a, &mut bytes);
+    reference_digests::digest::write(s, p, a, &mut bytes);
     print_bytes(&bytes[0..n]);
     show_is(s, p, a, &bytes[0..n]);
     show_is(s, p, a, &bytes[1..n]);
@@ -110,7 +111,7 @@ fn show_plain_digest(s: &[u8], p: usize, a: Algorithm)
 {
     let n = a.digest_bytes();
     let mut bytes = [0u8; 48];
-    reference::digest::write_plain(s, p, a, &mut bytes);
+    reference_digests::digest::write_plain(s, p, a, &mut bytes);
     print_bytes(&bytes[0..n]);
 }
 

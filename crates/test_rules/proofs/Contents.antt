@@ -7,12 +7,12 @@ use mathlib.Core.Bool.{false, true}
 use native.Mathlib.Omega.{arith}
 use lib.ListN.{length, take}
 use lib.Seq.{take-at}
-use Rattle.reference.specs.Algorithms.{digestBytes}
-use Rattle.reference.specs.Digests.{isDigest, digestOf}
+use Rattle.reference_digests.specs.Algorithms.{digestBytes}
+use Rattle.reference_digests.specs.Digests.{isDigest, digestOf}
+use Rattle.reference_digests.specs.declared.algorithm.Algorithm.{Algorithm}
+use Rattle.reference_digests.proofs.Digests.{digest-length}
 use Rattle.reference.specs.Matches.{matches}
 use Rattle.reference.specs.References.{Rule, accepts, no-rule, Id, image-id, no-id}
-use Rattle.reference.specs.declared.algorithm.Algorithm.{Algorithm}
-use Rattle.reference.proofs.Digests.{digest-length}
 use Rattle.text_content.specs.Value.{Value}
 use Rattle.text_strings.specs.InString.{Inside}
 use Rattle.text_strings.proofs.Orders.{inside-within}

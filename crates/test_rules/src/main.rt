@@ -81,8 +81,8 @@ fn matches_id(rule: &[u8], i: usize, id: &[u8], image: &[u8], own: Found) -> boo
         } => {
             let mut x = [0u8; 48];
             let mut y = [0u8; 48];
-            reference::digest::write_plain(id, signer, algorithm, &mut x);
-            reference::digest::write_plain(id, manifest, algorithm, &mut y);
+            reference_digests::digest::write_plain(id, signer, algorithm, &mut x);
+            reference_digests::digest::write_plain(id, manifest, algorithm, &mut y);
             let n = algorithm.digest_bytes();
             manifest_view::matching::matches(rule, i, algorithm, &x[0..n], &y[0..n], image, own)
         }

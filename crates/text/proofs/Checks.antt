@@ -21,9 +21,9 @@ use Rattle.text_content.specs.Value.{content}
 use Rattle.text_content.specs.Canonical.{canonical, ordered}
 use Rattle.text_content.specs.Fault.{stringFault, numberFault, keyFault}
 use Rattle.text_content.proofs.OwnForm.{own-form, is-own-form}
-use Rattle.text_scan.specs.Summary.{summary}
-use Rattle.text_scan.specs.declared.Summary.{Summary}
-use Rattle.text_scan.specs.declared.Found.{Found}
+use Rattle.text_tokens.specs.Summary.{summary}
+use Rattle.text_tokens.specs.declared.Summary.{Summary}
+use Rattle.text_tokens.specs.declared.Found.{Found}
 use Rattle.text_scan.proofs.Progress.{IsValue}
 use Rattle.text.specs.Question.{tooLong}
 use Rattle.text.specs.Answer.{byFaults, byTree, byVerdict, checked, isForm}

@@ -11,8 +11,8 @@ use Rattle.text_json.specs.Scan.{At}
 use Rattle.text_json.proofs.Grammar.Complete.{read-complete}
 use Rattle.text_content.specs.Value.{Fields, object}
 use Rattle.text_scan.specs.Scanned.{KeysOf}
-use Rattle.text_scan.specs.Summary.{ownKeys}
-use Rattle.text_scan.specs.declared.Found.{Found}
+use Rattle.text_tokens.specs.Summary.{ownKeys}
+use Rattle.text_tokens.specs.declared.Found.{Found}
 use Rattle.text_scan.proofs.Progress.{IsValue}
 use Rattle.text_view.specs.Place.{ValueAt}
 use Rattle.text_canonical.specs.Members.{Sorted}

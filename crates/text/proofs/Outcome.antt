@@ -18,7 +18,7 @@ use Rattle.text_content.specs.Value.{content}
 use Rattle.text_content.specs.Canonical.{canonical}
 use Rattle.text_content.specs.Fault.{stringFault, numberFault, keyFault}
 use Rattle.text.specs.Question.{tooLong, textNumber}
-use Rattle.text.specs.Answer.{faultNumber, byFaults, byTree, byVerdict, checked, numberOf, formOf, form, canonicalNumber, canonicalLength, canonicalBytes, isCanonical}
+use Rattle.text.specs.Answer.{faultNumber, byFaults, byTree, byVerdict, checked, numberOf, numberWithin, formOf, form, canonicalNumber, canonicalLength, canonicalBytes, isCanonical}
 use Rattle.text.specs.declared.Fault.{Fault}
 use Rattle.text.specs.declared.Fault.the-variants.{TooLong, NotUtf8, NotJson, BadString, BadNumber, SameKeys}
 use Rattle.text.specs.declared.Checked.{Checked}
@@ -77,7 +77,7 @@ module _ (s out : List ℕ) where
 
     pub refused-number : faultNumber f ≡ canonicalNumber s (length out)
     unfolding canonicalNumber
-    refused-number = sym (rw (not-zero, canonicalNumber) number-is)
+    refused-number = sym (ap (λ (x : Checked). numberWithin x (length out)) e)
 
   -- any refusal
   module _ (n : ℕ) (h : 0 < n) (e : n ≡ canonicalNumber s (length out)) where
@@ -99,21 +99,14 @@ module _ (s out : List ℕ) where
     pub accepted-size : n ≡ length (form s)
     accepted-size = holds s (form s) (checked s) n c (outcome s) e .0
 
-    zero : eqb (textNumber s) 0 ≡ true
-    zero = eq-eqb (textNumber s) 0 accepted-number
-
     -- 20
     pub too-small : length out < n → 20 ≡ canonicalNumber s (length out)
     unfolding canonicalNumber
-    too-small h =
-        let l : length out < length (form s) = omega (arith, accepted-size) in
-        sym (rw (zero, canonicalNumber) (rw (lt-ltb (length out) (length (form s)) l)))
+    too-small h = sym (ap (λ (x : Checked). numberWithin x (length out)) e ∙ rw (lt-ltb (length out) n h, numberWithin))
 
     pub done-number : n ≤ length out → 0 ≡ canonicalNumber s (length out)
     unfolding canonicalNumber
-    done-number h =
-        let l : length (form s) ≤ length out = omega (arith, accepted-size) in
-        sym (rw (zero, canonicalNumber) (rw (le-ltb (length out) (length (form s)) l)))
+    done-number h = sym (ap (λ (x : Checked). numberWithin x (length out)) e ∙ rw (le-ltb (length out) n h, numberWithin))
 
     module _ (h : n ≤ length out) where
       is-zero : eqb (canonicalNumber s (length out)) 0 ≡ true
@@ -127,18 +120,29 @@ module _ (s out : List ℕ) where
       unfolding canonicalBytes
       done-bytes = sym (rw (is-zero, canonicalBytes))
 
+-- canonical's number is the lowest that applies of questions 1 to 6 and then 20
+pub canonical-lowest :
+    (s : List ℕ) (m : ℕ) → canonicalNumber s m ≡ elim (eqb (textNumber s) 0) [ true ↦ elim (ltb m (length (form s))) [ true ↦ 20 | false ↦ 0 ] | false ↦ textNumber s ]
+unfolding canonicalNumber
+canonical-lowest s m = go (checked s) (textNumber s) (number-checked s) (outcome s)
+  where
+    go :
+        (x : Checked) (n : ℕ) → numberOf x ≡ n → Outcome s (form s) x
+        → numberWithin x m ≡ elim (eqb n 0) [ true ↦ elim (ltb m (length (form s))) [ true ↦ 20 | false ↦ 0 ] | false ↦ n ]
+    go x n e (is-refused {x = f}) = rw (ne-eqb n 0 (λ z. omega (arith, fault-positive f, e))) e
+    go x n e is-accepted = rw (eq-eqb n 0 (sym e))
+
 -- the answer's numbers are small
 pub number-small : (s : List ℕ) (m : ℕ) → canonicalNumber s m ≤ 20
-unfolding canonicalNumber
 number-small s m =
-    by-test (eqb (textNumber s) 0)
-    (λ e. rw (e, canonicalNumber) (by-test (ltb m (length (form s))) (λ f. rw f (omega arith)) (λ f. rw f (omega arith))))
-    (λ e. rw (e, canonicalNumber) (omega (arith, text-small s)))
+    rw (canonical-lowest s m)
+    (by-test (eqb (textNumber s) 0)
+    (λ e. rw e (by-test (ltb m (length (form s))) (λ f. rw f (omega arith)) (λ f. rw f (omega arith))))
+    (λ e. rw e (omega (arith, text-small s))))
 
 -- only a text that is taken gets 0
 pub zero-taken : (s : List ℕ) (m : ℕ) → canonicalNumber s m ≡ 0 → textNumber s ≡ 0
-unfolding canonicalNumber
-zero-taken s m h = by-test (eqb (textNumber s) 0) (λ e. eqb-true (textNumber s) 0 e) (λ e. rw (e, canonicalNumber) at h)
+zero-taken s m h = by-test (eqb (textNumber s) 0) (λ e. eqb-true (textNumber s) 0 e) (λ e. rw e at (rw (canonical-lowest s m) at h))
 
 pub length-small : (s : List ℕ) (m : ℕ) → canonicalLength s m ≤ 16384
 unfolding canonicalLength

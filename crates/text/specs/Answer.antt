@@ -76,10 +76,13 @@ formOf (stuck r) = []
 unfoldable pub form : List ℕ → List ℕ
 form s = formOf (readText 8 s)
 
--- 20: output longer than the buffer, asked after 1 to 6; the buffer has m bytes
+-- canonical's number by what checking answers, for a buffer of m bytes: that of the fault, or 20, output longer than the buffer
+abbrev pub numberWithin : Checked → ℕ → ℕ
+numberWithin (Refused f) m = faultNumber f
+numberWithin (Accepted n c) m = elim (ltb m n) [ true ↦ 20 | false ↦ 0 ]
+
 unfoldable pub canonicalNumber : List ℕ → ℕ → ℕ
-canonicalNumber s m =
-    elim (eqb (textNumber s) 0) [ true ↦ elim (ltb m (length (form s))) [ true ↦ 20 | false ↦ 0 ] | false ↦ textNumber s ]
+canonicalNumber s m = numberWithin (checked s) m
 
 -- the length of the output, 0 in a refusal
 unfoldable pub canonicalLength : List ℕ → ℕ → ℕ

@@ -6,7 +6,7 @@ use lib.ListN.{length}
 use Rattle.text_json.specs.Syntax.{Syntax}
 use Rattle.text_json.specs.Read.{found, readText}
 use Rattle.text_scan.specs.Scanned.{KeysOf}
-use Rattle.text_scan.specs.Summary.{ownKeys}
+use Rattle.text_tokens.specs.Summary.{ownKeys}
 use Rattle.text.specs.Question.{textNumber}
 use Rattle.text.specs.Answer.{form}
 use Rattle.text.specs.declared.Fault.{Fault}

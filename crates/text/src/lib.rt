@@ -1,5 +1,5 @@
 // JSON texts as document 01 takes them: checked by questions 1 to 6, and written in canonical form.
-use text_scan::Scanned;
+use text_tokens::Scanned;
 use text_utf8::Verdict;
 ghost use mathlib.Core.Path.{_≡_};
 ghost use mathlib.Core.List.{_++_};
@@ -10,7 +10,7 @@ ghost use lib.ListN.{length, drop};
 ghost use Rattle.text_json.specs.Syntax.{Syntax};
 ghost use Rattle.text_json.specs.Read.{readText};
 ghost use Rattle.text_canonical.specs.Room.{WritableRoot, WritesValue};
-ghost use Rattle.text_scan.specs.Summary.{summary};
+ghost use Rattle.text_tokens.specs.Summary.{summary};
 
 // Why a text is refused, by document 01's questions 1 to 6, each with the offset of the fault; a text that is too long has none.
 pub enum Fault {
@@ -114,7 +114,7 @@ fn check_json(text: &[u8], keys: &mut [u16], spare: &mut [u16]) -> Known
 }
 
 // A text of that length is as long as its form, and the keys of every object are in rising order.
-fn is_form(len: usize, sum: text_scan::Summary) -> bool
+fn is_form(len: usize, sum: text_tokens::Summary) -> bool
     ensures { λ r. ⌜ ((t : Syntax) → sum ≡ summary t → r ≡ isForm len t) ⌝ }
 {
     if sum.size != len {
@@ -124,7 +124,7 @@ fn is_form(len: usize, sum: text_scan::Summary) -> bool
 }
 
 // The first fault of a text of that length, or the length of its canonical form.
-fn by_faults(len: usize, sum: text_scan::Summary, canonical: bool) -> Checked
+fn by_faults(len: usize, sum: text_tokens::Summary, canonical: bool) -> Checked
     ensures { λ r. ⌜ ((t : Syntax) → sum ≡ summary t → r ≡ byFaults len canonical t) ⌝ }
 {
     if 0 < sum.string {

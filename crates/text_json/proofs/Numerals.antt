@@ -1,13 +1,13 @@
 -- A number from its parts, and the numbers that digits make up.
 -- Assumes nothing.
 use Prim.Native.Nat.{ℕ, _+_, _-_, _*_, _≤_, _<_}
-use mathlib.Core.Path.{_≡_, refl, sym, ap, _∙_}
+use mathlib.Core.Path.{_≡_, refl, ap, _∙_}
 use mathlib.Core.List.{List, [], _∷_}
-use mathlib.Core.Bool.{Bool, true, false, not, _&&_, _||_, true≢false}
+use mathlib.Core.Bool.{Bool, true, false, _&&_}
 use native.Mathlib.Nat.{le-trans}
 use native.Mathlib.Decide.{ℕ-discrete, decLt}
 use native.Mathlib.Omega.{arith}
-use borrow.Author.Tests.{eq-eqb, ne-eqb, lt-ltb, le-ltb, ltb-false}
+use borrow.Author.Tests.{eq-eqb, ne-eqb, lt-ltb, le-ltb}
 use lib.ListN.{length, drop}
 use lib.Dec.{eqb, ltb}
 use Rattle.text_json.specs.Bytes.{isDigit}
@@ -23,7 +23,7 @@ use Rattle.text_json.specs.declared.Scan.the-variants.{Token, NoToken}
 use Rattle.text_json.specs.declared.Step.{Step}
 use Rattle.text_json.specs.declared.Step.the-variants.{End, Stuck}
 use Rattle.text_json.proofs.ByteTests.{between-true}
-use Rattle.text_json.proofs.Places.{found-same, stuck-found, scans-found}
+use Rattle.text_json.proofs.Places.{scans-found}
 
 pub digit-range : (b : ℕ) → isDigit b ≡ true → (0x30 ≤ b) × (b ≤ 0x39)
 unfolding isDigit
@@ -149,38 +149,3 @@ within-minus at (NoToken e) h = omega arith
 pub within-plain : (at : ℕ) (r : Scan) → WithSign false at r → Within at r
 within-plain at (Token e f n) h = omega arith
 within-plain at (NoToken e) h = h
-
--- what a number that is read has to do with its int
-
-pub int-value : (s : List ℕ) (at e v : ℕ) → IntAt s at e v → (ds q : List ℕ) → readInt (drop at s) ≡ found ds q → Near v (decimal ds)
-int-value s at e v int ds q h = rw (found-same _ ds _ q (sym (int .read) ∙ h)) at (int .value)
-
-module _ (negative : Bool) (n : Numeral) (q : List ℕ) where
-  tail-int : (ds : List ℕ) (y : Read Bool) → andThen y (numeral negative ds) ≡ found n q → (n .negative ≡ negative) × (n .digits ≡ ds)
-  unfolding andThen
-  tail-int ds (found w r) e =
-      let same = found-same _ n r q e in
-      (ap (λ (m : Numeral). m .negative) (sym same), ap (λ (m : Numeral). m .digits) (sym same))
-  tail-int ds (stuck r) e = absurd (stuck-found n r q e)
-
-  pub unsigned-int : (s : List ℕ) → readUnsigned negative s ≡ found n q
-      → (n .negative ≡ negative) × ((r : List ℕ) × (readInt s ≡ found (n .digits) r))
-  unsigned-int s e = int (readInt s) refl
-    where
-      int : (x : Read (List ℕ)) → readInt s ≡ x → (n .negative ≡ negative) × ((r : List ℕ) × (readInt s ≡ found (n .digits) r))
-      int (found ds r) h =
-          let parts = tail-int ds (readTail r) (sym (unsigned-tail negative s ds r h) ∙ e) in
-          (parts .0, (r, rw (parts .1) h))
-      int (stuck r) h = absurd (stuck-found n r q (sym (unsigned-stuck negative s r h) ∙ e))
-
-or-right : (a b : Bool) → a || b ≡ false → b ≡ false
-or-right true b e = absurd (true≢false e)
-or-right false b e = e
-
-pub refused-below : (n : Numeral) → refusedNumber n ≡ false → decimal (n .digits) < 0x100000000
-unfolding refusedNumber
-refused-below n e =
-    let d = decimal (n .digits) in
-    let low = ltb-false (limit (n .negative)) d (or-right (n .negative && eqb d 0) _ (or-right (not (n .whole)) _ e)) in
-    let top = limit-below (n .negative) in
-    omega arith

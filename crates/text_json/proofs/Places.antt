@@ -5,7 +5,6 @@ use mathlib.Core.Path.{_≡_, refl}
 use mathlib.Core.List.{List, _∷_}
 use mathlib.Core.Bool.{Bool}
 use native.Mathlib.Numerals.{add-one}
-use native.Mathlib.Omega.{arith}
 use lib.ListN.{length, drop, getD}
 use lib.Seq.{drop-cons}
 use Rattle.text_json.specs.Read.{Read, found, stuck}
@@ -13,13 +12,9 @@ use Rattle.text_json.specs.Scan.{Steps, Scans}
 use Rattle.text_json.specs.declared.Step.the-variants.{End, Stuck}
 use Rattle.text_json.specs.declared.Scan.the-variants.{Token, NoToken}
 
--- what is found is found once, and is not stuck
-
+-- what is found is found once
 pub found-same : {A : Type 0} (a b : A) (r q : List ℕ) → found a r ≡ found b q → a ≡ b
 found-same a b r q e = cc
-
-pub stuck-found : {A : Type 0} (b : A) (r q : List ℕ) → stuck r ≡ found b q → ⊥
-stuck-found b r q e = let z : _≡_ {A = ℕ} 0 1 = cc in omega arith
 
 -- before the end: the byte there, and the rest from the next position
 pub drop-next : (s : List ℕ) (i : ℕ) → i < length s → drop i s ≡ getD s i 0 ∷ drop (i + 1) s

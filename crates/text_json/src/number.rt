@@ -5,13 +5,10 @@ use crate::bytes::is_digit;
 use crate::bytes::is_exp;
 use crate::bytes::is_sign;
 ghost use mathlib.Core.Path.{_≡_};
-ghost use mathlib.Core.Bool.{false};
-ghost use mathlib.Core.List.{List};
-ghost use Prim.Native.Nat.{ℕ, _+_, _*_, _≤_, _<_};
+ghost use Prim.Native.Nat.{_+_, _*_, _≤_, _<_};
 ghost use lib.ListN.{length, drop};
-ghost use Rattle.text_json.specs.Syntax.{Numeral};
-ghost use Rattle.text_json.specs.Read.{found, readInt, readSomeDigits, readSigned, readFrac, readExp, readUnsigned, readNumber};
-ghost use Rattle.text_json.specs.Content.{refusedNumber, decimal};
+ghost use Rattle.text_json.specs.Read.{readSomeDigits, readSigned, readFrac, readExp, readUnsigned, readNumber};
+ghost use Rattle.text_json.specs.Content.{refusedNumber};
 ghost use Rattle.text_json.specs.Scan.{Scans};
 ghost use Rattle.text_json.specs.Size.{numeralSize, Within};
 ghost use Rattle.text_json.specs.Parts.{Near, Runs, Ints, Parts, Reaches, readTail, refusedParts, signs, WithSign};
@@ -237,53 +234,5 @@ pub fn number(s: &[u8], at: usize) -> Scan
         unsigned(s, at + 1, true)
     } else {
         unsigned(s, at, false)
-    }
-}
-
-// A whole number of 32 bits with a sign: its sign, and its distance from 0.
-pub struct Whole {
-    pub negative: bool,
-    pub magnitude: u32,
-}
-
-// The value of the int at a position, if 32 bits hold it.
-pub fn magnitude(s: &[u8], at: usize) -> u32
-    requires { ⌜ at ≤ length (now s) ⌝ }
-    ensures { λ v. ⌜ ((ds q : List ℕ) → readInt (drop at (now (s .entry))) ≡ found ds q → decimal ds < 0x100000000 → v ≡ decimal ds) ⌝ }
-{
-    match int_part(s, at) {
-        Int::Digits { end: _, value } => {
-            if value < 0x1_0000_0000 {
-                value as u32
-            } else {
-                0
-            }
-        }
-        Int::NoInt(_) => 0,
-    }
-}
-
-// The value of the number at a position, if there is one and it is not refused.
-pub fn whole_at(s: &[u8], at: usize) -> Whole
-    requires { ⌜ at ≤ length (now s) ⌝ }
-    ensures { λ v. ⌜ ((n : Numeral) (q : List ℕ) → readNumber (drop at (now (s .entry))) ≡ found n q → refusedNumber n ≡ false
-        → (v .negative ≡ n .negative) × (v .magnitude ≡ decimal (n .digits))) ⌝ }
-{
-    if s.len() <= at {
-        return Whole {
-            negative: false,
-            magnitude: 0,
-        };
-    }
-    if s[at] == 0x2D {
-        Whole {
-            negative: true,
-            magnitude: magnitude(s, at + 1),
-        }
-    } else {
-        Whole {
-            negative: false,
-            magnitude: magnitude(s, at),
-        }
     }
 }

@@ -8,15 +8,6 @@ ghost use Rattle.text_json.specs.Content.{escaped, quoted};
 ghost use Rattle.text_strings.specs.InString.{Inside, contentFrom};
 ghost use Rattle.text_printer.specs.Writes.{Writes};
 
-// One byte.
-pub fn put(out: &mut [u8], b: u8) -> usize
-    requires { ⌜ 1 ≤ length (now out) ⌝ }
-    ensures { λ r. ⌜ (r ≡ 1) × Writes (now (out .entry)) (now (out .exit)) (b ∷ []) ⌝ }
-{
-    out[0] = b;
-    1
-}
-
 // The bytes of s from `from` to `to`.
 pub fn copy(s: &[u8], from: usize, to: usize, out: &mut [u8]) -> usize
     requires { ⌜ (from ≤ to) × (to ≤ length (now s)) × (to - from ≤ length (now out)) ⌝ }

@@ -1,26 +1,26 @@
 -- Reading the elements of an array from the left.
-use Prim.Native.Nat.{ℕ, suc, _+_, _<_, _≤_, max}
-use mathlib.Core.Path.{_≡_, refl, sym, ap, subst, _∙_}
+use Prim.Native.Nat.{ℕ, _+_, _<_, _≤_, max}
+use mathlib.Core.Path.{_≡_, refl, sym, ap, _∙_}
 use mathlib.Core.List.{List, [], _∷_, _++_}
 use mathlib.Core.Bool.{Bool, true, _&&_, and-true, and-assoc}
 use native.Mathlib.Omega.{arith}
 use lib.ListN.{length, drop, getD, length-append}
 use Rattle.text_json.specs.Syntax.{Syntax, Elements, element, no-elements, array, elements}
-use Rattle.text_json.specs.Read.{Read, found, stuck, andThen, prepend, spaces, afterItem, readListed, read}
+use Rattle.text_json.specs.Read.{andThen, spaces, readListed, read}
 use Rattle.text_json.specs.Scan.{At}
-use Rattle.text_json.proofs.Items.{itemsFrom, prependAll, items-from}
+use Rattle.text_json.proofs.Items.{itemsFrom, prependAll}
 use Rattle.text_json.proofs.Grammar.Sound.{read-shorter}
 use Rattle.text_content.specs.Value.{content, contents}
 use Rattle.text_content.specs.Canonical.{canonical, ordered, orderedValues}
 use Rattle.text_content.specs.Fault.{stringFault, stringFaults, numberFault, numberFaults, keyFault, keyFaults}
 use Rattle.text_content.proofs.Size.{sizeOf, sizeOfElements, enclosed, size-canonical, size-empty, size-enclosed, size-elements-append}
-use Rattle.text_scan.specs.Summary.{summary, plainSummary, plus, ownKeys}
-use Rattle.text_scan.specs.Scanned.{Scans, Follows, readArray, plainValue}
-use Rattle.text_scan.specs.declared.Summary.{Summary}
-use Rattle.text_scan.specs.declared.Found.{Found}
-use Rattle.text_scan.specs.declared.After.{After}
-use Rattle.text_scan.specs.declared.Scanned.{Scanned}
-use Rattle.text_scan.specs.declared.Scanned.the-variants.{Value, Stuck}
+use Rattle.text_tokens.specs.Summary.{summary, plainSummary, plus, ownKeys}
+use Rattle.text_tokens.specs.Scanned.{Scans, Follows, plainValue}
+use Rattle.text_scan.specs.Scanned.{readArray}
+use Rattle.text_tokens.specs.declared.Summary.{Summary}
+use Rattle.text_tokens.specs.declared.Found.{Found}
+use Rattle.text_tokens.specs.declared.After.{After}
+use Rattle.text_tokens.specs.declared.Scanned.the-variants.{Value, Stuck}
 use Rattle.text_scan.proofs.Progress.{IsValue, scans-stuck, value-later, value-size, read-nothing, listed-empty, listed-items, item-stuck, item-ends, item-sticks, item-more}
 
 -- the faults, the length and the order of the elements so far, with the array's opening mark

@@ -16,10 +16,11 @@ use Rattle.text_strings.specs.InString.{keyLe}
 use Rattle.text_strings.proofs.Views.{byte-at, below-at}
 use Rattle.text_keys.specs.Repeats.{no-places}
 use Rattle.text_keys.proofs.Members.{members-same}
-use Rattle.text_scan.specs.Scanned.{KeysOf, LeavesKeys, SortedKeys, readObject, closedValue}
-use Rattle.text_scan.specs.declared.Summary.{Summary}
-use Rattle.text_scan.specs.declared.Scanned.{Scanned}
-use Rattle.text_scan.specs.declared.Scanned.the-variants.{Value, Stuck}
+use Rattle.text_tokens.specs.Scanned.{closedValue}
+use Rattle.text_scan.specs.Scanned.{KeysOf, LeavesKeys, SortedKeys, readObject}
+use Rattle.text_tokens.specs.declared.Summary.{Summary}
+use Rattle.text_tokens.specs.declared.Scanned.{Scanned}
+use Rattle.text_tokens.specs.declared.Scanned.the-variants.{Value, Stuck}
 use Rattle.text_scan.proofs.Values.{read-object}
 
 -- from the members that were read

@@ -1,15 +1,15 @@
 -- Reading the members of an object from the left.
-use Prim.Native.Nat.{ℕ, suc, _+_, _*_, _-_, _<_, _≤_, max}
+use Prim.Native.Nat.{ℕ, _+_, _*_, _-_, _<_, _≤_, max}
 use mathlib.Core.Path.{_≡_, refl, sym, ap, subst, _∙_}
 use mathlib.Core.List.{List, [], _∷_, _++_}
-use mathlib.Core.Bool.{Bool, true, false, cond, _&&_, and-true, and-assoc}
+use mathlib.Core.Bool.{Bool, true, cond, _&&_, and-true, and-assoc}
 use native.Mathlib.Omega.{arith}
 use native.Mathlib.Numerals.{add-one}
-use lib.ListN.{length, take, drop, getD, set, length-append, length-drop, length-set}
+use lib.ListN.{length, take, drop, getD, set, length-append, length-set}
 use lib.Seq.{take-suc-set}
 use borrow.Rule.Slice.PartMut.{midOf, putMid, same-len-mid, mid-len, take-put}
 use Rattle.text_json.specs.Syntax.{Syntax, Char, Members, no-members, object, members, Member}
-use Rattle.text_json.specs.Read.{Read, found, stuck, andThen, spaces, readListed, readPair, readString, readWord, readChars, char, read}
+use Rattle.text_json.specs.Read.{Read, found, stuck, andThen, spaces, readListed, readPair, readString, readWord, read}
 use Rattle.text_json.specs.Content.{refusedString, unescape, quoted}
 use Rattle.text_json.specs.Size.{stringSize}
 use Rattle.text_json.specs.Scan.{At, Scans as TokenScans}
@@ -32,15 +32,16 @@ use Rattle.text_keys.specs.Repeats.{Places, no-places, place-at}
 use Rattle.text_keys.proofs.Keys.{keys-append}
 use Rattle.text_keys.proofs.Repeats.{repeated-places}
 use Rattle.text_keys.proofs.Orders.{rising-places}
-use Rattle.text_scan.specs.Summary.{summary, plainSummary, plus, memberSummary, memberCount, ownKeys}
-use Rattle.text_scan.specs.Scanned.{Scans, Follows, Room, KeyWithin, readKey, readObject, plainValue, closedSummary, closedValue, KeysOf}
-use Rattle.text_scan.specs.declared.Summary.{Summary}
-use Rattle.text_scan.specs.declared.Found.{Found}
-use Rattle.text_scan.specs.declared.After.{After}
-use Rattle.text_scan.specs.declared.Scanned.{Scanned}
-use Rattle.text_scan.specs.declared.Scanned.the-variants.{Value, Stuck}
+use Rattle.text_tokens.specs.Summary.{summary, plainSummary, plus, memberSummary, memberCount, ownKeys}
+use Rattle.text_tokens.specs.Scanned.{Scans, Follows, KeyWithin, readKey, plainValue, closedSummary, closedValue}
+use Rattle.text_scan.specs.Scanned.{readObject, KeysOf}
+use Rattle.text_tokens.specs.declared.Summary.{Summary}
+use Rattle.text_tokens.specs.declared.Found.{Found}
+use Rattle.text_tokens.specs.declared.After.{After}
+use Rattle.text_tokens.specs.declared.Scanned.{Scanned}
+use Rattle.text_tokens.specs.declared.Scanned.the-variants.{Stuck}
 use Rattle.text_scan.proofs.Progress.{IsValue, scans-stuck, value-later, value-size, listed-empty, listed-items, item-stuck, item-ends, item-sticks, item-more}
-use Rattle.text_scan.proofs.Tokens.{mark-at}
+use Rattle.text_tokens.proofs.Tokens.{mark-at}
 use Rattle.text_scan.proofs.Keys.{keys-of, no-keys-left}
 
 -- the faults, the length and the order of the members so far, with the object's opening mark; its own keys are looked at at its end

@@ -1,13 +1,11 @@
 -- What is common to reading the elements of an array and the members of an object.
 use Prim.Native.Nat.{ℕ, zero, suc, _+_, _<_, _≤_}
-use mathlib.Core.Path.{_≡_, refl, sym, ap, subst, _∙_}
-use mathlib.Core.List.{List, [], _∷_, _++_, append-nil, append-assoc}
-use mathlib.Core.Bool.{Bool, true, false}
+use mathlib.Core.Path.{_≡_, refl, ap, _∙_}
+use mathlib.Core.List.{List, [], _∷_, _++_}
 use native.Mathlib.Omega.{arith}
 use native.Mathlib.Nat.{add-zero}
 use borrow.Author.Tests.{eq-eqb, ne-eqb}
-use lib.Dec.{eqb}
-use lib.ListN.{length, drop, getD, length-drop, drop-of-length-le}
+use lib.ListN.{length, drop, getD, length-drop}
 use Rattle.text_json.specs.Syntax.{Syntax}
 use Rattle.text_json.specs.Read.{Read, found, stuck, andThen, prepend, spaces, afterItem, readFirst, readListed, readItems, read, readNested, readScalar}
 use Rattle.text_json.specs.Scan.{At}
@@ -16,15 +14,14 @@ use Rattle.text_json.proofs.Grammar.Sound.{read-sound, read-shorter}
 use Rattle.text_content.specs.Value.{content}
 use Rattle.text_content.specs.Canonical.{canonical}
 use Rattle.text_content.proofs.NotLonger.{value-not-longer}
-use Rattle.text_scan.specs.Summary.{summary, ownKeys}
-use Rattle.text_scan.specs.Scanned.{Scans, Follows}
-use Rattle.text_scan.specs.declared.Scanned.{Scanned}
-use Rattle.text_scan.specs.declared.Found.{Found}
-use Rattle.text_scan.specs.declared.Scanned.the-variants.{Value, Stuck}
+use Rattle.text_tokens.specs.Summary.{summary, ownKeys}
+use Rattle.text_tokens.specs.Scanned.{Scans, Follows}
+use Rattle.text_tokens.specs.declared.Found.{Found}
+use Rattle.text_tokens.specs.declared.Scanned.the-variants.{Value, Stuck}
 use Rattle.text_strings.proofs.Views.{byte-at, below-at}
-use Rattle.text_scan.specs.declared.After.{After}
-use Rattle.text_scan.proofs.Follow.{after-end, after-more, after-stuck}
-use Rattle.text_scan.proofs.Tokens.{here}
+use Rattle.text_tokens.specs.declared.After.{After}
+use Rattle.text_tokens.proofs.Follow.{after-end, after-more, after-stuck}
+use Rattle.text_tokens.proofs.Tokens.{here}
 
 -- what a scan says, as an equation
 pub record IsValue (s : List ℕ) (x : Read Syntax) (f : Found) : Type 0 where

@@ -1,19 +1,19 @@
 -- Which case of a value it is, by its first byte and the nesting that is left.
 use Prim.Native.Nat.{ℕ, zero, suc, _+_, _-_, _<_, _≤_}
-use mathlib.Core.Path.{_≡_, refl, sym, ap, subst, _∙_}
-use mathlib.Core.List.{List, [], _∷_}
+use mathlib.Core.Path.{_≡_, refl, sym}
+use mathlib.Core.List.{List, _∷_}
 use native.Mathlib.Omega.{arith}
 use borrow.Author.Tests.{eq-eqb, ne-eqb}
 use lib.ListN.{length, drop, getD, drop-of-length-le}
-use Rattle.text_json.specs.Syntax.{Syntax}
-use Rattle.text_json.specs.Read.{Read, andThen, spaces, read, readNested, readScalar, atEnd, readText}
-use Rattle.text_scan.specs.Scanned.{Scans, readArray, readObject}
+use Rattle.text_json.specs.Read.{andThen, spaces, read, readNested, readScalar, atEnd, readText}
+use Rattle.text_tokens.specs.Scanned.{Scans}
+use Rattle.text_scan.specs.Scanned.{readArray, readObject}
 use Rattle.text_json.specs.Scan.{At}
-use Rattle.text_scan.specs.declared.Found.{Found}
-use Rattle.text_scan.specs.declared.Scanned.{Scanned}
-use Rattle.text_scan.specs.declared.Scanned.the-variants.{Value, Stuck}
+use Rattle.text_tokens.specs.declared.Found.{Found}
+use Rattle.text_tokens.specs.declared.Scanned.{Scanned}
+use Rattle.text_tokens.specs.declared.Scanned.the-variants.{Value, Stuck}
 use Rattle.text_scan.proofs.Progress.{IsValue, scans-stuck, read-nothing}
-use Rattle.text_scan.proofs.Tokens.{here}
+use Rattle.text_tokens.proofs.Tokens.{here}
 
 of-array : (d b : ℕ) (q : List ℕ) → 0 < d → b ≡ 0x5B → read d (b ∷ q) ≡ readArray (d - 1) q
 unfolding read readNested readArray

@@ -94,22 +94,3 @@ module _ (s : List ℕ) (i : ℕ) (p : Inside s i) where
 
   pub not-longer : i + length (contentFrom s i) < length s
   not-longer = omega (arith, ap length (here .content), unescape-length (here .chars), chars-size (here .reads), length-drop i s)
-
--- n bytes of the content from i on lie before position k
-abbrev pub Counted : (s : List ℕ) (i k n : ℕ) → Type 0
-Counted s i k n = Inside s k × (n + length (contentFrom s k) ≡ length (contentFrom s i))
-
-module _ (s : List ℕ) (i k n : ℕ) (c : Counted s i k n) where
-  pub counted-end : getD s k 0 ≡ 0x22 → n ≡ length (contentFrom s i)
-  counted-end e = omega (arith, ap length (ends s k (c .0) e))
-
-  pub counted-byte : (getD s k 0 ≡ 0x22 → ⊥) → (getD s k 0 ≡ 0x5C → ⊥) → Counted s i (k + 1) (n + 1)
-  counted-byte a b = let g = goes-on s k (c .0) a b in (g .1, omega (arith, ap length (g .0)))
-
-  pub counted-escape : (next scalar m : ℕ) → Escapes s k next scalar → m ≡ length (encode scalar) → Counted s i next (n + m)
-  counted-escape next scalar m e q =
-      let g = over-escape s k (c .0) next scalar e in
-      (g .1, omega (arith, ap length (g .0), length-append (encode scalar) (contentFrom s next)))
-
-  pub count-within : Inside s i → n < length s
-  count-within p = omega (arith, not-longer s i p)

@@ -1,4 +1,4 @@
-// Whether a string of a JSON text is a given name or another string, and how long its content is.
+// Whether a string of a JSON text is a given name or another string.
 ghost use mathlib.Core.Path.{_≡_};
 ghost use mathlib.Core.List.{List};
 ghost use Prim.Native.Nat.{ℕ, _≤_};
@@ -63,30 +63,5 @@ pub fn equal(s: &[u8], i: usize, t: &[u8], j: usize) -> bool
         Order::Equal => true,
         Order::Less => false,
         Order::Greater => false,
-    }
-}
-
-// The number of bytes of the content from position i on. It is never more than the text has, so the sum fits.
-pub fn content_length(s: &[u8], i: usize) -> usize
-    requires { ⌜ Inside (now s) i ⌝ }
-    ensures { λ r. ⌜ r ≡ length (contentFrom (now (s .entry)) i) ⌝ }
-{
-    let mut k = i;
-    let mut n = 0;
-    loop {
-        let b = s[k];
-        if b == b'"' {
-            return n;
-        }
-        if b == b'\\' {
-            let e = crate::read_escape(s, k);
-            let c = e.scalar;
-            let x = text_utf8::encoded(c);
-            n += x.len;
-            k = e.next;
-            continue;
-        }
-        n += 1;
-        k += 1;
     }
 }

@@ -3,7 +3,7 @@
 use Prim.Native.Nat.{_≤_}
 use native.Mathlib.Omega.{arith}
 use borrow.Author.Needs.{needs}
-use Rattle.reference.proofs.Digests.{digest-bounds}
+use Rattle.reference_digests.proofs.Digests.{digest-bounds}
 use Rattle.test_references.proofs.show_plain_digest.Statement.{statement}
 use Rattle.test_references.proofs.show_plain_digest.Tie as tie
 

@@ -6,11 +6,12 @@ use native.Mathlib.Omega.{arith}
 use borrow.Author.Needs.{needs}
 use denote.Ref.{now}
 use lib.ListN.{drop}
-use Rattle.reference.specs.Digests.{digestOf}
-use Rattle.reference.specs.Parts.{firstPart}
-use Rattle.reference.specs.Readings.{PlainDigest, IdReads}
+use Rattle.reference_parts.specs.Parts.{firstPart}
+use Rattle.reference_digests.specs.Digests.{digestOf}
+use Rattle.reference_digests.specs.Readings.{PlainDigest}
+use Rattle.reference_digests.proofs.Digests.{digest-bounds}
+use Rattle.reference.specs.Readings.{IdReads}
 use Rattle.reference.specs.References.{imageId, image-id}
-use Rattle.reference.proofs.Digests.{digest-bounds}
 use Rattle.test_rules.proofs.Contents.{no-match, by-bytes}
 use Rattle.test_rules.proofs.matches_id.Statement.{statement}
 use Rattle.test_rules.proofs.matches_id.Tie as tie

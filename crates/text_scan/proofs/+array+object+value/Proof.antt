@@ -7,16 +7,17 @@ use mathlib.Core.List.{List, [], _∷_, _++_}
 use mathlib.Core.Logic.{⊎-elim}
 use native.Mathlib.Omega.{arith}
 use Rattle.text_scan.proofs.Values.{is-array, is-object, is-scalar, at-bottom, at-end}
-use lib.ListN.{length, take, drop, set, length-set}
+use lib.ListN.{length, take, drop, length-set}
 use lib.Seq.{length-take-le, length-front}
 use Rattle.text_keys.specs.Keys.{KeysAt}
-use Rattle.text_scan.specs.Summary.{plus}
+use Rattle.text_tokens.specs.Summary.{plus}
 use denote.Ref.{now}
 use Rattle.text_json.specs.Read.{read}
-use Rattle.text_scan.specs.Scanned.{Scans, LeavesKeys, readArray, readObject}
-use Rattle.text_scan.specs.declared.Summary.{Summary}
-use Rattle.text_scan.specs.declared.Scanned.{Scanned}
-use Rattle.text_scan.specs.declared.Scanned.the-variants.{Value}
+use Rattle.text_tokens.specs.Scanned.{Scans}
+use Rattle.text_scan.specs.Scanned.{LeavesKeys, readArray, readObject}
+use Rattle.text_tokens.specs.declared.Summary.{Summary}
+use Rattle.text_tokens.specs.declared.Scanned.{Scanned}
+use Rattle.text_tokens.specs.declared.Scanned.the-variants.{Value}
 use Rattle.text_scan.proofs.Arrays as arrays
 use Rattle.text_scan.proofs.Objects as objects
 use Rattle.text_scan.proofs.Keys.{closed-keys}
@@ -34,15 +35,15 @@ use Rattle.text_scan.proofs.value.Reads as value
 use Rattle.text_scan.proofs.value.Kinds as value-kinds
 use Rattle.text_scan.proofs.+array+object+value.Lts-value as value-lts
 use Rattle.text_json.proofs.space.skip_spaces.Reads as skip-spaces-reads
-use Rattle.text_scan.proofs.added.Reads as added-reads
-use Rattle.text_scan.proofs.after_item.Reads as after-item-reads
-use Rattle.text_scan.proofs.closed.Reads as closed-reads
-use Rattle.text_scan.proofs.key.Reads as key-reads
-use Rattle.text_scan.proofs.mark.Reads as mark-reads
-use Rattle.text_scan.proofs.member.Reads as member-reads
-use Rattle.text_scan.proofs.plain.Reads as plain-reads
-use Rattle.text_scan.proofs.scalar.Reads as scalar-reads
-use Rattle.text_scan.proofs.stands.Reads as stands-reads
+use Rattle.text_tokens.proofs.added.Reads as added-reads
+use Rattle.text_tokens.proofs.after_item.Reads as after-item-reads
+use Rattle.text_tokens.proofs.closed.Reads as closed-reads
+use Rattle.text_tokens.proofs.key.Reads as key-reads
+use Rattle.text_tokens.proofs.mark.Reads as mark-reads
+use Rattle.text_tokens.proofs.member.Reads as member-reads
+use Rattle.text_tokens.proofs.plain.Reads as plain-reads
+use Rattle.text_tokens.proofs.scalar.Reads as scalar-reads
+use Rattle.text_tokens.proofs.stands.Reads as stands-reads
 use Rattle.text_scan.proofs.+array+object+value.{statement}
 use Rattle.text_scan.proofs.+array+object+value.Tie.{close}
 

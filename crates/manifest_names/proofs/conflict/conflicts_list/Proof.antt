@@ -13,7 +13,8 @@ use Rattle.text_view.specs.Cursor.{GivesElement, NextElement}
 use Rattle.text_content.specs.Value.{Values}
 use Rattle.text_strings.specs.InString.{contentFrom}
 use Rattle.manifest_fields.specs.Accessors.{texts}
-use Rattle.manifest_names.specs.Contents.{Named, namedUnder, standsElsewhere, anyOf, conflict}
+use Rattle.laws.specs.Any.{anyOf}
+use Rattle.manifest_names.specs.Contents.{Named, namedUnder, standsElsewhere, conflict}
 use Rattle.manifest_names.specs.Placed.{SortedContents}
 use Rattle.manifest_names.proofs.Any.{any-under}
 use Rattle.manifest_names.proofs.Walking.{InTexts, texts-started, some-elements, not-in-texts, text-inside, in-texts, texts-go-on}

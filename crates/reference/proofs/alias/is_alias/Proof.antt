@@ -1,10 +1,10 @@
 -- `reference::alias::is_alias` meets its contract.
 -- Assumes nothing.
 use mathlib.Core.Path.{ap, sym, _∙_}
+use Rattle.reference_parts.proofs.Parts.{is-not-last}
 use Rattle.reference.specs.Aliases.{isAlias}
 use Rattle.reference.proofs.Forms.{divided-alias}
 use Rattle.reference.proofs.Steps.{whole}
-use Rattle.reference.proofs.Parts.{is-not-last}
 use borrow.Author.Needs.{needs}
 use Rattle.reference.proofs.alias.is_alias.Statement.{statement}
 use Rattle.reference.proofs.alias.is_alias.Tie as tie

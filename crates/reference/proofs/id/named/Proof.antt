@@ -1,7 +1,7 @@
 -- `reference::id::named` meets its contract: the names are tried one after the other.
 -- Assumes nothing.
 use mathlib.Core.Path.{sym, _∙_}
-use Rattle.reference.proofs.Forms.{named-first, named-second, named-third, named-none}
+use Rattle.reference_digests.proofs.Forms.{named-first, named-second, named-third, named-none}
 use borrow.Author.Needs.{needs}
 use Rattle.reference.proofs.id.named.Statement.{statement}
 use Rattle.reference.proofs.id.named.Tie as tie

@@ -2,7 +2,7 @@
 -- Assumes nothing.
 use mathlib.Core.Path.{refl, sym, _∙_}
 use borrow.Author.Tests.{not-true, not-false}
-use Rattle.reference.proofs.Forms.{digest-counted}
+use Rattle.reference_digests.proofs.Forms.{digest-counted}
 use Rattle.reference.proofs.Steps.{id-no-signer, id-no-manifest}
 use borrow.Author.Needs.{needs}
 use Rattle.reference.proofs.id.under.Statement.{statement}

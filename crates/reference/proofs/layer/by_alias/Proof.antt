@@ -2,8 +2,8 @@
 -- Assumes nothing.
 use mathlib.Core.Path.{ap, sym, _∙_}
 use borrow.Author.Tests.{not-true, not-false}
+use Rattle.reference_digests.proofs.Forms.{digest-counted}
 use Rattle.reference.specs.Aliases.{isAlias}
-use Rattle.reference.proofs.Forms.{digest-counted}
 use Rattle.reference.proofs.Steps.{whole, by-no-word, by-unknown, by-known, alias-good, alias-no-signer, alias-no-name}
 use borrow.Author.Needs.{needs}
 use Rattle.reference.proofs.layer.by_alias.Statement.{statement}

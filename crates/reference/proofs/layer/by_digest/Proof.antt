@@ -3,10 +3,10 @@
 use mathlib.Core.Path.{ap, sym, _∙_}
 use denote.Ref.{now}
 use Rattle.text_strings.specs.InString.{contentFrom}
-use Rattle.reference.specs.Digests.{isDigest}
+use Rattle.reference_digests.specs.Digests.{isDigest}
+use Rattle.reference_digests.specs.declared.algorithm.Known.{Known}
+use Rattle.reference_digests.proofs.Forms.{digest-counted}
 use Rattle.reference.specs.References.{digestLayer}
-use Rattle.reference.specs.declared.algorithm.Known.{Known}
-use Rattle.reference.proofs.Forms.{digest-counted}
 use Rattle.reference.proofs.Steps.{whole, layer-by-digest, digest-good, digest-bad, digest-unknown}
 use borrow.Author.Needs.{needs}
 use Rattle.reference.proofs.layer.by_digest.Statement.{statement}

@@ -1,8 +1,8 @@
 -- `reference::rule::is_signer` meets its contract.
 -- Assumes nothing.
 use mathlib.Core.Path.{_∙_}
+use Rattle.reference_digests.proofs.Forms.{digest-counted}
 use Rattle.reference.specs.References.{isSigner}
-use Rattle.reference.proofs.Forms.{digest-counted}
 use Rattle.reference.proofs.Steps.{or-taken, or-left}
 use borrow.Author.Needs.{needs}
 use Rattle.reference.proofs.rule.is_signer.Statement.{statement}

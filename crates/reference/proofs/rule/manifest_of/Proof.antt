@@ -4,10 +4,10 @@ use mathlib.Core.Path.{ap, sym, _∙_}
 use mathlib.Core.List.{List}
 use Prim.Native.Nat.{ℕ}
 use Rattle.laws.specs.Order.{same}
+use Rattle.reference_digests.specs.Digests.{isDigest, digestOf}
+use Rattle.reference_digests.proofs.Forms.{digest-counted}
 use Rattle.reference.specs.Aliases.{star}
-use Rattle.reference.specs.Digests.{isDigest, digestOf}
 use Rattle.reference.specs.References.{manifest}
-use Rattle.reference.proofs.Forms.{digest-counted}
 use Rattle.reference.proofs.Steps.{whole, manifest-any, manifest-one, manifest-alias}
 use borrow.Author.Needs.{needs}
 use Rattle.reference.proofs.rule.manifest_of.Statement.{statement}

@@ -1,0 +1,3 @@
+pub mod Algorithms
+pub mod Digests
+pub mod Readings

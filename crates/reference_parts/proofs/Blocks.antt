@@ -1,0 +1,99 @@
+-- Sixteen bytes of a part at once: they stand for themselves, and none is a `/`.
+-- Assumes nothing.
+use Prim.Native.Nat.{ℕ, zero, suc, _+_, _-_, _<_, _≤_}
+use mathlib.Core.Path.{_≡_, refl, sym, ap, subst, _∙_}
+use mathlib.Core.List.{List, [], _∷_, _++_, append-assoc}
+use mathlib.Core.Bool.{Bool, true, false, not, _&&_, and-eq-true-iff}
+use native.Mathlib.Omega.{arith}
+use native.Mathlib.Nat.{add-zero}
+use borrow.Author.Tests.{leb-true, le-leb, lt-leb, eqb-false, not-true}
+use lib.Dec.{leb, eqb}
+use lib.ListN.{length, take, drop, getD, length-drop, length-take, length-append}
+use lib.Seq.{take-suc, getD-drop, getD-take, append-snoc}
+use Rattle.text_json.specs.Measure.{every, isNot, isUnmarked}
+use Rattle.text_json.proofs.Plain.{every-at, unmarked}
+use Rattle.text_strings.specs.InString.{Inside, contentFrom}
+use Rattle.text_strings.proofs.Positions.{goes-on as over-byte}
+use Rattle.reference_parts.specs.Hex.{isLowerHex}
+use Rattle.reference_parts.specs.Parts.{isDivided, isBlock}
+use Rattle.reference_parts.specs.Readings.{StartAt}
+use Rattle.reference_parts.specs.declared.part.Start.{Start}
+use Rattle.reference_parts.proofs.Counting.{Progress, every-append, divided-on, divided-append}
+
+-- the test, by how many bytes are left
+pub few-left : (s : List ℕ) → length s < 16 → false ≡ isBlock s
+unfolding isBlock
+few-left s h = rw (lt-leb 16 (length s) h)
+
+pub enough-left : (s : List ℕ) → 16 ≤ length s → every isUnmarked (take 16 s) && every (isNot 0x2F) (take 16 s) ≡ isBlock s
+unfolding isBlock
+enough-left s h = rw (le-leb 16 (length s) h)
+
+pub block : (s : List ℕ) → isBlock s ≡ true → (16 ≤ length s) × (every isUnmarked (take 16 s) ≡ true) × (every (isNot 0x2F) (take 16 s) ≡ true)
+unfolding isBlock
+block s e =
+    let p = and-eq-true-iff (leb 16 (length s)) (every isUnmarked (take 16 s) && every (isNot 0x2F) (take 16 s)) .0 e in
+    let q = and-eq-true-iff (every isUnmarked (take 16 s)) (every (isNot 0x2F) (take 16 s)) .0 (p .1) in
+    (leb-true 16 (length s) (p .0), q .0, q .1)
+
+-- bytes that are no `/`
+no-divider : (xs : List ℕ) → every (isNot 0x2F) xs ≡ true → isDivided xs ≡ false
+unfolding every isNot isDivided
+no-divider [] e = refl
+no-divider (x ∷ xs) e =
+    let p = and-eq-true-iff (not (eqb x 0x2F)) (every (isNot 0x2F) xs) .0 e in
+    divided-on x xs (eqb-false x 0x2F (not-true (eqb x 0x2F) (p .0))) ∙ no-divider xs (p .1)
+
+-- n bytes of a text that end no string and begin no escape are n bytes of the content
+module _ (s : List ℕ) (k n : ℕ) (h : n ≤ length (drop k s)) (e : every isUnmarked (take n (drop k s)) ≡ true) where
+  unmarked-at : (m : ℕ) → m < n → (getD s (k + m) 0 ≡ 0x22 → ⊥) × (getD s (k + m) 0 ≡ 0x5C → ⊥)
+  unmarked-at m l =
+      let w : m < length (take n (drop k s)) = omega (arith, length-take n (drop k s)) in
+      unmarked (getD s (k + m) 0) (rw (getD-take n (drop k s) m 0 l, getD-drop k s m 0) at (every-at isUnmarked (take n (drop k s)) m e w))
+
+  pub upto : Inside s k → (m : ℕ) → m ≤ n → (contentFrom s k ≡ take m (drop k s) ++ contentFrom s (k + m)) × Inside s (k + m)
+  upto p zero l = (ap (contentFrom s) (sym (add-zero k)), subst (Inside s) (sym (add-zero k)) p)
+  upto p (suc m) l =
+      let q = upto p m (omega arith) in
+      let u = unmarked-at m (omega arith) in
+      let g = over-byte s (k + m) (q .1) (u .0) (u .1) in
+      let w : m < length (drop k s) = omega arith in
+      let f : k + m + 1 ≡ k + suc m = omega arith in (
+        q .0
+            ∙ ap (λ (l : List ℕ). take m (drop k s) ++ l) (g .0)
+            ∙ sym (append-snoc (take m (drop k s)) (getD s (k + m) 0) (contentFrom s (k + m + 1)))
+            ∙ ap (λ (x : ℕ). (take m (drop k s) ++ (x ∷ [])) ++ contentFrom s (k + m + 1)) (sym (getD-drop k s m 0))
+            ∙ ap (λ (l : List ℕ). l ++ contentFrom s (k + m + 1)) (sym (take-suc (drop k s) m 0 w))
+            ∙ ap (λ (j : ℕ). take (suc m) (drop k s) ++ contentFrom s j) f,
+        subst (Inside s) f (g .1),
+      )
+
+-- what the loop over such bytes keeps
+pub nothing-yet : (s : List ℕ) (i : ℕ) → Inside s i → StartAt s i (record { next = i; hex = true })
+unfolding isDivided every
+nothing-yet s i p =
+    record { bytes = []; begins = refl; inside = p; size = sym (add-zero i); undivided = refl; hex = refl }
+
+module _ (s : List ℕ) (i k : ℕ) (hex : Bool) (p : StartAt s i (record { next = k; hex = hex })) (e : isBlock (drop k s) ≡ true) where
+  pub within : k ≤ length s → k + 16 ≤ length s
+  within h = let l = rw (length-drop k s) at (block (drop k s) e .0) in omega arith
+
+  pub block-more : (t : Bool) → t ≡ every isLowerHex (take 16 (drop k s)) → StartAt s i (record { next = k + 16; hex = hex && t })
+  block-more t f =
+      let b = block (drop k s) e in
+      let g = upto s k 16 (b .0) (b .1) (p .inside) 16 (omega arith) in
+      let d = take 16 (drop k s) in
+      let l : length d ≡ 16 = omega (arith, length-take 16 (drop k s), b .0) in
+      record {
+        bytes = p .bytes ++ d;
+        begins = p .begins ∙ ap (λ (r : List ℕ). p .bytes ++ r) (g .0) ∙ sym (append-assoc (p .bytes) d (contentFrom s (k + 16)));
+        inside = g .1;
+        size = omega (arith, p .size, l, length-append (p .bytes) d);
+        undivided = divided-append (p .bytes) d ∙ rw (p .undivided, no-divider d (b .2));
+        hex = rw (p .hex, f) (sym (every-append isLowerHex (p .bytes) d));
+      }
+
+-- a loop over the part goes on behind them
+pub begun : (s : List ℕ) (i : ℕ) (b : Start) → StartAt s i b → Progress (contentFrom s i) (contentFrom s (b .next)) (b .next - i) (b .hex)
+begun s i b p =
+    record { done = p .bytes; content = p .begins; undivided = p .undivided; size = omega (arith, p .size); digits = p .hex }

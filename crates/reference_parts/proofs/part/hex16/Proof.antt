@@ -1,0 +1,50 @@
+-- `reference_parts::part::hex16` meets its contract. The loop's invariant: `all` is the test of the bytes passed. The measure is how many are left.
+-- Assumes nothing.
+use Prim.Native.Nat.{_-_, _≤_}
+use mathlib.Core.Path.{_≡_, refl}
+use native.Mathlib.Omega.{arith}
+use denote.Ref.{now}
+use lib.ListN.{take, drop}
+use Rattle.text_json.specs.Bytes.{between}
+use Rattle.text_json.specs.Measure.{every}
+use Rattle.text_json.proofs.Plain.{every-next}
+use Rattle.reference_parts.specs.Hex.{isLowerHex}
+use Rattle.reference_parts.proofs.part.hex16.Statement.{statement}
+use Rattle.reference_parts.proofs.part.hex16.Tie as tie
+
+abbrev Inv-loop : tie.InvT-loop
+Inv-loop s at all₀ n₀ all n = (n ≤ 16) × (all ≡ every isLowerHex (take n (drop at s)))
+
+abbrev μ-loop : tie.MeasureT-loop
+μ-loop s at all₀ n₀ all n = 16 - n
+
+loop-holds : tie.Need-loop-holds Inv-loop μ-loop
+unfolding every
+loop-holds c = (omega arith, refl)
+
+add-b : tie.Need-add-b Inv-loop μ-loop
+add-b c = omega arith
+
+shared-slice-read-b : tie.Need-shared-slice-read-b Inv-loop μ-loop
+shared-slice-read-b c = omega arith
+
+add-n : tie.Need-add-n Inv-loop μ-loop
+add-n c = omega arith
+
+loop-less : tie.Need-loop-less Inv-loop μ-loop
+loop-less c = omega arith
+
+loop-again : tie.Need-loop-again Inv-loop μ-loop
+unfolding isLowerHex between
+loop-again c =
+    let l = c .before .before in
+    let a = l .before .args in
+    (omega arith, every-next isLowerHex (now (a .s)) (a .at) (l .loop .n) (l .loop .all) (omega arith) (l .loop .inv .1))
+
+returns : tie.Need-returns Inv-loop μ-loop
+returns c =
+    let l = c .before .loop in
+    let o : l .n ≡ 16 = omega arith in rw o at (l .inv .1)
+
+pub hex16-spec : {M : Type 1} → statement M
+hex16-spec = tie.close (tie.spec Inv-loop μ-loop loop-holds add-b shared-slice-read-b add-n loop-less loop-again returns)

@@ -1,0 +1,139 @@
+-- What the scan of a token says of the value that it is.
+use Prim.Native.Nat.{ℕ, _+_, _-_, _<_, _≤_}
+use mathlib.Core.Path.{_≡_, refl, sym, ap, subst, _∙_}
+use mathlib.Core.List.{List, [], _∷_}
+use mathlib.Core.Bool.{Bool, true, false, cond}
+use native.Mathlib.Numerals.{add-one}
+use borrow.Author.Tests.{eq-eqb, ne-eqb}
+use lib.ListN.{length, drop, getD, length-drop, drop-of-length-le}
+use lib.Seq.{drop-cons}
+use Rattle.text_json.specs.Syntax.{Syntax, Char, Numeral}
+use Rattle.text_json.specs.Read.{Read, found, stuck, andThen, readScalar, readString, readNumber, readWord}
+use Rattle.text_json.specs.Content.{refusedString, refusedNumber}
+use Rattle.text_json.specs.Size.{stringSize, numeralSize}
+use Rattle.text_json.specs.Scan.{Steps, Scans as TokenScans}
+use Rattle.text_json.specs.declared.Step.{Step}
+use Rattle.text_json.specs.declared.Step.the-variants.{End}
+use Rattle.text_json.specs.declared.Scan.the-variants.{Token, NoToken}
+use Rattle.text_content.specs.Value.{content}
+use Rattle.text_content.specs.Canonical.{canonical, ordered, sorted, write}
+use Rattle.text_content.specs.Fault.{mark, stringFault, numberFault, keyFault}
+use Rattle.text_tokens.specs.Summary.{summary, plainSummary, ownKeys}
+use Rattle.text_tokens.specs.Scanned.{Scans, literalAnswer}
+use Rattle.text_tokens.specs.declared.Scanned.{Scanned}
+use Rattle.text_tokens.specs.declared.Scanned.the-variants.{Value, Stuck}
+
+-- a fault's mark is what the code keeps of it
+pub mark-at : (f : Bool) (s : List ℕ) (at : ℕ) → mark f (drop at s) ≡ cond f (length s - at) 0
+unfolding mark
+mark-at true s at = length-drop at s
+mark-at false s at = refl
+
+module _ (s : List ℕ) (at : ℕ) where
+  pub string-token : (x : Read (List Char)) (e n k : ℕ) (f : Bool) → k ≡ cond f (length s - at) 0
+      → TokenScans refusedString stringSize s x (Token e f n)
+      → Scans s (andThen x (λ cs q. found (Syntax.string (drop at s) cs) q))
+      (Value (record { end = e; count = 0; sum = record { string = k; number = 0; key = 0; size = n; ordered = true } }))
+  unfolding andThen summary stringFault numberFault keyFault content canonical ordered sorted write stringSize ownKeys
+  string-token (found cs r) e n k f m p =
+      let e = m ∙ sym (mark-at f s at) ∙ ap (λ (b : Bool). mark b (drop at s)) (p .1) in
+      (p .0, λ i. record { string = e i; number = 0; key = 0; size = (p .2) i; ordered = true }, refl)
+  string-token (stuck r) e n k f m p = absurd p
+
+  pub string-none : (x : Read (List Char)) (e : ℕ) → TokenScans refusedString stringSize s x (NoToken e)
+      → Scans s (andThen x (λ cs q. found (Syntax.string (drop at s) cs) q)) (Stuck e)
+  unfolding andThen
+  string-none (found cs r) e p = absurd p
+  string-none (stuck r) e p = p
+
+  pub number-token : (x : Read Numeral) (e n k : ℕ) (f : Bool) → k ≡ cond f (length s - at) 0
+      → TokenScans refusedNumber numeralSize s x (Token e f n)
+      → Scans s (andThen x (λ m q. found (Syntax.number (drop at s) m) q))
+      (Value (record { end = e; count = 0; sum = record { string = 0; number = k; key = 0; size = n; ordered = true } }))
+  unfolding andThen summary stringFault numberFault keyFault content canonical ordered sorted write numeralSize ownKeys
+  number-token (found cs r) e n k f m p =
+      let e = m ∙ sym (mark-at f s at) ∙ ap (λ (b : Bool). mark b (drop at s)) (p .1) in
+      (p .0, λ i. record { string = 0; number = e i; key = 0; size = (p .2) i; ordered = true }, refl)
+  number-token (stuck r) e n k f m p = absurd p
+
+  pub number-none : (x : Read Numeral) (e : ℕ) → TokenScans refusedNumber numeralSize s x (NoToken e)
+      → Scans s (andThen x (λ m q. found (Syntax.number (drop at s) m) q)) (Stuck e)
+  unfolding andThen
+  number-none (found cs r) e p = absurd p
+  number-none (stuck r) e p = p
+
+-- a literal name
+pub word-literal : (s : List ℕ) (x : Read (Unit {0})) (t : Syntax) (n : ℕ) (w : Step)
+    → (summary t ≡ plainSummary n) × (ownKeys t ≡ 0) → Steps s x w → Scans s (andThen x (λ _ q. found t q)) (literalAnswer w n)
+unfolding andThen
+word-literal s (found u r) t n (End e) h p = (p, sym (h .0), sym (h .1))
+word-literal s (found u r) t n (Step.Stuck e) h p = absurd p
+word-literal s (stuck r) t n (End e) h p = absurd p
+word-literal s (stuck r) t n (Step.Stuck e) h p = p
+
+-- which case of a scalar it is, by its first byte
+of-string : (b : ℕ) (q : List ℕ) → b ≡ 0x22 → readScalar (b ∷ q) ≡ andThen (readString (b ∷ q)) (λ cs r. found (Syntax.string (b ∷ q) cs) r)
+unfolding readScalar readString
+of-string b q e = rw (eq-eqb b 0x22 e, readScalar) (rw (eq-eqb b 0x22 e, readString))
+
+of-null : (b : ℕ) (q : List ℕ) → b ≡ 0x6E → readScalar (b ∷ q) ≡ andThen (readWord (0x75 ∷ 0x6C ∷ 0x6C ∷ []) q) (λ _ r. found Syntax.null r)
+unfolding readScalar
+of-null b q e = rw e
+
+of-true : (b : ℕ) (q : List ℕ) → b ≡ 0x74 → readScalar (b ∷ q) ≡ andThen (readWord (0x72 ∷ 0x75 ∷ 0x65 ∷ []) q) (λ _ r. found (Syntax.boolean true) r)
+unfolding readScalar
+of-true b q e = rw e
+
+of-false : (b : ℕ) (q : List ℕ) → b ≡ 0x66 → readScalar (b ∷ q) ≡ andThen (readWord (0x61 ∷ 0x6C ∷ 0x73 ∷ 0x65 ∷ []) q) (λ _ r. found (Syntax.boolean false) r)
+unfolding readScalar
+of-false b q e = rw e
+
+of-number : (b : ℕ) (q : List ℕ) → (b ≡ 0x22 → ⊥) → (b ≡ 0x6E → ⊥) → (b ≡ 0x74 → ⊥) → (b ≡ 0x66 → ⊥)
+    → readScalar (b ∷ q) ≡ andThen (readNumber (b ∷ q)) (λ n r. found (Syntax.number (b ∷ q) n) r)
+unfolding readScalar
+of-number b q e f g h = rw (ne-eqb b 0x22 e, readScalar) (rw (ne-eqb b 0x6E f) (rw (ne-eqb b 0x74 g) (rw (ne-eqb b 0x66 h))))
+
+-- the rest from a position on, by its first byte
+pub here : (s : List ℕ) (at : ℕ) → at < length s → drop at s ≡ getD s at 0 ∷ drop (at + 1) s
+here s at w = drop-cons s at 0 w ∙ ap (λ (n : ℕ). getD s at 0 ∷ drop n s) (sym (add-one at))
+
+pub summary-null : (summary Syntax.null ≡ plainSummary 4) × (ownKeys Syntax.null ≡ 0)
+unfolding summary stringFault numberFault keyFault content canonical ordered sorted write ownKeys
+summary-null = (refl, refl)
+
+pub summary-true : (summary (Syntax.boolean true) ≡ plainSummary 4) × (ownKeys (Syntax.boolean true) ≡ 0)
+unfolding summary stringFault numberFault keyFault content canonical ordered sorted write ownKeys
+summary-true = (refl, refl)
+
+pub summary-false : (summary (Syntax.boolean false) ≡ plainSummary 5) × (ownKeys (Syntax.boolean false) ≡ 0)
+unfolding summary stringFault numberFault keyFault content canonical ordered sorted write ownKeys
+summary-false = (refl, refl)
+
+module _ (s : List ℕ) (at : ℕ) where
+  pub scalar-end : length s ≤ at → at ≤ length s → Scans s (readScalar (drop at s)) (Stuck at)
+  unfolding readScalar
+  scalar-end h k = rw (drop-of-length-le s {i = at} h) (k, sym (drop-of-length-le s {i = at} h))
+
+  module _ (w : at < length s) (x : Scanned) where
+    pub scalar-string : getD s at 0 ≡ 0x22 → Scans s (andThen (readString (drop at s)) (λ cs q. found (Syntax.string (drop at s) cs) q)) x
+        → Scans s (readScalar (drop at s)) x
+    scalar-string e p =
+        rw (here s at w) (subst (λ (y : Read Syntax). Scans s y x) (sym (of-string (getD s at 0) (drop (at + 1) s) e)) (rw (here s at w) at p))
+
+    pub scalar-number : (getD s at 0 ≡ 0x22 → ⊥) → (getD s at 0 ≡ 0x6E → ⊥) → (getD s at 0 ≡ 0x74 → ⊥) → (getD s at 0 ≡ 0x66 → ⊥)
+        → Scans s (andThen (readNumber (drop at s)) (λ n q. found (Syntax.number (drop at s) n) q)) x → Scans s (readScalar (drop at s)) x
+    scalar-number e f g h p =
+        rw (here s at w) (subst (λ (y : Read Syntax). Scans s y x) (sym (of-number (getD s at 0) (drop (at + 1) s) e f g h)) (rw (here s at w) at p))
+
+  module _ (w : at < length s) (v : Step) where
+    pub scalar-null : getD s at 0 ≡ 0x6E → Steps s (readWord (0x75 ∷ 0x6C ∷ 0x6C ∷ []) (drop (at + 1) s)) v → Scans s (readScalar (drop at s)) (literalAnswer v 4)
+    scalar-null e p =
+        rw (here s at w, of-null (getD s at 0) (drop (at + 1) s) e) (word-literal s (readWord (0x75 ∷ 0x6C ∷ 0x6C ∷ []) (drop (at + 1) s)) Syntax.null 4 v summary-null p)
+
+    pub scalar-true : getD s at 0 ≡ 0x74 → Steps s (readWord (0x72 ∷ 0x75 ∷ 0x65 ∷ []) (drop (at + 1) s)) v → Scans s (readScalar (drop at s)) (literalAnswer v 4)
+    scalar-true e p =
+        rw (here s at w, of-true (getD s at 0) (drop (at + 1) s) e) (word-literal s (readWord (0x72 ∷ 0x75 ∷ 0x65 ∷ []) (drop (at + 1) s)) (Syntax.boolean true) 4 v summary-true p)
+
+    pub scalar-false : getD s at 0 ≡ 0x66 → Steps s (readWord (0x61 ∷ 0x6C ∷ 0x73 ∷ 0x65 ∷ []) (drop (at + 1) s)) v → Scans s (readScalar (drop at s)) (literalAnswer v 5)
+    scalar-false e p =
+        rw (here s at w, of-false (getD s at 0) (drop (at + 1) s) e) (word-literal s (readWord (0x61 ∷ 0x6C ∷ 0x73 ∷ 0x65 ∷ []) (drop (at + 1) s)) (Syntax.boolean false) 5 v summary-false p)
