@@ -34,12 +34,26 @@ enum {
     ACON_BAD_NUMBER = 5, /* a number with fraction or exponent, -0, or outside
                             -2,147,483,648 to 2,147,483,647 */
     ACON_EQUAL_KEYS = 6, /* an object with two keys that are equal after unescaping */
+    ACON_BAD_FIELD = 7,  /* a manifest with a field that is unknown, missing or against
+                            the rules for it, unless that is 8 or 9 */
+    ACON_BAD_FORM = 8,   /* a reference, a rule or an alias of bad form */
+    ACON_SAME_ALIAS = 9, /* an alias twice in one group */
+    ACON_BAD_ID = 10,    /* an Image ID of bad form */
+    ACON_BAD_STORE = 11, /* the bytes in use are not a well-formed store, or are more
+                            than the buffer has */
+    ACON_SAME_ID = 12,   /* the store holds an image with that ID */
+    ACON_CLASH = 13,     /* the image clashes with one of the store */
+    ACON_FULL = 14,      /* the store holds 64 images, or the record is longer than what
+                            is left of the buffer */
     ACON_NO_SPACE = 20   /* the output is longer than the buffer */
 };
 
 /* Longest text, in bytes, and deepest nesting of arrays and objects, the
  * outermost counting 1. */
 enum { ACON_TEXT_MAX = 16384, ACON_NESTING_MAX = 8 };
+
+/* Most images of a store. */
+enum { ACON_IMAGES_MAX = 64 };
 
 /* The number of an answer. */
 static inline unsigned acon_number(uint64_t answer)
@@ -71,6 +85,21 @@ static inline uint32_t acon_second(uint64_t answer)
  * On success the bytes of out past the form stay as they were.
  */
 uint64_t acon_canonical(const uint8_t *text, size_t text_len, uint8_t *out, size_t out_len);
+
+/* Loads an image into a store.
+ *
+ * A store is the first bytes of a buffer, of which the caller keeps the count in
+ * used: the records of its images, one after the other. No bytes are the empty
+ * store. The image has the Image ID id, as text of the form
+ * HASH/SIGNER/MANIFEST, and the manifest as JSON text; its record, with the
+ * manifest in canonical form, goes after those that are there.
+ *
+ * Number: 0 to 14. First value: the new used count. Second value: 0.
+ * On success the bytes of the buffer past the record stay as they were, as do
+ * those before it. A refusal changes no byte.
+ */
+uint64_t acon_load(const uint8_t *id, size_t id_len, const uint8_t *manifest, size_t manifest_len,
+                   uint8_t *buffer, size_t buffer_len, size_t used);
 
 #ifdef __cplusplus
 }

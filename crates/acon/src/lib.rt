@@ -3,6 +3,7 @@ ghost use mathlib.Core.Path.{_≡_};
 ghost use Prim.Native.Nat.{_<_};
 ghost use lib.ListN.{length};
 ghost use Rattle.text.specs.Answer.{canonicalNumber, canonicalLength, canonicalBytes};
+ghost use Rattle.store.specs.Load.{loadNumber, loadUsed, loadBytes};
 ghost use Rattle.acon.specs.Packed.{packed};
 
 // The canonical form of a JSON text, written at the start of `out`; the first value is its length.
@@ -13,6 +14,16 @@ pub extern "C" fn acon_canonical(text: &[u8], out: &mut [u8]) -> u64
 {
     let a = text::canonical(text, out);
     pack(a.number, a.length, 0)
+}
+
+// Loads an image: its record is appended to those of the first `used` bytes of `buffer`; the first value is the new used count.
+#[no_mangle]
+pub extern "C" fn acon_load(id: &[u8], manifest: &[u8], buffer: &mut [u8], used: usize) -> u64
+    ensures { λ r. ⌜ r ≡ packed (loadNumber (now (id .entry)) (now (manifest .entry)) (now (buffer .entry)) used) (loadUsed (now (id .entry)) (now (manifest .entry)) (now (buffer .entry)) used) 0 ⌝ }
+    ensures { λ _. ⌜ now (buffer .exit) ≡ loadBytes (now (id .entry)) (now (manifest .entry)) (now (buffer .entry)) used ⌝ }
+{
+    let a = store::load(id, manifest, buffer, used);
+    pack(a.number, a.used, 0)
 }
 
 fn pack(number: usize, first: usize, second: usize) -> u64

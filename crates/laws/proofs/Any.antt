@@ -1,7 +1,7 @@
 -- Laws of `anyOf` and `anyPair`. Assumes nothing.
 use mathlib.Core.Path.{_≡_, refl, sym, ap, _∙_}
-use mathlib.Core.List.{List, [], _∷_, _++_, map}
-use mathlib.Core.Bool.{Bool, true, false, _||_, or-assoc}
+use mathlib.Core.List.{List, [], _∷_, _++_, map, List·Permᴰ as Permutation, List·Permᴰ·nil, List·Permᴰ·cons, List·Permᴰ·swap, List·Permᴰ·trans}
+use mathlib.Core.Bool.{Bool, true, false, _&&_, _||_, or-assoc}
 use Rattle.laws.specs.Any.{anyOf}
 use Rattle.laws.proofs.Order.{false-true}
 
@@ -35,3 +35,51 @@ pub any-pointwise : {A : Type 0} (p q : A → Bool) → ((x : A) → p x ≡ q x
 unfolding anyOf
 any-pointwise p q e [] = refl
 any-pointwise p q e (x ∷ xs) = λ i. e x i || any-pointwise p q e xs i
+
+or-crossed : (a b c d : Bool) → ((a || b) || (c || d)) ≡ ((a || c) || (b || d))
+or-crossed true b c d = refl
+or-crossed false true true d = refl
+or-crossed false true false d = refl
+or-crossed false false true d = refl
+or-crossed false false false d = refl
+
+-- The first two of three tests may be asked in either order.
+pub or-exchanged : (a b c : Bool) → (a || (b || c)) ≡ (b || (a || c))
+or-exchanged true true c = refl
+or-exchanged true false c = refl
+or-exchanged false b c = refl
+
+module _ {A : Type 0} where
+  -- No element passes a test that nothing passes.
+  pub any-never : (xs : List A) → anyOf (λ (x : A). false) xs ≡ false
+  unfolding anyOf
+  any-never [] = refl
+  any-never (x ∷ xs) = any-never xs
+
+  -- What does not depend on the element is asked once.
+  pub any-and : (b : Bool) (p : A → Bool) (xs : List A) → anyOf (λ (x : A). b && p x) xs ≡ (b && anyOf p xs)
+  any-and true p xs = refl
+  any-and false p xs = any-never xs
+
+  -- Two tests are asked one after the other.
+  pub any-or : (p q : A → Bool) (xs : List A) → anyOf (λ (x : A). p x || q x) xs ≡ (anyOf p xs || anyOf q xs)
+  unfolding anyOf
+  any-or p q [] = refl
+  any-or p q (x ∷ xs) = ap (λ (b : Bool). (p x || q x) || b) (any-or p q xs) ∙ or-crossed (p x) (q x) (anyOf p xs) (anyOf q xs)
+
+  -- A list in another order has an element that passes exactly if the list has.
+  pub any-permuted : (p : A → Bool) {xs ys : List A} → Permutation xs ys → anyOf p xs ≡ anyOf p ys
+  unfolding anyOf
+  any-permuted p List·Permᴰ·nil = refl
+  any-permuted p (List·Permᴰ·cons e q) = λ i. p (e i) || any-permuted p q i
+  any-permuted p (List·Permᴰ·swap {a = a} {b = b} {l = l} e f) = or-exchanged (p a) (p b) (anyOf p l) ∙ (λ i. p (f i) || (p (e i) || anyOf p l))
+  any-permuted p (List·Permᴰ·trans q r) = any-permuted p q ∙ any-permuted p r
+
+-- Which of two lists is gone through first makes no difference.
+pub any-swapped :
+    {A B : Type 0} (p : A → B → Bool) (xs : List A) (ys : List B)
+    → anyOf (λ (x : A). anyOf (p x) ys) xs ≡ anyOf (λ (y : B). anyOf (λ (x : A). p x y) xs) ys
+unfolding anyOf
+any-swapped p [] ys = sym (any-never ys)
+any-swapped {A} {B} p (x ∷ xs) ys =
+    ap (λ (b : Bool). anyOf (p x) ys || b) (any-swapped p xs ys) ∙ sym (any-or (p x) (λ (y : B). anyOf (λ (z : A). p z y) xs) ys)

@@ -107,3 +107,10 @@ same-eq (x ∷ xs) (y ∷ ys) e = by-test (eqb x y) (yes′ (same-eq xs ys)) no�
 
 pub same-ne : (xs ys : List ℕ) → same xs ys ≡ false → xs ≡ ys → ⊥
 same-ne xs ys e q = false-true (sym e ∙ ap (same xs) (sym q) ∙ same-refl xs)
+
+-- Equality of two lists goes both ways.
+pub same-sym : (xs ys : List ℕ) → same xs ys ≡ same ys xs
+same-sym xs ys =
+    by-test (same xs ys)
+    (λ e. let f = same-eq xs ys e in rw f)
+    (λ e. by-test (same ys xs) (λ g. absurd (same-ne xs ys e (sym (same-eq ys xs g)))) (λ g. e ∙ sym g))

@@ -1,4 +1,5 @@
 pub mod Aliases
+pub mod Asking
 pub mod Canonical
 pub mod Checking
 pub mod Groups

@@ -7,7 +7,7 @@ use native.Mathlib.Omega.{arith}
 use lib.ListN.{length, getD}
 use Rattle.laws.specs.Order.{same}
 use Rattle.laws.specs.Sort.{insert, sort}
-use Rattle.laws.proofs.Any.{or-none, any-both}
+use Rattle.laws.proofs.Any.{or-none, or-exchanged, any-both}
 use Rattle.laws.proofs.Order.{by-test, false-true}
 use Rattle.laws.proofs.Sort.{insert-before, insert-after}
 use Rattle.text_content.specs.Value.{Fields, no-fields, field}
@@ -17,11 +17,6 @@ use Rattle.manifest_values.specs.Values.{entries}
 use Rattle.laws.specs.Any.{anyOf}
 use Rattle.manifest_names.specs.Contents.{Named, namedUnder, namedIn}
 use Rattle.manifest_names.specs.Placed.{Placed, no-place, placed}
-
-or-swap : (a b c : Bool) → (a || (b || c)) ≡ (b || (a || c))
-or-swap true true c = refl
-or-swap true false c = refl
-or-swap false b c = refl
 
 pub one-of-any : (c : List ℕ) (cs : List (List ℕ)) → isOneOf c cs ≡ anyOf (same c) cs
 unfolding isOneOf anyOf
@@ -96,7 +91,7 @@ module _ {A : Type 0} {Here : ℕ → A → Type 0} (le : ℕ → ℕ → Bool) 
           (record {
             items = y ∷ ih .items;
             here = placed g (ih .here);
-            any = λ p. ap (λ (b : Bool). p y || b) (ih .any p) ∙ or-swap (p y) (p x) (anyOf p ys);
+            any = λ p. ap (λ (b : Bool). p y || b) (ih .any p) ∙ or-exchanged (p y) (p x) (anyOf p ys);
           }))
 
   -- sorting positions keeps what stands there

@@ -6,7 +6,7 @@ use mathlib.Core.Bool.{Bool, true, false, not, _&&_, _||_}
 use native.Mathlib.Omega.{arith}
 use lib.ListN.{length, getD}
 use Rattle.laws.specs.Order.{same}
-use Rattle.laws.proofs.Order.{by-test, false-true, same-refl, same-eq}
+use Rattle.laws.proofs.Order.{by-test, false-true, same-refl, same-eq, same-sym}
 use Rattle.text_content.specs.Value.{Fields, no-fields, field}
 use Rattle.text_strings.specs.InString.{InString, Inside, contentFrom, keyLe}
 use Rattle.text_strings.proofs.Contents.{content-from}
@@ -16,7 +16,6 @@ use Rattle.manifest_fields.specs.Accessors.{texts, namesOf}
 use Rattle.manifest_values.specs.Values.{entries}
 use Rattle.manifest_forms.specs.Names.{NamesAt, no-names, name-at}
 use Rattle.manifest_forms.specs.Questions.{repeated}
-use Rattle.manifest_forms.proofs.Repeating.{same-sym}
 use Rattle.laws.specs.Any.{anyOf}
 use Rattle.manifest_names.specs.Contents.{Named, namedUnder, namedIn, isElsewhere, standsElsewhere, conflict}
 use Rattle.manifest_names.specs.Placed.{Placed, no-place, placed, KeyedAt, SortedNames, SomeNames, SortedContents, SomeContents}

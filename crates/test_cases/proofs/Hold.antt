@@ -30,8 +30,10 @@ use Rattle.manifest_fields.specs.Rules.{membersOf, isObject, countFields, every
 use Rattle.manifest_fields.specs.Accessors.{fieldOf, acceptsField, rejectsField, contentsField, selfField, layersOf, acceptsOf, contentsOf, selfOf, textOf, texts, namesOf}
 use Rattle.manifest_forms.specs.Questions.{badField, contentsForm, selfForm, badForm, repeated as repeatedName, repeatedAlias, manifestNumber}
 use Rattle.reference.specs.References.{digestLayer, aliasLayer, layerOf, layer}
-use Rattle.test_cases.specs.Cases.{holds, every, numberRead, elsewhere, times, letters, hash, someId, withSignals, cases}
+use Rattle.store_varint.specs.Varint.{groups, varint, grouped, readVarint}
+use Rattle.store_record.specs.Record.{idBytes, idsBytes, bodyOf, recordOf}
+use Rattle.test_cases.specs.Cases.{holds, every, numberRead, elsewhere, isRead, isNone, imageOf, times, letters, hash, someId, versionOnly, withSignals, cases}
 
 pub all-hold : every cases ≡ true
-unfolding same leq within table leadIn lead utf8From utf8 encode between isSpace isDigit isExp isSign isHex hexValue isUnescaped isShort shortValue elements members both andThen spaces readWord digitsOf afterDigits readSomeDigits readInt readFrac readSigned readExp readUnsigned readNumber prepend readChars readString readScalar afterItem readItems readFirst readListed readPair readNested read atEnd readText isHigh isLow isSurrogate isPair pairValue unescape lone isControl anyControl refusedString escaped quoted decimalFrom decimal limit refusedNumber signed content insertField sorted comma write canonical mark stringFault numberFault among repeated keyFault tooLong notUtf8 isStuck notJson faulty badString badNumber sameKeys questions lowest textNumber formOf form everyByte named isDivided longer parts isLowerHex isDigest digestOf isReserved isDigestLength isNameLength isAlias isSigner signerOf isManifest manifestOf ruleUnder ruleOf rule idUnder idOf imageId isOneOf signerMatches manifestMatches matches isEmpty beginsWith isLayer isRule textPasses numberPasses isForm passes allPass count firstNamed fieldNamed find isArrayOf isSome entries membersOf isObject isBoolean isCount isPath isNumber isVersion isAmong repeats allDifferent countFields everyMember isObjectOf namesPass groupPasses policyPasses fieldPasses memberPasses isFound foundEntries foundMembers allRequired wellFielded fieldOf acceptsField rejectsField contentsField selfField layersOf acceptsOf contentsOf selfOf textOf texts namesOf badField contentsForm selfForm badForm repeatedName repeatedAlias manifestNumber digestLayer aliasLayer layerOf layer holds every numberRead elsewhere times letters hash someId withSignals cases
+unfolding same leq within table leadIn lead utf8From utf8 encode between isSpace isDigit isExp isSign isHex hexValue isUnescaped isShort shortValue elements members both andThen spaces readWord digitsOf afterDigits readSomeDigits readInt readFrac readSigned readExp readUnsigned readNumber prepend readChars readString readScalar afterItem readItems readFirst readListed readPair readNested read atEnd readText isHigh isLow isSurrogate isPair pairValue unescape lone isControl anyControl refusedString escaped quoted decimalFrom decimal limit refusedNumber signed content insertField sorted comma write canonical mark stringFault numberFault among repeated keyFault tooLong notUtf8 isStuck notJson faulty badString badNumber sameKeys questions lowest textNumber formOf form everyByte named isDivided longer parts isLowerHex isDigest digestOf isReserved isDigestLength isNameLength isAlias isSigner signerOf isManifest manifestOf ruleUnder ruleOf rule idUnder idOf imageId isOneOf signerMatches manifestMatches matches isEmpty beginsWith isLayer isRule textPasses numberPasses isForm passes allPass count firstNamed fieldNamed find isArrayOf isSome entries membersOf isObject isBoolean isCount isPath isNumber isVersion isAmong repeats allDifferent countFields everyMember isObjectOf namesPass groupPasses policyPasses fieldPasses memberPasses isFound foundEntries foundMembers allRequired wellFielded fieldOf acceptsField rejectsField contentsField selfField layersOf acceptsOf contentsOf selfOf textOf texts namesOf badField contentsForm selfForm badForm repeatedName repeatedAlias manifestNumber digestLayer aliasLayer layerOf layer groups varint grouped readVarint idBytes idsBytes bodyOf recordOf holds every numberRead elsewhere isRead isNone imageOf times letters hash someId versionOnly withSignals cases
 all-hold = refl

@@ -3,7 +3,7 @@ use Prim.Native.Nat.{ℕ, zero, suc, _-_}
 use mathlib.Core.List.{List, [], _∷_, _++_}
 use mathlib.Core.Bool.{Bool, true, false, not, _&&_}
 use lib.Dec.{eqb}
-use lib.ListN.{length, take, drop}
+use lib.ListN.{length, take, drop, getD}
 use Rattle.text_json.specs.Read.{Read, found, stuck, readText}
 use Rattle.text_json.specs.Syntax.{Syntax}
 use Rattle.text_content.specs.Value.{content}
@@ -14,6 +14,9 @@ use Rattle.reference.specs.References.{rule, imageId}
 use Rattle.laws.specs.Order.{same}
 use Rattle.text.specs.Question.{textNumber}
 use Rattle.text.specs.Answer.{form}
+use Rattle.store_varint.specs.Varint.{varint, Parsed, number, no-number, readVarint}
+use Rattle.store_record.specs.Image.{Image}
+use Rattle.store_record.specs.Record.{recordOf}
 
 pub data Case : Type 0 where
   -- the text gets that number
@@ -32,6 +35,12 @@ pub data Case : Type 0 where
   does-match : List ℕ → List ℕ → List (List ℕ) → Case
   -- it matches none such
   no-match : List ℕ → List ℕ → List (List ℕ) → Case
+  -- the number has these bytes, and they are read as it
+  encoded : ℕ → List ℕ → Case
+  -- these bytes begin with no number in shortest form
+  not-shortest : List ℕ → Case
+  -- the record of an image with that ID and that manifest has so many bytes, and this is the first
+  recorded : List ℕ → List ℕ → ℕ → ℕ → Case
 
 -- the number of the manifest that was read
 unfoldable pub numberRead : Read Syntax → ℕ
@@ -41,6 +50,19 @@ numberRead (stuck r) = 3
 -- the equality of all bytes but the one with that number
 unfoldable pub elsewhere : List ℕ → List ℕ → ℕ → Bool
 elsewhere a b n = same (take (n - 1) a) (take (n - 1) b) && same (drop n a) (drop n b)
+
+-- what was read is the number n, and nothing follows it
+unfoldable pub isRead : ℕ → Parsed → Bool
+isRead n no-number = false
+isRead n (number m r) = eqb m n && same r []
+
+unfoldable pub isNone : Parsed → Bool
+isNone no-number = true
+isNone (number m r) = false
+
+-- the image with that ID and that manifest
+unfoldable pub imageOf : List ℕ → List ℕ → Image
+imageOf i t = record { ids = imageId i ∷ []; text = t }
 
 unfoldable pub times : ℕ → List ℕ → List ℕ
 times zero c = []
@@ -55,6 +77,9 @@ holds (no-alias c) = not (isAlias c)
 holds (differ a b n) = (isAlias a && isAlias b) && (not (same a b) && elsewhere a b n)
 holds (does-match r i names) = matches (rule r) (imageId i) names
 holds (no-match r i names) = not (matches (rule r) (imageId i) names)
+holds (encoded n b) = same (varint n) b && isRead n (readVarint b)
+holds (not-shortest b) = isNone (readVarint b)
+holds (recorded i t n b) = eqb (length (recordOf (imageOf i t))) n && eqb (getD (recordOf (imageOf i t)) 0 0) b
 
 unfoldable pub every : List Case → Bool
 every [] = true
@@ -78,6 +103,11 @@ hash = 0x73 ∷ 0x68 ∷ 0x61 ∷ 0x32 ∷ 0x32 ∷ 0x34 ∷ 0x2F ∷ []
 unfoldable pub someId : List ℕ
 someId = hash ++ (letters ++ (0x2F ∷ letters))
 
+-- V: {"aconSpecVersion":[1,0]}
+unfoldable pub versionOnly : List ℕ
+versionOnly =
+    0x7B ∷ 0x22 ∷ 0x61 ∷ 0x63 ∷ 0x6F ∷ 0x6E ∷ 0x53 ∷ 0x70 ∷ 0x65 ∷ 0x63 ∷ 0x56 ∷ 0x65 ∷ 0x72 ∷ 0x73 ∷ 0x69 ∷ 0x6F ∷ 0x6E ∷ 0x22 ∷ 0x3A ∷ 0x5B ∷ 0x31 ∷ 0x2C ∷ 0x30 ∷ 0x5D ∷ 0x7D ∷ []
+
 -- a manifest with these signals, given as they stand between the brackets
 unfoldable pub withSignals : List ℕ → List ℕ
 withSignals c =
@@ -90,8 +120,15 @@ jobOne = 0x4A ∷ 0x6F ∷ 0x62 ∷ 0x3A ∷ 0x31 ∷ []
 
 unfoldable pub cases : List Case
 cases =
+    -- P1: 127 is 7F; 128 is 80 01; 16,383 is FF 7F; 16,384 is 80 80 01
+    encoded 127 (0x7F ∷ [])
+    ∷ encoded 128 (0x80 ∷ 0x01 ∷ [])
+    ∷ encoded 16383 (0xFF ∷ 0x7F ∷ [])
+    ∷ encoded 16384 (0x80 ∷ 0x80 ∷ 0x01 ∷ [])
+    -- P2: 80 00 is not shortest
+    ∷ not-shortest (0x80 ∷ 0x00 ∷ [])
     -- P3: {"b":1, "a":"\u0041"} becomes {"a":"A","b":1}
-    becomes
+    ∷ becomes
     (0x7B ∷ 0x22 ∷ 0x62 ∷ 0x22 ∷ 0x3A ∷ 0x31 ∷ 0x2C ∷ 0x20 ∷ 0x22 ∷ 0x61 ∷ 0x22 ∷ 0x3A ∷ 0x22 ∷ 0x5C ∷ 0x75 ∷ 0x30 ∷ 0x30 ∷ 0x34 ∷ 0x31 ∷ 0x22 ∷ 0x7D ∷ [])
     (0x7B ∷ 0x22 ∷ 0x61 ∷ 0x22 ∷ 0x3A ∷ 0x22 ∷ 0x41 ∷ 0x22 ∷ 0x2C ∷ 0x22 ∷ 0x62 ∷ 0x22 ∷ 0x3A ∷ 0x31 ∷ 0x7D ∷ [])
     -- P4: {"a":1,"\u0061":2} is 6
@@ -109,6 +146,8 @@ cases =
     ∷ manifested (withSignals (0x30 ∷ 0x2C ∷ 0x2D ∷ 0x31 ∷ 0x35 ∷ [])) 0
     ∷ manifested (withSignals (0x2D ∷ 0x31 ∷ 0x35 ∷ 0x2C ∷ 0x30 ∷ [])) 7
     ∷ manifested (withSignals (0x2D ∷ 0x36 ∷ 0x35 ∷ [])) 7
+    -- P9: V under sha224 is a record of 83 bytes; its first byte is 52
+    ∷ recorded someId versionOnly 83 0x52
     -- P12: a rule with the alias Job:1 does not match an image whose only alias is Job:10; one with Job:1 it does
     ∷ no-match (hash ++ (0x2A ∷ 0x2F ∷ jobOne)) someId ((jobOne ++ (0x30 ∷ [])) ∷ [])
     ∷ does-match (hash ++ (0x2A ∷ 0x2F ∷ jobOne)) someId (jobOne ∷ [])

@@ -1,0 +1,33 @@
+-- `acon::acon_load` meets its contract. Assumes nothing.
+use Prim.Native.Nat.{ℕ}
+use mathlib.Core.Path.{ap₂, _∙_}
+use native.Mathlib.Omega.{arith}
+use denote.Ref.{now}
+use Rattle.store.proofs.Bounds.{load-number-small, load-used-small}
+use Rattle.acon.specs.Packed.{packed}
+use borrow.Author.Needs.{needs}
+use Rattle.acon.proofs.acon_load.Statement.{statement}
+use Rattle.acon.proofs.acon_load.Tie as tie
+
+load-requires : tie.Need-load-requires
+load-requires c κs = search needs
+
+pack-requires : tie.Need-pack-requires
+pack-requires c κs =
+    let a = c .before .before .before .before .before .before .before .args in
+    let e = c .before .before .load .ensures in
+    let i = now (a .id) in
+    let m = now (a .manifest) in
+    let b = now (a .buffer) in
+    omega (arith, e .0, e .1 .0, load-number-small i m b (a .used), load-used-small i m b (a .used) (λ k. c .before .before .before .before .slice-known .given k .fits))
+
+same-length : tie.Need-same-length
+same-length c = search needs
+
+returns : tie.Need-returns
+returns c =
+    let e = c .before .before .before .load .ensures in
+    (c .pack .ensures ∙ ap₂ (λ (n l : ℕ). packed n l 0) (e .0) (e .1 .0), e .1 .1)
+
+pub acon-load-spec : {M : Type 1} → statement M
+acon-load-spec = tie.close (tie.spec load-requires pack-requires same-length returns)

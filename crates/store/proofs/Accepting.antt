@@ -1,0 +1,168 @@
+-- What the number 0 of a load tells, and that the images then make a sound store. Assumes nothing.
+use Prim.Native.Nat.{ℕ, _-_, _≤_, _<_}
+use mathlib.Core.Path.{_≡_, refl, sym, ap, _∙_}
+use mathlib.Core.List.{List, [], _∷_, _++_, append-nil}
+use mathlib.Core.Bool.{Bool, true, false, _||_}
+use mathlib.Core.Option.{Option, none, some}
+use native.Mathlib.Omega.{arith}
+use borrow.Author.Tests.{eqb-true, eqb-false, leb-false, ltb-false, le-ltb, eq-eqb}
+use lib.Dec.{eqb}
+use lib.ListN.{length, length-append}
+use Rattle.laws.specs.Any.{anyOf, anyPair}
+use Rattle.laws.proofs.Any.{or-none, any-both, any-pointwise}
+use Rattle.laws.proofs.Order.{by-test, false-true}
+use Rattle.text.specs.Answer.{form}
+use Rattle.text.specs.Question.{lowest}
+use Rattle.text.proofs.Forms.{form-canonical}
+use Rattle.reference.specs.References.{imageId}
+use Rattle.manifest.specs.Number.{manifestTextNumber}
+use Rattle.manifest.proofs.Asking.{none-asked, asked-after, asked-of-manifest}
+use Rattle.manifest.proofs.Questions.{good-as-text}
+use Rattle.manifest.proofs.Canonical.{form-number}
+use Rattle.store_record.specs.Image.{Image}
+use Rattle.store_record.specs.Ids.{shareId, idTwice}
+use Rattle.store_record.specs.Record.{recordOf}
+use Rattle.store_record.specs.Store.{mostImages, storeOf, AllShaped, none-shaped, shaped}
+use Rattle.store_record.proofs.Sharing.{share-id-sym}
+use Rattle.store_record.proofs.Stores.{store-both}
+use Rattle.store_clash.specs.Clash.{clash, anyClash}
+use Rattle.store_clash.proofs.Clashing.{Single, clash-sym}
+use Rattle.store.specs.Held.{isUnfit, tooMany, areUnsound, isBroken}
+use Rattle.store.specs.Load.{imageOf, isNoId, among, noSpace, storeQuestions, imageQuestions, loadQuestions}
+use Rattle.store.proofs.Images.{shaped-image, shaped-single}
+
+-- what is known of a load that gets the number 0, of images in a buffer of that size
+pub record Accepted (size : ℕ) (xs : List Image) (id manifest : List ℕ) : Type 0 where
+  pub good : manifestTextNumber manifest ≡ 0
+  pub known : isNoId (imageId id) ≡ false
+  pub sound : areUnsound size xs ≡ false
+  pub new : anyOf (shareId (imageOf id manifest)) xs ≡ false
+  pub apart : anyOf (clash (imageOf id manifest)) xs ≡ false
+  pub few : length xs < 64
+  pub fits : length (recordOf (imageOf id manifest)) ≤ size - length (storeOf xs)
+
+-- the questions of the manifest come first
+module _ (size : ℕ) (images : Option (List Image)) (id manifest : List ℕ) (e : lowest (loadQuestions size images id manifest) ≡ 0) where
+  good-manifest : manifestTextNumber manifest ≡ 0
+  unfolding loadQuestions
+  good-manifest =
+      by-test (eqb (manifestTextNumber manifest) 0)
+      (λ f. eqb-true (manifestTextNumber manifest) 0 f)
+      (λ f. sym (asked-of-manifest manifest (imageQuestions size images id manifest) (eqb-false (manifestTextNumber manifest) 0 f)) ∙ e)
+
+  of-image : lowest (imageQuestions size images id manifest) ≡ 0
+  unfolding loadQuestions
+  of-image = sym (asked-after manifest (imageQuestions size images id manifest) good-manifest) ∙ e
+
+  -- and then those of the image
+  of-store : (isNoId (imageId id) ≡ false) × (lowest (storeQuestions size images (imageOf id manifest)) ≡ 0)
+  unfolding imageQuestions
+  of-store = none-asked _ _ (omega arith) of-image
+
+-- A load of a store that cannot be read is refused.
+pub unread-refused : (size : ℕ) (id manifest : List ℕ) → lowest (loadQuestions size none id manifest) ≡ 0 → ⊥
+unfolding storeQuestions isBroken
+unread-refused size id manifest e =
+    let a = none-asked _ _ (omega arith) (of-store size none id manifest e .1) in false-true (sym (a .0))
+
+-- A load gets the number 0 only if all of this holds.
+pub accepted : (size : ℕ) (xs : List Image) (id manifest : List ℕ) → lowest (loadQuestions size (some xs) id manifest) ≡ 0
+    → Accepted size xs id manifest
+unfolding storeQuestions isBroken among noSpace
+accepted size xs id manifest e =
+    let x = imageOf id manifest in
+    let k = of-store size (some xs) id manifest e in
+    let a = none-asked _ _ (omega arith) (k .1) in
+    let b = none-asked _ _ (omega arith) (a .1) in
+    let c = none-asked _ _ (omega arith) (b .1) in
+    let d = none-asked _ _ (omega arith) (c .1) in
+    let s = or-none _ _ (d .0) in
+    record {
+      good = good-manifest size (some xs) id manifest e;
+      known = k .0;
+      sound = a .0;
+      new = b .0;
+      apart = c .0;
+      few = leb-false mostImages (length xs) (s .0);
+      fits = ltb-false (size - length (storeOf xs)) (length (recordOf x)) (s .1);
+    }
+
+regrouped : (a b c d : Bool) → ((a || (b || false)) || (c || d)) ≡ ((a || c) || (b || d))
+regrouped true b c d = refl
+regrouped false true true d = refl
+regrouped false true false d = refl
+regrouped false false true d = refl
+regrouped false false false d = refl
+
+-- The pairs of a list with one more element are those of the list, and those of each of its elements with the new one.
+pub pair-last : {A : Type 0} (p : A → A → Bool) (xs : List A) (x : A) → anyPair p (xs ++ (x ∷ [])) ≡ (anyPair p xs || anyOf (λ (y : A). p y x) xs)
+unfolding anyPair anyOf
+pair-last p [] x = refl
+pair-last {A} p (y ∷ ys) x =
+    (λ i. any-both (p y) ys (x ∷ []) i || pair-last p ys x i)
+    ∙ regrouped (anyOf (p y) ys) (p y x) (anyPair p ys) (anyOf (λ (z : A). p z x) ys)
+
+-- An image clashes with one of some images, whichever is asked first.
+pub any-clash-sym : {x : Image} → Single x → {xs : List Image} → AllShaped xs → anyOf (λ (y : Image). clash y x) xs ≡ anyOf (clash x) xs
+unfolding anyOf
+any-clash-sym h none-shaped = refl
+any-clash-sym h (shaped s t) = λ i. clash-sym (shaped-single s) h i || any-clash-sym h t i
+
+-- what a sound store is, part by part
+pub record Sound (size : ℕ) (xs : List Image) : Type 0 where
+  pub few : length xs ≤ 64
+  pub fits : length (storeOf xs) ≤ size
+  pub fit : anyOf isUnfit xs ≡ false
+  pub ids : idTwice xs ≡ false
+  pub names : anyClash xs ≡ false
+
+-- A store that is not unsound has all of these parts.
+pub sound-parts : (size : ℕ) (xs : List Image) → areUnsound size xs ≡ false → Sound size xs
+unfolding areUnsound tooMany
+sound-parts size xs e =
+    let a = or-none _ _ e in
+    let b = or-none _ _ (a .0) in
+    let c = or-none _ _ (a .1) in
+    let d = or-none _ _ (c .1) in
+    record {
+      few = ltb-false mostImages (length xs) (b .0);
+      fits = ltb-false size (length (storeOf xs)) (b .1);
+      fit = c .0;
+      ids = d .0;
+      names = d .1;
+    }
+
+-- A store that has all of these parts is not unsound.
+pub parts-sound : (size : ℕ) (xs : List Image) → Sound size xs → areUnsound size xs ≡ false
+unfolding areUnsound tooMany
+parts-sound size xs p =
+    rw (le-ltb mostImages (length xs) (p .few), le-ltb size (length (storeOf xs)) (p .fits), p .fit, p .ids) (p .names)
+
+-- The store of some images and one more.
+pub store-last : (xs : List Image) (x : Image) → storeOf (xs ++ (x ∷ [])) ≡ storeOf xs ++ recordOf x
+unfolding storeOf
+store-last xs x = store-both xs (x ∷ []) ∙ ap (λ (l : List ℕ). storeOf xs ++ l) (append-nil (recordOf x))
+
+-- The image of a good manifest is fit for a store.
+pub fit-image : (id manifest : List ℕ) → manifestTextNumber manifest ≡ 0 → isUnfit (imageOf id manifest) ≡ false
+unfolding isUnfit imageOf
+fit-image id manifest e =
+    let t = good-as-text manifest e in
+    rw (form-canonical manifest t) (rw (eq-eqb (manifestTextNumber (form manifest)) 0 (form-number manifest t ∙ e)))
+
+-- After an accepted load the images make a sound store.
+pub next-sound : (size : ℕ) (xs : List Image) (id manifest : List ℕ) → AllShaped xs → Accepted size xs id manifest
+    → areUnsound size (xs ++ (imageOf id manifest ∷ [])) ≡ false
+unfolding idTwice anyClash anyOf
+next-sound size xs id manifest h k =
+    let x = imageOf id manifest in
+    let l = xs ++ (x ∷ []) in
+    let p = sound-parts size xs (k .sound) in
+    let c = shaped-single (shaped-image id manifest (k .known)) in
+    parts-sound size l (record {
+      few = omega (arith, length-append xs (x ∷ []), k .few);
+      fits = omega (arith, ap length (store-last xs x), length-append (storeOf xs) (recordOf x), p .fits, k .fits);
+      fit = any-both isUnfit xs (x ∷ []) ∙ rw (p .fit, fit-image id manifest (k .good));
+      ids = pair-last shareId xs x ∙ rw (p .ids, any-pointwise (λ (y : Image). shareId y x) (shareId x) (λ y. share-id-sym y x) xs) (k .new);
+      names = pair-last clash xs x ∙ rw (p .names, any-clash-sym c h) (k .apart);
+    })

@@ -1,0 +1,133 @@
+-- Questions 11 to 14 of an image and a store whose records were read. Assumes nothing.
+use Prim.Native.Nat.{ℕ, _+_, _-_, _≤_, _<_}
+use mathlib.Core.Path.{_≡_, refl, sym, ap, _∙_}
+use mathlib.Core.List.{List, [], append-nil}
+use mathlib.Core.Bool.{true, false, or-false, or-true}
+use mathlib.Core.Option.{Option, none, some}
+use native.Mathlib.Omega.{arith}
+use borrow.Author.Tests.{lt-ltb, le-ltb, le-leb, lt-leb}
+use lib.Dec.{leb}
+use lib.ListN.{length, take, getD}
+use Rattle.laws.specs.Any.{anyOf}
+use Rattle.laws.proofs.Any.{any-map, any-pointwise}
+use Rattle.text.specs.Answer.{form}
+use Rattle.text.specs.Question.{lowest}
+use Rattle.reference_digests.specs.declared.algorithm.Algorithm.{Algorithm}
+use Rattle.reference.specs.References.{image-id}
+use Rattle.manifest.specs.Number.{questions, manifestTextNumber}
+use Rattle.manifest.proofs.Asking.{asked-first, asked-next, asked-after}
+use Rattle.manifest.proofs.Questions.{good-as-text}
+use Rattle.store_record.specs.Image.{Image}
+use Rattle.store_record.specs.Ids.{hasId, shareId}
+use Rattle.store_record.specs.Record.{headSize, recordOf}
+use Rattle.store_record.specs.Store.{mostImages, storeOf, readRecords}
+use Rattle.store_record.specs.Reading.{heldIn, imagesIn}
+use Rattle.store_record.specs.declared.Survey.{Survey}
+use Rattle.store_record.proofs.Records.{head-length, record-short}
+use Rattle.store_record.proofs.Stores.{store-read}
+use Rattle.store_clash.specs.Clash.{clash}
+use Rattle.store_clash.specs.Signed.{one}
+use Rattle.store_clash.proofs.Clashing.{single, clash-form}
+use Rattle.store.specs.Held.{isBroken}
+use Rattle.store.specs.Load.{among, noSpace, storeQuestions}
+use Rattle.store.specs.Loading.{imageWith, Digests}
+use Rattle.store.proofs.Appending.{form-small, record-length}
+use Rattle.store.proofs.Opening.{unread-broken, read-broken}
+
+-- How large a buffer that holds the records is makes no difference to whether they are a store.
+pub room-broken :
+    (b : List ℕ) → ((j : ℕ) → getD b j 0 < 256) → (size : ℕ) → length b ≤ size
+    → isBroken size (readRecords mostImages b) ≡ isBroken (length b) (readRecords mostImages b)
+room-broken b bytes size h = by-images (readRecords mostImages b) refl
+  where
+    by-images : (o : Option (List Image)) → readRecords mostImages b ≡ o → isBroken size (readRecords mostImages b) ≡ isBroken (length b) (readRecords mostImages b)
+    by-images none e = unread-broken b size e ∙ sym (unread-broken b (length b) e)
+    by-images (some xs) e = read-broken b size bytes h xs e ∙ sym (read-broken b (length b) bytes (omega arith) xs e)
+
+module _ (a : Algorithm) (signer digest manifest : List ℕ) where
+  -- The image shares its one ID with those that have it.
+  pub shares-held : (xs : List Image) → anyOf (shareId (imageWith a signer digest manifest)) xs ≡ anyOf (hasId (image-id a signer digest)) xs
+  unfolding shareId anyOf
+  shares-held xs = any-pointwise _ _ (λ y. or-false (hasId (image-id a signer digest) y)) xs
+
+  module _ (good : manifestTextNumber manifest ≡ 0) where
+    -- The image clashes with those of a store that it would clash with by the text of its manifest.
+    pub clashes-held :
+        (b : List ℕ) (v : Survey)
+        → anyOf (clash (imageWith a signer digest manifest)) (imagesIn b v) ≡ anyOf (clash (one a signer manifest)) (imagesIn b v)
+    unfolding imagesIn heldIn
+    clashes-held b v =
+        let rs = take (v .count) (v .records) in
+        any-map (heldIn b) (clash (imageWith a signer digest manifest)) rs
+        ∙ any-pointwise _ _ (λ r. clash-form a signer digest manifest (good-as-text manifest good) single) rs
+        ∙ sym (any-map (heldIn b) (clash (one a signer manifest)) rs)
+
+    module _ (d : Digests a signer digest) (n : ℕ) (e : n ≡ length (form manifest)) where
+      -- The length of the image's record, which is small.
+      pub record-size : length (recordOf (imageWith a signer digest manifest)) ≡ headSize a n + n
+      record-size =
+          record-length a signer digest manifest n e ∙ ap (λ (k : ℕ). k + n) (head-length a signer digest n (d .signer-size) (d .digest-size))
+
+      pub size-small : headSize a n + n ≤ 16484
+      size-small =
+          omega (
+            arith,
+            record-size,
+            record-short (imageWith a signer digest manifest)
+                (record { algorithm = a; signer = signer; manifest = digest; ids = refl; signer-size = d .signer-size; manifest-size = d .digest-size })
+                (form-small manifest good),
+          )
+
+-- 14, of records that fill the bytes, after which `left` are free
+module _ (b : List ℕ) (bytes : (j : ℕ) → getD b j 0 < 256) (xs : List Image) (e : readRecords mostImages b ≡ some xs) (left : ℕ) (x : Image) where
+  free-is : (length b + left) - length (storeOf xs) ≡ left
+  free-is = omega (arith, ap length (store-read mostImages b xs bytes e .0))
+
+  pub too-many-held : mostImages ≤ length xs → noSpace (length b + left) xs x ≡ true
+  unfolding noSpace
+  too-many-held h = rw (le-leb mostImages (length xs) h)
+
+  pub record-too-long : left < length (recordOf x) → noSpace (length b + left) xs x ≡ true
+  unfolding noSpace
+  record-too-long h = rw (free-is, lt-ltb left (length (recordOf x)) h) (or-true (leb mostImages (length xs)))
+
+  pub space-left : length xs < mostImages → length (recordOf x) ≤ left → noSpace (length b + left) xs x ≡ false
+  unfolding noSpace
+  space-left h l = rw (lt-leb mostImages (length xs) h, free-is) (le-ltb left (length (recordOf x)) l)
+
+-- Of no questions none applies.
+nothing-asked : (s : List ℕ) → manifestTextNumber s ≡ 0 → lowest [] ≡ 0
+unfolding manifestTextNumber
+nothing-asked s good = sym (asked-after s [] good) ∙ ap lowest (append-nil (questions s)) ∙ good
+
+pub read-among : (b : List ℕ) (xs : List Image) → readRecords mostImages b ≡ some xs → among (readRecords mostImages b) ≡ xs
+unfolding among
+read-among b xs e = ap among e
+
+-- The questions one after the other.
+module _ (size : ℕ) (images : Option (List Image)) (x : Image) where
+  abbrev Number : ℕ → Type 0
+  Number n = n ≡ lowest (storeQuestions size images x)
+
+  pub number-11 : isBroken size images ≡ true → Number 11
+  unfolding storeQuestions
+  number-11 e = sym (asked-first _ _ e)
+
+  module _ (sound : isBroken size images ≡ false) where
+    pub number-12 : anyOf (shareId x) (among images) ≡ true → Number 12
+    unfolding storeQuestions
+    number-12 e = sym (asked-next _ _ sound ∙ asked-first _ _ e)
+
+    module _ (other : anyOf (shareId x) (among images) ≡ false) where
+      pub number-13 : anyOf (clash x) (among images) ≡ true → Number 13
+      unfolding storeQuestions
+      number-13 e = sym (asked-next _ _ sound ∙ asked-next _ _ other ∙ asked-first _ _ e)
+
+      module _ (apart : anyOf (clash x) (among images) ≡ false) where
+        pub number-14 : noSpace size (among images) x ≡ true → Number 14
+        unfolding storeQuestions
+        number-14 e = sym (asked-next _ _ sound ∙ asked-next _ _ other ∙ asked-next _ _ apart ∙ asked-first _ _ e)
+
+        pub number-0 : (s : List ℕ) → manifestTextNumber s ≡ 0 → noSpace size (among images) x ≡ false → Number 0
+        unfolding storeQuestions
+        number-0 s good e = sym (asked-next _ _ sound ∙ asked-next _ _ other ∙ asked-next _ _ apart ∙ asked-next _ _ e ∙ nothing-asked s good)

@@ -1,0 +1,143 @@
+-- The steps of a load: which question answers, and what a refusal and an accepted load leave. Assumes nothing.
+use Prim.Native.Nat.{ℕ, _+_, _-_, _≤_, _<_}
+use mathlib.Core.Path.{_≡_, refl, sym, ap, subst, _∙_}
+use mathlib.Core.List.{List, _++_}
+use mathlib.Core.Bool.{true, false}
+use mathlib.Core.Option.{Option, none, some}
+use native.Mathlib.Omega.{arith}
+use borrow.Author.Tests.{le-leb, lt-leb, ne-eqb, ltb-false}
+use lib.Dec.{eqb, leb, ltb}
+use lib.ListN.{length, take, getD}
+use lib.Seq.{take-at, length-take-le}
+use Rattle.laws.proofs.Any.{or-none}
+use Rattle.laws.proofs.Order.{false-true}
+use Rattle.text.specs.Question.{lowest}
+use Rattle.text.proofs.Outcome.{refused-positive}
+use Rattle.reference_digests.specs.Algorithms.{digestBytes}
+use Rattle.reference_digests.specs.Digests.{isDigest, digestOf}
+use Rattle.reference_digests.specs.declared.algorithm.Algorithm.{Algorithm}
+use Rattle.reference_digests.proofs.Digests.{digest-length}
+use Rattle.reference.specs.References.{image-id, no-id, imageId}
+use Rattle.manifest.specs.Answer.{faultNumber}
+use Rattle.manifest.specs.Number.{manifestTextNumber}
+use Rattle.manifest.specs.declared.Fault.{Fault}
+use Rattle.manifest.specs.declared.Fault.the-variants.{Text, BadField, BadForm, RepeatedAlias}
+use Rattle.manifest.proofs.Asking.{asked-first, asked-next, none-asked, asked-after, asked-of-manifest}
+use Rattle.store_record.specs.Image.{Image}
+use Rattle.store_record.specs.Record.{recordOf}
+use Rattle.store_record.specs.Store.{mostImages, storeOf, readRecords}
+use Rattle.store_record.proofs.Stores.{store-read}
+use Rattle.store.proofs.Loading.{first-bytes}
+use Rattle.store.specs.Held.{held, isBroken}
+use Rattle.store.specs.Load.{imageOf, isNoId, among, noSpace, storeQuestions, imageQuestions, loadQuestions, loadNumber, usedAfter, bytesAfter, loadUsed, loadBytes}
+use Rattle.store.specs.Loading.{imageWith, Loads, Fits}
+use Rattle.store.specs.declared.Answer.{Answer}
+
+module _ {x : Image} {buffer : List ℕ} {used : ℕ} {r : Answer} {after : List ℕ} {m n : ℕ} where
+  -- A refusal tells its number and 0, and leaves the buffer.
+  pub refused-loads : m ≡ n → (m ≡ 0 → ⊥) → (r .number ≡ m) × (r .used ≡ 0) → after ≡ buffer → Loads n x buffer used r after
+  unfolding usedAfter bytesAfter
+  refused-loads e h k f =
+      let q : eqb n 0 ≡ false = ne-eqb n 0 (λ z. h (e ∙ z)) in
+      record { number = k .0 ∙ e; new-used = rw (q, usedAfter) (k .1); bytes = rw (q, bytesAfter) f }
+
+  -- An answer's number may be told in another way.
+  pub loads-as : m ≡ n → Loads m x buffer used r after → Loads n x buffer used r after
+  loads-as e l = subst (λ (k : ℕ). Loads k x buffer used r after) e l
+
+module _ (x : Image) (buffer : List ℕ) (used : ℕ) where
+  -- Nothing is held where more bytes are in use than there are.
+  pub past-number : length buffer < used → lowest (storeQuestions (length buffer) (held buffer used) x) ≡ 11
+  unfolding storeQuestions held isBroken
+  past-number h = asked-first _ _ (rw (lt-leb used (length buffer) h, held))
+
+  module _ (h : used ≤ length buffer) where
+    held-within : held buffer used ≡ readRecords mostImages (take used buffer)
+    unfolding held
+    held-within = rw (le-leb used (length buffer) h, held)
+
+    -- Questions of the bytes in use, with those that are left, are questions of the buffer.
+    pub number-within : (left : ℕ) → left ≡ length buffer - used
+        → lowest (storeQuestions (length (take used buffer) + left) (readRecords mostImages (take used buffer)) x)
+        ≡ lowest (storeQuestions (length buffer) (held buffer used) x)
+    number-within left l =
+        let e : length (take used buffer) + left ≡ length buffer = omega (arith, length-take-le used buffer h) in
+        rw (e, held-within)
+
+    module _ (b : (k : ℕ) → getD buffer k 0 < 256) (e : lowest (storeQuestions (length buffer) (held buffer used) x) ≡ 0) where
+      space : (o : Option (List Image)) → readRecords mostImages (take used buffer) ≡ o → lowest (storeQuestions (length buffer) o x) ≡ 0
+          → length (recordOf x) ≤ length buffer - used
+      unfolding storeQuestions isBroken among noSpace
+      space none q z = false-true (sym (none-asked _ _ (omega arith) z .0))
+      space (some xs) q z =
+          let i = none-asked _ _ (omega arith) z in
+          let j = none-asked _ _ (omega arith) (i .1) in
+          let k = none-asked _ _ (omega arith) (j .1) in
+          let l = none-asked _ _ (omega arith) (k .1) in
+          let s = ltb-false (length buffer - length (storeOf xs)) (length (recordOf x)) (or-none (leb mostImages (length xs)) (ltb (length buffer - length (storeOf xs)) (length (recordOf x))) (l .0) .1) in
+          let t = ap length (store-read mostImages (take used buffer) xs (first-bytes buffer used b) q .0) in
+          omega (arith, length-take-le used buffer h)
+
+      -- Where no question applies, there is space for the record.
+      pub fits : Fits x buffer used
+      fits = record { within = h; space = space (readRecords mostImages (take used buffer)) refl (rw held-within at e) }
+
+-- an ID, as its form was read
+module _ (size : ℕ) (images : Option (List Image)) (id manifest : List ℕ) where
+  -- Question 10 answers where it is of bad form,
+  pub bad-id : imageId id ≡ no-id → lowest (imageQuestions size images id manifest) ≡ 10
+  unfolding imageQuestions isNoId
+  bad-id e = asked-first _ _ (rw e)
+
+  module _ (a : Algorithm) (signer digest : List ℕ) (e : imageId id ≡ image-id a signer digest) where
+    image-is : imageOf id manifest ≡ imageWith a signer digest manifest
+    unfolding imageOf
+    image-is = rw e
+
+    -- and is passed over where it is not.
+    good-id : lowest (imageQuestions size images id manifest) ≡ lowest (storeQuestions size images (imageWith a signer digest manifest))
+    unfolding imageQuestions isNoId
+    good-id = asked-next _ _ (rw e) ∙ ap (λ (x : Image). lowest (storeQuestions size images x)) image-is
+
+    pub image-loads : {buffer : List ℕ} {used : ℕ} {r : Answer} {after : List ℕ}
+        → Loads (lowest (storeQuestions size images (imageWith a signer digest manifest))) (imageWith a signer digest manifest) buffer used r after
+        → Loads (lowest (imageQuestions size images id manifest)) (imageOf id manifest) buffer used r after
+    image-loads l = rw (good-id, image-is) l
+
+-- a digest at the start of an array is its first bytes
+first-digest : (a : Algorithm) (s rest out : List ℕ) (n : ℕ) → n ≡ digestBytes a → isDigest a s ≡ true → out ≡ digestOf s ++ rest → take n out ≡ digestOf s
+first-digest a s rest out n e d w = rw w (take-at (digestOf s) rest n (digest-length a s d ∙ sym e))
+
+-- An ID is known by the bytes of its digests, each at the start of an array.
+pub written-id : (id : List ℕ) (a : Algorithm) (s m p q out last : List ℕ) (n : ℕ) → n ≡ digestBytes a → isDigest a s ≡ true → isDigest a m ≡ true
+    → imageId id ≡ image-id a (digestOf s) (digestOf m) → out ≡ digestOf s ++ p → last ≡ digestOf m ++ q
+    → imageId id ≡ image-id a (take n out) (take n last)
+written-id id a s m p q out last n e d f i v w = rw (first-digest a s p out n e d v, first-digest a m q last n e f w) i
+
+fault-positive : (f : Fault) → 0 < faultNumber f
+fault-positive (Text f) = refused-positive f (faultNumber (Text f)) refl
+fault-positive BadField = omega arith
+fault-positive BadForm = omega arith
+fault-positive RepeatedAlias = omega arith
+
+module _ (id manifest buffer : List ℕ) (used : ℕ) where
+  -- A manifest's fault is the load's.
+  pub fault-number : (f : Fault) → faultNumber f ≡ manifestTextNumber manifest
+      → (faultNumber f ≡ loadNumber id manifest buffer used) × (faultNumber f ≡ 0 → ⊥)
+  unfolding loadNumber loadQuestions
+  fault-number f e =
+      let h = fault-positive f in
+      (e ∙ sym (asked-of-manifest manifest _ (λ z. omega arith)), λ z. omega arith)
+
+  -- Of a good manifest the questions after its own answer.
+  pub good-number : manifestTextNumber manifest ≡ 0
+      → lowest (imageQuestions (length buffer) (held buffer used) id manifest) ≡ loadNumber id manifest buffer used
+  unfolding loadNumber loadQuestions
+  good-number e = sym (asked-after manifest _ e)
+
+  -- What a load with that number answers.
+  pub load-answers : {r : Answer} {after : List ℕ} {n : ℕ} → n ≡ loadNumber id manifest buffer used → Loads n (imageOf id manifest) buffer used r after
+      → (r .number ≡ loadNumber id manifest buffer used)
+      × ((r .used ≡ loadUsed id manifest buffer used) × (after ≡ loadBytes id manifest buffer used))
+  unfolding loadUsed loadBytes
+  load-answers e l = let k = loads-as e l in (k .number, (k .new-used, k .bytes))

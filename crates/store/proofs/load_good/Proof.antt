@@ -1,0 +1,120 @@
+-- `store::load_good` meets its contract. Assumes nothing.
+use mathlib.Core.Path.{_≡_, sym, _∙_}
+use native.Mathlib.Omega.{arith}
+use denote.Ref.{now}
+use lib.ListN.{take}
+use lib.Seq.{length-take-le}
+use Rattle.reference.specs.References.{image-id, imageId}
+use Rattle.reference_digests.proofs.Digests.{digest-bounds}
+use Rattle.store.proofs.Steps.{refused-loads, bad-id, image-loads, written-id}
+use borrow.Author.Needs.{needs}
+use Rattle.store.proofs.load_good.Statement.{statement}
+use Rattle.store.proofs.load_good.Tie as tie
+
+read-requires : tie.Need-read-requires
+read-requires c κs = search needs
+
+enum-told : tie.Need-enum-told
+enum-told c = search needs
+
+refused-requires : tie.Need-refused-requires
+refused-requires c κs = search needs
+
+enum-known-algorithm : tie.Need-enum-known-algorithm
+enum-known-algorithm c = search needs
+
+slice-aggregate-write-plain : tie.Need-slice-aggregate-write-plain
+slice-aggregate-write-plain c = search needs
+
+write-plain-requires : tie.Need-write-plain-requires
+write-plain-requires c κs =
+    let g = c .before .before .algorithm .given in
+    let k = rw (g .1) at (c .before .before .before .before .read .ensures) in
+    (k .0, digest-bounds (g .0 .0) .1)
+
+slice-aggregate-write-plain-2 : tie.Need-slice-aggregate-write-plain-2
+slice-aggregate-write-plain-2 c = search needs
+
+write-plain-requires-2 : tie.Need-write-plain-requires-2
+write-plain-requires-2 c κs =
+    let g = c .before .before .before .before .before .algorithm .given in
+    let k = rw (g .1) at (c .before .before .before .before .before .before .before .read .ensures) in
+    (k .1, digest-bounds (g .0 .0) .1)
+
+digest-bytes-requires : tie.Need-digest-bytes-requires
+digest-bytes-requires c κs = search needs
+
+array-share-prefix-signer-bytes : tie.Need-array-share-prefix-signer-bytes
+array-share-prefix-signer-bytes c =
+    omega (arith, digest-bounds (c .before .before .before .before .before .before .before .before .algorithm .given .0 .0), c .digest-bytes3 .ensures, c .before .before .before .before .before .write-plain .kept .1 .1 .1 .0)
+
+slice-aggregate-load-image : tie.Need-slice-aggregate-load-image
+slice-aggregate-load-image c = sym (length-take-le _ _ (array-share-prefix-signer-bytes (c .before)))
+
+array-share-prefix-digest-bytes : tie.Need-array-share-prefix-digest-bytes
+array-share-prefix-digest-bytes c =
+    omega (arith, digest-bounds (c .before .before .before .before .before .before .before .before .before .algorithm .given .0 .0), c .before .digest-bytes3 .ensures, c .before .before .before .write-plain2 .kept .1 .1 .1 .0)
+
+slice-aggregate-load-image-2 : tie.Need-slice-aggregate-load-image-2
+slice-aggregate-load-image-2 c = sym (length-take-le _ _ (array-share-prefix-digest-bytes (c .before)))
+
+-- the digests that were written are those of the ID
+id-is : (c : tie.After-digest-bytes3)
+    → imageId (now (c .before .before .before .before .before .before .before .before .before .before .before .before .before .before .args .id))
+    ≡ image-id (c .before .before .before .before .before .before .before .before .algorithm .given .0 .0) (take (c .digest-bytes3 .result) (c .before .before .before .before .before .write-plain .last .1 .1 .1 .0))
+    (take (c .digest-bytes3 .result) (c .before .before .write-plain2 .last .1 .1 .1 .0))
+id-is c =
+    let g = c .before .before .before .before .before .before .before .before .algorithm .given in
+    let k = rw (g .1) at (c .before .before .before .before .before .before .before .before .before .before .read .ensures) in
+    written-id _ (g .0 .0) _ _ _ _ _ _ _ (c .digest-bytes3 .ensures .0) (k .0 .digest) (k .1 .digest) (k .2) (c .before .before .before .before .before .write-plain .ensures)
+    (c .before .before .write-plain2 .ensures)
+
+load-image-requires : tie.Need-load-image-requires
+load-image-requires c κs =
+    let e = c .before .before .before .digest-bytes3 .ensures .0 in (
+      c .before .before .before .before .before .before .before .before .before .before .before .before .before .before .before .before .before .pre,
+      record {
+        signer-size = length-take-le _ _ (array-share-prefix-signer-bytes (c .before .before .before)) ∙ e;
+        digest-size = length-take-le _ _ (array-share-prefix-digest-bytes (c .before .before)) ∙ e;
+      },
+    )
+
+same-length : tie.Need-same-length
+same-length c = search needs
+
+returns : tie.Need-returns
+returns c =
+    let a = c .before .before .before .before .before .before .before .before .before .before .args in
+    let r = c .before .before .refused .ensures in
+    refused-loads (sym (bad-id _ _ (now (a .id)) (now (a .manifest)) (rw (c .before .before .before .before .enum-told .given .1) at (c .before .before .before .before .before .before .read .ensures)))) (λ z. omega arith) (r .0) (r .1)
+
+same-length-2 : tie.Need-same-length-2
+same-length-2 c = search needs
+
+returns-2 : tie.Need-returns-2
+returns-2 c =
+    let a = c .before .before .before .before .before .before .before .before .before .before .before .before .before .before .before .before .before .before .before .before .args in
+    image-loads _ _ (now (a .id)) (now (a .manifest)) _ _ _ (id-is (c .before .before .before .before .before .before)) (c .before .before .load-image .ensures)
+
+pub load-good-spec : {M : Type 1} → statement M
+load-good-spec =
+    tie.close
+    (tie.spec
+    read-requires
+    enum-told
+    refused-requires
+    enum-known-algorithm
+    slice-aggregate-write-plain
+    write-plain-requires
+    slice-aggregate-write-plain-2
+    write-plain-requires-2
+    digest-bytes-requires
+    array-share-prefix-signer-bytes
+    slice-aggregate-load-image
+    array-share-prefix-digest-bytes
+    slice-aggregate-load-image-2
+    load-image-requires
+    same-length
+    returns
+    same-length-2
+    returns-2)

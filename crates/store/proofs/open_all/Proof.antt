@@ -1,0 +1,143 @@
+-- `store::open_all` meets its contract. The loop keeps that the manifests of the records before i are opened; the measure is how many are left.
+use Prim.Native.Nat.{_-_, _≤_, _<_}
+use mathlib.Core.Path.{refl, sym, subst}
+use native.Mathlib.Omega.{arith}
+use borrow.Author.Needs.{needs}
+use borrow.Author.Tests.{not-true, not-false}
+use denote.Ref.{now}
+use lib.ListN.{length}
+use Rattle.manifest.specs.Answer.{Answers}
+use Rattle.manifest.proofs.Opening.{good-opens}
+use Rattle.store_record.specs.Reading.{between, RecordIn}
+use Rattle.store_record.proofs.Walks.{records-size}
+use Rattle.store.proofs.Opening.{textAt, refused-unfit, other-unfit, good-fit, OpenedTo, nothing-opened, found-unfit, one-opened, all-opened}
+use Rattle.store.proofs.open_all.Statement.{statement}
+use Rattle.store.proofs.open_all.Tie as tie
+
+abbrev Inv-loop : tie.InvT-loop
+Inv-loop b v places₀ i₀ places i = OpenedTo b v places i
+
+abbrev μ-loop : tie.MeasureT-loop
+μ-loop b v places₀ i₀ places i = v .count - i
+
+abbrev start : tie.At-loop Inv-loop μ-loop → tie.Start Inv-loop μ-loop
+start l = l .before .before .before
+
+abbrev head : tie.After-record Inv-loop μ-loop → tie.At-loop Inv-loop μ-loop
+head c = c .before .before .before
+
+fits : (a : tie.Start Inv-loop μ-loop) → a .args .v .count ≤ length (a .args .v .records)
+fits a = omega (arith, records-size (a .args .v) (a .good .1 .0), a .pre .few)
+
+is-in : (c : tie.After-record Inv-loop μ-loop) → RecordIn (now (start (head c) .args .b)) (c .«record» .result)
+is-in c =
+    let a = start (head c) in
+    subst (RecordIn (now (a .args .b))) (sym (c .«record» .ensures)) (a .pre .each (head c .loop .i) (c .before .if1 .taken))
+
+answers : (c : tie.After-check Inv-loop μ-loop) → let r = c .before .before in Answers (textAt (now (start (head r) .args .b)) (r .«record» .result)) (c .check .result)
+unfolding between
+answers c = c .check .ensures
+
+-- a place is free
+free : (c : tie.Else2 Inv-loop μ-loop) → head (c .before .before .before .before .before .before) .loop .i < 64
+free c =
+    let r = c .before .before .before .before .before .before in
+    omega (arith, r .before .if1 .taken, start (head r) .pre .few)
+
+none-requires : tie.Need-none-requires Inv-loop μ-loop
+none-requires c κs = search needs
+
+loop-holds : tie.Need-loop-holds Inv-loop μ-loop
+loop-holds c = nothing-opened _ _ _ refl
+
+record-requires : tie.Need-record-requires Inv-loop μ-loop
+record-requires c κs = omega (arith, c .if1 .taken, start (c .before .before) .pre .few)
+
+sub-check : tie.Need-sub-check Inv-loop μ-loop
+sub-check c = is-in c .text
+
+part-check-start : tie.Need-part-check-start Inv-loop μ-loop
+part-check-start c = is-in c .text
+
+part-check-end : tie.Need-part-check-end Inv-loop μ-loop
+part-check-end c = is-in c .within
+
+check-requires : tie.Need-check-requires Inv-loop μ-loop
+check-requires c κs = search needs
+
+enum-told : tie.Need-enum-told Inv-loop μ-loop
+enum-told c = search needs
+
+returns : tie.Need-returns Inv-loop μ-loop
+returns c =
+    let k = c .before .before in
+    let r = k .before .before in
+    let l = head r in
+    let a = start l in
+    found-unfit (now (a .args .b)) (a .args .v) (fits a) (l .loop .places) (l .loop .i) (l .loop .inv) (r .«record» .result) (r .«record» .ensures) (r .before .if1 .taken)
+    (refused-unfit _ _ (answers k) (c .enum-told .given .1))
+
+enum-known-canonical : tie.Need-enum-known-canonical Inv-loop μ-loop
+enum-known-canonical c = search needs
+
+returns-2 : tie.Need-returns-2 Inv-loop μ-loop
+returns-2 c =
+    let d = c .before .before in
+    let k = d .before .before in
+    let r = k .before .before in
+    let l = head r in
+    let a = start l in
+    found-unfit (now (a .args .b)) (a .args .v) (fits a) (l .loop .places) (l .loop .i) (l .loop .inv) (r .«record» .result) (r .«record» .ensures) (r .before .if1 .taken)
+    (other-unfit _ _ (answers k) (d .canonical .given .1) (not-true _ (c .if2 .taken)))
+
+mul-places : tie.Need-mul-places Inv-loop μ-loop
+mul-places c = omega (arith, free c)
+
+array-set-from-places : tie.Need-array-set-from-places Inv-loop μ-loop
+array-set-from-places c = free c
+
+add-i : tie.Need-add-i Inv-loop μ-loop
+add-i c = omega (arith, free c)
+
+loop-less : tie.Need-loop-less Inv-loop μ-loop
+loop-less c = omega (arith, c .before .before .before .before .before .before .before .if1 .taken)
+
+loop-again : tie.Need-loop-again Inv-loop μ-loop
+loop-again c =
+    let d = c .before .before in
+    let k = d .before .before in
+    let r = k .before .before in
+    let l = head r in
+    let a = start l in
+    one-opened (now (a .args .b)) (a .args .v) (fits a) (l .loop .places) (l .loop .i) (l .loop .inv) (r .«record» .result) (r .«record» .ensures) (r .before .if1 .taken)
+    (good-fit _ _ (answers k) (d .canonical .given .1) (not-false _ (c .if2 .left))) (a .pre .few) _ (good-opens _ (answers k) (d .canonical .given .1))
+
+returns-3 : tie.Need-returns-3 Inv-loop μ-loop
+returns-3 c =
+    let l = c .before .before in
+    let a = start l in
+    all-opened (now (a .args .b)) (a .args .v) (fits a) (l .loop .places) (l .loop .i) (l .loop .inv) (a .pre) (c .if1 .left)
+
+pub open-all-spec : {M : Type 1} → statement M
+open-all-spec =
+    tie.close
+    (tie.spec
+    Inv-loop
+    μ-loop
+    none-requires
+    loop-holds
+    record-requires
+    sub-check
+    part-check-start
+    part-check-end
+    check-requires
+    enum-told
+    returns
+    enum-known-canonical
+    returns-2
+    mul-places
+    array-set-from-places
+    add-i
+    loop-less
+    loop-again
+    returns-3)

@@ -1,0 +1,41 @@
+-- What the steps of a load are given, and what they answer.
+use Prim.Native.Nat.{ℕ, _-_, _≤_}
+use mathlib.Core.Path.{_≡_}
+use mathlib.Core.List.{List, [], _∷_}
+use lib.ListN.{length}
+use Rattle.text.specs.Answer.{form}
+use Rattle.reference_digests.specs.Algorithms.{digestBytes}
+use Rattle.reference_digests.specs.declared.algorithm.Algorithm.{Algorithm}
+use Rattle.reference.specs.References.{image-id}
+use Rattle.manifest.specs.Number.{manifestTextNumber}
+use Rattle.manifest.specs.Opened.{Opens}
+use Rattle.manifest.specs.declared.Places.{Places}
+use Rattle.store_record.specs.Image.{Image}
+use Rattle.store_record.specs.Record.{recordOf}
+use Rattle.store.specs.Load.{usedAfter, bytesAfter}
+use Rattle.store.specs.declared.Answer.{Answer}
+
+-- the image with that algorithm, those digests, and the form of the manifest
+abbrev pub imageWith : Algorithm → List ℕ → List ℕ → List ℕ → Image
+imageWith a signer digest manifest = record { ids = image-id a signer digest ∷ []; text = form manifest }
+
+-- a good manifest, opened, whose form has n bytes
+pub record Readied (manifest : List ℕ) (n : ℕ) (p : Places) : Type 0 where
+  pub opens : Opens manifest p
+  pub size : n ≡ length (form manifest)
+
+-- digests of that algorithm
+pub record Digests (a : Algorithm) (signer digest : List ℕ) : Type 0 where
+  pub signer-size : length signer ≡ digestBytes a
+  pub digest-size : length digest ≡ digestBytes a
+
+-- the answer r of number n for the image x: the used count, and the buffer from `before` to `after`
+pub record Loads (n : ℕ) (x : Image) (before : List ℕ) (used : ℕ) (r : Answer) (after : List ℕ) : Type 0 where
+  pub number : r .number ≡ n
+  pub new-used : r .used ≡ usedAfter n x used
+  pub bytes : after ≡ bytesAfter n x before used
+
+-- there is space for the record of x after the first `used` bytes
+pub record Fits (x : Image) (buffer : List ℕ) (used : ℕ) : Type 0 where
+  pub within : used ≤ length buffer
+  pub space : length (recordOf x) ≤ length buffer - used

@@ -1,0 +1,266 @@
+// A store: images in one buffer. Whether it is well-formed, and loading one image more.
+use manifest::Checked;
+use manifest::Places;
+use reference::ImageIndex;
+use reference::id::Id;
+use reference_digests::algorithm::Algorithm;
+use store_record::Survey;
+ghost use mathlib.Core.Path.{_≡_};
+ghost use mathlib.Core.Bool.{true, false, not, _||_};
+ghost use Prim.Native.Nat.{_+_, _≤_};
+ghost use lib.ListN.{length};
+ghost use Rattle.laws.specs.Any.{anyOf};
+ghost use Rattle.text.specs.Answer.{form};
+ghost use Rattle.text.specs.Question.{lowest};
+ghost use Rattle.manifest.specs.Number.{manifestTextNumber};
+ghost use Rattle.store_record.specs.Ids.{idTwice};
+ghost use Rattle.store_record.specs.Store.{mostImages, readRecords};
+ghost use Rattle.store_clash.specs.Clash.{anyClash};
+ghost use Rattle.store_record.specs.Reading.{Fills, imagesIn};
+ghost use Rattle.store_clash.specs.Opened.{OpenedStore};
+ghost use Rattle.store.specs.Held.{held, isUnfit, isBroken};
+ghost use Rattle.store.specs.Load.{imageOf, storeQuestions, imageQuestions, loadNumber, loadUsed, loadBytes};
+ghost use Rattle.store.specs.Loading.{imageWith, Readied, Digests, Loads, Fits};
+
+// The places in each manifest of a store, where all are canonical and good.
+pub struct Fit {
+    pub all: bool,
+    pub places: [Places; 64],
+}
+
+// A store's records and the places in its manifests, where it is well-formed.
+pub struct Opened {
+    pub sound: bool,
+    pub survey: Survey,
+    pub places: [Places; 64],
+}
+
+// Opens each manifest of a store, until one is found that is not canonical or gets one of 1 to 9.
+fn open_all(b: &[u8], v: Survey) -> Fit
+    requires { ⌜ Fills (now b) v ⌝ }
+    ensures { λ r. ⌜ r .all ≡ not (anyOf isUnfit (imagesIn (now (b .entry)) v)) ⌝ }
+    ensures { λ r. ⌜ (r .all ≡ true → OpenedStore (now (b .entry)) v (r .places)) ⌝ }
+{
+    let mut places = [Places::none(); 64];
+    let mut i = 0;
+    while i < v.count {
+        let r = v.record(ImageIndex(i));
+        let start = r.text;
+        let end = r.end;
+        match manifest::check(&b[start..end]) {
+            Checked::Refused(_) => return Fit { all: false, places },
+            Checked::Good {
+                length: _,
+                canonical,
+                places: p,
+            } => {
+                if !canonical {
+                    return Fit { all: false, places };
+                }
+                places[i] = p;
+            }
+        }
+        i += 1;
+    }
+    Fit { all: true, places }
+}
+
+// No ID stands twice, and no two images clash.
+fn are_apart(b: &[u8], v: Survey, places: [Places; 64]) -> bool
+    requires { ⌜ OpenedStore (now b) v places ⌝ }
+    ensures { λ r. ⌜ r ≡ not (idTwice (imagesIn (now (b .entry)) v) || anyClash (imagesIn (now (b .entry)) v)) ⌝ }
+{
+    if store_record::id_twice(b, v) {
+        return false;
+    }
+    !store_clash::any_clash(b, v, places)
+}
+
+// Whether the bytes b are those of a well-formed store, and what is found on the way.
+pub fn open(b: &[u8]) -> Opened
+    ensures { λ r. ⌜ r .sound ≡ not (isBroken (length (now (b .entry))) (readRecords mostImages (now (b .entry)))) ⌝ }
+    ensures { λ r. ⌜ (r .sound ≡ true → OpenedStore (now (b .entry)) (r .survey) (r .places)) ⌝ }
+{
+    let survey = Survey::of(b);
+    if !survey.whole {
+        return Opened {
+            sound: false,
+            survey,
+            places: [Places::none(); 64],
+        };
+    }
+    let fit = open_all(b, survey);
+    let places = fit.places;
+    if !fit.all {
+        return Opened {
+            sound: false,
+            survey,
+            places,
+        };
+    }
+    let sound = are_apart(b, survey, places);
+    Opened {
+        sound,
+        survey,
+        places,
+    }
+}
+
+// The number of document 01's table, and the new used count, which is 0 in a refusal.
+pub struct Answer {
+    pub number: usize,
+    pub used: usize,
+}
+
+// A refusal: its number, and the buffer as it was.
+fn refused(store: &mut [u8], number: usize) -> Answer
+    ensures { λ r. ⌜ (r .number ≡ number) × (r .used ≡ 0) ⌝ }
+    ensures { λ _. ⌜ now (store .exit) ≡ now (store .entry) ⌝ }
+{
+    Answer { number, used: 0 }
+}
+
+// Loads an image: appends its record to those of the first `used` bytes. A refusal changes no byte.
+pub fn load(id: &[u8], manifest: &[u8], store: &mut [u8], used: usize) -> Answer
+    ensures { λ r. ⌜ r .number ≡ loadNumber (now (id .entry)) (now (manifest .entry)) (now (store .entry)) used ⌝ }
+    ensures { λ r. ⌜ r .used ≡ loadUsed (now (id .entry)) (now (manifest .entry)) (now (store .entry)) used ⌝ }
+    ensures { λ _. ⌜ now (store .exit) ≡ loadBytes (now (id .entry)) (now (manifest .entry)) (now (store .entry)) used ⌝ }
+{
+    match manifest::check(manifest) {
+        Checked::Refused(f) => refused(store, f.number()),
+        Checked::Good {
+            length,
+            canonical: _,
+            places,
+        } => load_good(id, manifest, length, places, store, used),
+    }
+}
+
+// The same of a good manifest, whose form has `size` bytes.
+fn load_good(
+    id: &[u8],
+    manifest: &[u8],
+    size: usize,
+    places: Places,
+    store: &mut [u8],
+    used: usize,
+) -> Answer
+    requires { ⌜ Readied (now manifest) size places ⌝ }
+    ensures { λ r. ⌜ Loads (lowest (imageQuestions (length (now (store .entry))) (held (now (store .entry)) used) (now (id .entry)) (now (manifest .entry)))) (imageOf (now (id .entry)) (now (manifest .entry))) (now (store .entry)) used r (now (store .exit)) ⌝ }
+{
+    match reference::id::read(id) {
+        Id::Bad => refused(store, 10),
+        Id::Image {
+            algorithm,
+            signer,
+            manifest: digest,
+        } => {
+            let mut signer_bytes = [0u8; 48];
+            reference_digests::digest::write_plain(id, signer, algorithm, &mut signer_bytes);
+            let mut digest_bytes = [0u8; 48];
+            reference_digests::digest::write_plain(id, digest, algorithm, &mut digest_bytes);
+            let n = algorithm.digest_bytes();
+            load_image(
+                algorithm,
+                &signer_bytes[..n],
+                &digest_bytes[..n],
+                manifest,
+                size,
+                places,
+                store,
+                used,
+            )
+        }
+    }
+}
+
+// The same of an image whose ID has that algorithm and those digests.
+fn load_image(
+    a: Algorithm,
+    signer: &[u8],
+    digest: &[u8],
+    manifest: &[u8],
+    size: usize,
+    places: Places,
+    store: &mut [u8],
+    used: usize,
+) -> Answer
+    requires { ⌜ Readied (now manifest) size places × Digests a (now signer) (now digest) ⌝ }
+    ensures { λ r. ⌜ Loads (lowest (storeQuestions (length (now (store .entry))) (held (now (store .entry)) used) (imageWith a (now (signer .entry)) (now (digest .entry)) (now (manifest .entry))))) (imageWith a (now (signer .entry)) (now (digest .entry)) (now (manifest .entry))) (now (store .entry)) used r (now (store .exit)) ⌝ }
+{
+    if store.len() < used {
+        return refused(store, 11);
+    }
+    let left = store.len() - used;
+    let number = number_in(
+        a,
+        signer,
+        digest,
+        manifest,
+        size,
+        places,
+        &store[..used],
+        left,
+    );
+    if number != 0 {
+        return refused(store, number);
+    }
+    append(a, signer, digest, manifest, size, store, used)
+}
+
+// Questions 11 to 14 of the image, asked of the bytes b, after which `left` bytes are free; 0 where none applies.
+fn number_in(
+    a: Algorithm,
+    signer: &[u8],
+    digest: &[u8],
+    manifest: &[u8],
+    size: usize,
+    places: Places,
+    b: &[u8],
+    left: usize,
+) -> usize
+    requires { ⌜ Readied (now manifest) size places × Digests a (now signer) (now digest) ⌝ }
+    ensures { λ r. ⌜ r ≡ lowest (storeQuestions (length (now (b .entry)) + left) (readRecords mostImages (now (b .entry))) (imageWith a (now (signer .entry)) (now (digest .entry)) (now (manifest .entry)))) ⌝ }
+{
+    let opened = open(b);
+    if !opened.sound {
+        return 11;
+    }
+    let survey = opened.survey;
+    if store_record::is_held(b, survey, a, signer, digest, ImageIndex(0)) {
+        return 12;
+    }
+    let all = opened.places;
+    if store_clash::clashes_with_any(manifest, places, a, signer, b, survey, all, ImageIndex(0)) {
+        return 13;
+    }
+    if survey.count == 64 {
+        return 14;
+    }
+    if left < store_record::head_size(a, size) + size {
+        return 14;
+    }
+    0
+}
+
+// Writes the record after the first `used` bytes.
+fn append(
+    a: Algorithm,
+    signer: &[u8],
+    digest: &[u8],
+    manifest: &[u8],
+    size: usize,
+    store: &mut [u8],
+    used: usize,
+) -> Answer
+    requires { ⌜ (size ≡ length (form (now manifest))) × (manifestTextNumber (now manifest) ≡ 0) × Digests a (now signer) (now digest) × Fits (imageWith a (now signer) (now digest) (now manifest)) (now store) used ⌝ }
+    ensures { λ r. ⌜ Loads 0 (imageWith a (now (signer .entry)) (now (digest .entry)) (now (manifest .entry))) (now (store .entry)) used r (now (store .exit)) ⌝ }
+{
+    let head = store_record::write_head(a, signer, digest, size, &mut store[used..]);
+    let at = used + head;
+    let written = text::canonical(manifest, &mut store[at..]);
+    Answer {
+        number: 0,
+        used: at + written.length,
+    }
+}

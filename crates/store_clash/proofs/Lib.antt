@@ -1,0 +1,2 @@
+pub mod Clashing
+pub mod Walking

@@ -1,0 +1,111 @@
+-- What the loops over a store's images ask of one image. Assumes nothing.
+use Prim.Native.Nat.{ℕ, zero, suc, _<_}
+use mathlib.Core.Path.{_≡_, refl, sym, ap, _∙_}
+use mathlib.Core.Bool.{Bool, true, false, _&&_, _||_, or-false}
+use mathlib.Core.List.{List, [], _∷_, map}
+use native.Mathlib.Omega.{arith}
+use lib.Dec.{eqb}
+use lib.ListN.{length, take, drop, getD}
+use lib.Seq.{drop-cons, drop-nil}
+use Rattle.laws.specs.Any.{anyOf}
+use Rattle.laws.proofs.Any.{or-none, any-or}
+use Rattle.laws.specs.Order.{same}
+use Rattle.reference_digests.specs.Algorithms.{byteOf}
+use Rattle.reference_digests.specs.declared.algorithm.Algorithm.{Algorithm}
+use Rattle.manifest_names.specs.Contents.{shareName}
+use Rattle.manifest.specs.Manifest.{selfNames, contents}
+use Rattle.manifest.specs.Names.{conflict}
+use Rattle.manifest.specs.Opened.{noPlaces, Opens}
+use Rattle.manifest.specs.declared.Places.{Places}
+use Rattle.store_record.specs.Image.{Image}
+use Rattle.store_record.specs.Reading.{between, heldIn, noRecord, imagesIn, RecordIn}
+use Rattle.store_record.specs.declared.Record.{Record}
+use Rattle.store_record.specs.declared.Survey.{Survey}
+use Rattle.store_clash.specs.Clash.{clash}
+use Rattle.store_clash.specs.Opened.{OpenedStore}
+use Rattle.store_clash.specs.Signed.{one, signedBy, isSigned, sharesWith, conflictsWith}
+use Rattle.store_clash.proofs.Clashing.{single, clash-split, clash-digest}
+
+module _ (b : List ℕ) (r : Record) (a : Algorithm) (signer : List ℕ) where
+  -- A record's image is signed by a signer, if the record's ID is.
+  pub signed-is : (eqb (byteOf a) (byteOf (r .algorithm)) && same signer (between b (r .signer) (r .manifest))) ≡ isSigned a signer (heldIn b r)
+  unfolding isSigned heldIn signedBy anyOf
+  signed-is = sym (or-false _)
+
+  module _ (s : List ℕ) where
+    -- Of an image of another signer nothing more is asked.
+    pub not-sharing : isSigned a signer (heldIn b r) ≡ false → sharesWith a signer s (heldIn b r) ≡ false
+    unfolding sharesWith
+    not-sharing e = rw e
+
+    pub not-conflicting : isSigned a signer (heldIn b r) ≡ false → conflictsWith a signer s (heldIn b r) ≡ false
+    unfolding conflictsWith
+    not-conflicting e = rw e
+
+    -- Of one of the same signer the names decide.
+    pub sharing : isSigned a signer (heldIn b r) ≡ true → sharesWith a signer s (heldIn b r) ≡ shareName (selfNames (between b (r .text) (r .end))) (selfNames s)
+    unfolding sharesWith heldIn
+    sharing e = ap (λ (t : Bool). t && shareName (selfNames (between b (r .text) (r .end))) (selfNames s)) e
+
+    pub conflicting : isSigned a signer (heldIn b r) ≡ true → conflictsWith a signer s (heldIn b r) ≡ conflict (contents (between b (r .text) (r .end))) (contents s)
+    unfolding conflictsWith heldIn
+    conflicting e = ap (λ (t : Bool). t && conflict (contents (between b (r .text) (r .end))) (contents s)) e
+
+-- where an element stands it does not matter what is given where none does
+any-default : {A : Type 0} (xs : List A) (k : ℕ) (d : A) → k < length xs → (e : A) → getD xs k e ≡ getD xs k d
+any-default xs k d h e =
+    let p = drop-cons xs k e h in
+    let q = drop-cons xs k d h in cc
+
+module _ (b : List ℕ) (v : Survey) (places : List Places) (o : OpenedStore b v places) (k : ℕ) (h : k < v .count) (r : Record) (e : r ≡ getD (v .records) k noRecord) where
+  -- The record at an index lies inside the store.
+  pub record-in : RecordIn b r
+  record-in = rw e (o .fills .each k h)
+
+  -- Its manifest is opened by the places at that index.
+  pub opened-at : (d : Places) → Opens (between b (r .text) (r .end)) (getD places k d)
+  opened-at d = rw (e, any-default places k noPlaces (omega (arith, o .room, o .fills .few)) d) (o .opens k h)
+
+-- tests that agree on what a list is mapped to
+any-mapped : {A B : Type 0} (f : A → B) (p q : B → Bool) → ((x : A) → p (f x) ≡ q (f x)) → (xs : List A) (k : ℕ) → anyOf p (drop k (map f xs)) ≡ anyOf q (drop k (map f xs))
+unfolding anyOf
+any-mapped f p q e [] k = rw drop-nil
+any-mapped f p q e (x ∷ xs) zero = λ i. e x i || any-mapped f p q e xs zero i
+any-mapped f p q e (x ∷ xs) (suc k) = any-mapped f p q e xs k
+
+-- what is asked only of those that pass no test is asked of none
+any-guarded : {A : Type 0} (p g : A → Bool) (xs : List A) → anyOf p xs ≡ false → anyOf (λ (x : A). p x && g x) xs ≡ false
+unfolding anyOf
+any-guarded p g [] e = refl
+any-guarded p g (x ∷ xs) e =
+    let k = or-none (p x) (anyOf p xs) e in
+    rw (k .0) (any-guarded p g xs (k .1))
+
+module _ (b : List ℕ) (v : Survey) (k : ℕ) where
+  module _ (a : Algorithm) (signer s : List ℕ) where
+    split : anyOf (clash (one a signer s)) (drop k (imagesIn b v)) ≡ (anyOf (sharesWith a signer s) (drop k (imagesIn b v)) || anyOf (conflictsWith a signer s) (drop k (imagesIn b v)))
+    unfolding imagesIn heldIn
+    split =
+        any-mapped (heldIn b) (clash (one a signer s)) (λ (y : Image). sharesWith a signer s y || conflictsWith a signer s y) (λ r. clash-split a signer s single) (take (v .count) (v .records)) k
+        ∙ any-or (sharesWith a signer s) (conflictsWith a signer s) (drop k (imagesIn b v))
+
+    -- Where a name is shared, the image clashes.
+    pub clash-shared : anyOf (sharesWith a signer s) (drop k (imagesIn b v)) ≡ true → anyOf (clash (one a signer s)) (drop k (imagesIn b v)) ≡ true
+    clash-shared e = split ∙ rw e
+
+    -- Else the aliases of layers decide.
+    pub clash-layers : anyOf (sharesWith a signer s) (drop k (imagesIn b v)) ≡ false → anyOf (clash (one a signer s)) (drop k (imagesIn b v)) ≡ anyOf (conflictsWith a signer s) (drop k (imagesIn b v))
+    clash-layers e = split ∙ rw e
+
+    -- Where no image is of the signer, none clashes.
+    pub clash-none : anyOf (isSigned a signer) (drop k (imagesIn b v)) ≡ false → anyOf (clash (one a signer s)) (drop k (imagesIn b v)) ≡ false
+    unfolding sharesWith conflictsWith
+    clash-none e =
+        clash-layers (any-guarded (isSigned a signer) (λ (y : Image). shareName (selfNames (y .text)) (selfNames s)) (drop k (imagesIn b v)) e)
+        ∙ any-guarded (isSigned a signer) (λ (y : Image). conflict (contents (y .text)) (contents s)) (drop k (imagesIn b v)) e
+
+  -- The digest of a manifest is in no key.
+  pub clash-held : (r : Record)
+      → anyOf (clash (heldIn b r)) (drop k (imagesIn b v)) ≡ anyOf (clash (one (r .algorithm) (between b (r .signer) (r .manifest)) (between b (r .text) (r .end)))) (drop k (imagesIn b v))
+  unfolding imagesIn heldIn
+  clash-held r = any-mapped (heldIn b) _ _ (λ q. clash-digest _ _ _ _ single) (take (v .count) (v .records)) k

@@ -1,0 +1,4 @@
+pub mod Keys
+pub mod Clash
+pub mod Signed
+pub mod Opened

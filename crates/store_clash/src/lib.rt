@@ -1,0 +1,182 @@
+// When images define one key: an image beside those of a store, and the images of a store among themselves. Keys hold the algorithm and the signer,
+// so images of another signer are passed over; of one side the names are sorted once, and those of the other side are looked up there.
+use manifest::Places;
+use manifest::names;
+use reference::ImageIndex;
+use reference_digests::algorithm::Algorithm;
+use store_record::Record;
+use store_record::Survey;
+ghost use mathlib.Core.Path.{_≡_};
+ghost use Prim.Native.Nat.{_≤_, _<_};
+ghost use lib.ListN.{length, drop, getD};
+ghost use Rattle.laws.specs.Any.{anyOf};
+ghost use Rattle.manifest.specs.Names.{SelfSorted, ContentsSorted};
+ghost use Rattle.manifest.specs.Opened.{Opens};
+ghost use Rattle.store_record.specs.Reading.{between, heldIn, imagesIn, RecordIn, Fills};
+ghost use Rattle.store_clash.specs.Clash.{clash, anyClash};
+ghost use Rattle.store_clash.specs.Opened.{OpenedStore};
+ghost use Rattle.store_clash.specs.Signed.{one, isSigned, sharesWith, conflictsWith};
+
+// The image of a record is of that signer, and has an alias of s for itself; `names` are those of s, sorted.
+fn shares_with(
+    s: &[u8],
+    names: &[u16],
+    a: Algorithm,
+    signer: &[u8],
+    b: &[u8],
+    r: Record,
+    q: Places,
+) -> bool
+    requires { ⌜ SelfSorted (now s) (now names) × RecordIn (now b) r × Opens (between (now b) (r .text) (r .end)) q ⌝ }
+    ensures { λ t. ⌜ t ≡ sharesWith a (now (signer .entry)) (now (s .entry)) (heldIn (now (b .entry)) r) ⌝ }
+{
+    if !r.is_signed_by(b, a, signer) {
+        return false;
+    }
+    let start = r.text;
+    let end = r.end;
+    names::shares_self(s, names, &b[start..end], q)
+}
+
+// The image of a record is of that signer, and has an alias of a layer that stands in s for another object; `names` and `keys` are what sorting
+// the aliases of s gave.
+fn conflicts_with(
+    s: &[u8],
+    names: &[u16],
+    keys: &[u16],
+    a: Algorithm,
+    signer: &[u8],
+    b: &[u8],
+    r: Record,
+    q: Places,
+) -> bool
+    requires { ⌜ ContentsSorted (now s) (now names) (now keys) × RecordIn (now b) r × Opens (between (now b) (r .text) (r .end)) q ⌝ }
+    ensures { λ t. ⌜ t ≡ conflictsWith a (now (signer .entry)) (now (s .entry)) (heldIn (now (b .entry)) r) ⌝ }
+{
+    if !r.is_signed_by(b, a, signer) {
+        return false;
+    }
+    let start = r.text;
+    let end = r.end;
+    names::conflicts(s, names, keys, &b[start..end], q)
+}
+
+// Some image of the store from index i on has an alias of s for itself.
+fn shares_with_any(
+    s: &[u8],
+    names: &[u16],
+    a: Algorithm,
+    signer: &[u8],
+    b: &[u8],
+    v: Survey,
+    places: [Places; 64],
+    i: ImageIndex,
+) -> bool
+    requires { ⌜ SelfSorted (now s) (now names) × OpenedStore (now b) v places ⌝ }
+    ensures { λ r. ⌜ r ≡ anyOf (sharesWith a (now (signer .entry)) (now (s .entry))) (drop (i .0) (imagesIn (now (b .entry)) v)) ⌝ }
+{
+    let mut j = i.0;
+    while j < v.count {
+        let r = v.record(ImageIndex(j));
+        let q = places[j];
+        if shares_with(s, names, a, signer, b, r, q) {
+            return true;
+        }
+        j += 1;
+    }
+    false
+}
+
+// Some image of the store from index i on has an alias of a layer that stands in s for another object.
+fn conflicts_with_any(
+    s: &[u8],
+    names: &[u16],
+    keys: &[u16],
+    a: Algorithm,
+    signer: &[u8],
+    b: &[u8],
+    v: Survey,
+    places: [Places; 64],
+    i: ImageIndex,
+) -> bool
+    requires { ⌜ ContentsSorted (now s) (now names) (now keys) × OpenedStore (now b) v places ⌝ }
+    ensures { λ r. ⌜ r ≡ anyOf (conflictsWith a (now (signer .entry)) (now (s .entry))) (drop (i .0) (imagesIn (now (b .entry)) v)) ⌝ }
+{
+    let mut j = i.0;
+    while j < v.count {
+        let r = v.record(ImageIndex(j));
+        let q = places[j];
+        if conflicts_with(s, names, keys, a, signer, b, r, q) {
+            return true;
+        }
+        j += 1;
+    }
+    false
+}
+
+// Some image from index i on is of that signer.
+fn has_signer(b: &[u8], v: Survey, a: Algorithm, signer: &[u8], i: ImageIndex) -> bool
+    requires { ⌜ Fills (now b) v ⌝ }
+    ensures { λ r. ⌜ r ≡ anyOf (isSigned a (now (signer .entry))) (drop (i .0) (imagesIn (now (b .entry)) v)) ⌝ }
+{
+    let mut j = i.0;
+    while j < v.count {
+        let r = v.record(ImageIndex(j));
+        if r.is_signed_by(b, a, signer) {
+            return true;
+        }
+        j += 1;
+    }
+    false
+}
+
+// The image of that algorithm and signer with the manifest s clashes with one of the store's images from index i on.
+pub fn clashes_with_any(
+    s: &[u8],
+    p: Places,
+    a: Algorithm,
+    signer: &[u8],
+    b: &[u8],
+    v: Survey,
+    places: [Places; 64],
+    i: ImageIndex,
+) -> bool
+    requires { ⌜ Opens (now s) p × OpenedStore (now b) v places ⌝ }
+    ensures { λ r. ⌜ r ≡ anyOf (clash (one a (now (signer .entry)) (now (s .entry)))) (drop (i .0) (imagesIn (now (b .entry)) v)) ⌝ }
+{
+    if !has_signer(b, v, a, signer, i) {
+        return false;
+    }
+    let mut sorted = [0u16; 4096];
+    let mut spare = [0u16; 4096];
+    let n = names::sort_self(s, p, &mut sorted, &mut spare);
+    if shares_with_any(s, &sorted[..n], a, signer, b, v, places, i) {
+        return true;
+    }
+    let mut keys = [0u16; 16384];
+    let m = names::sort_contents(s, p, &mut sorted, &mut spare, &mut keys);
+    conflicts_with_any(s, &sorted[..m], &keys, a, signer, b, v, places, i)
+}
+
+// Some two images of the store clash.
+pub fn any_clash(b: &[u8], v: Survey, places: [Places; 64]) -> bool
+    requires { ⌜ OpenedStore (now b) v places ⌝ }
+    ensures { λ r. ⌜ r ≡ anyClash (imagesIn (now (b .entry)) v) ⌝ }
+{
+    let mut i = 0;
+    while i < v.count {
+        let r = v.record(ImageIndex(i));
+        let start = r.text;
+        let end = r.end;
+        let from = r.signer;
+        let to = r.manifest;
+        let a = r.algorithm;
+        let p = places[i];
+        let next = ImageIndex(i + 1);
+        if clashes_with_any(&b[start..end], p, a, &b[from..to], b, v, places, next) {
+            return true;
+        }
+        i += 1;
+    }
+    false
+}

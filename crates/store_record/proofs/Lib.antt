@@ -1,0 +1,10 @@
+pub mod Comparing
+pub mod Heads
+pub mod Ids
+pub mod Reading
+pub mod Records
+pub mod Sharing
+pub mod Stores
+pub mod Surveying
+pub mod Walks
+pub mod Writing

@@ -1,0 +1,5 @@
+pub mod Ids
+pub mod Image
+pub mod Record
+pub mod Store
+pub mod Reading

@@ -1,0 +1,279 @@
+// The records of a store: one image's record written and read, and the survey of all records.
+use reference::ImageIndex;
+use reference_digests::algorithm::Algorithm;
+use reference_digests::algorithm::Known;
+use store_varint::Number;
+ghost use mathlib.Core.Path.{_≡_};
+ghost use mathlib.Core.Bool.{false, _&&_};
+ghost use mathlib.Core.List.{_++_};
+ghost use lib.Dec.{eqb};
+ghost use Prim.Native.Nat.{_≤_, _<_};
+ghost use lib.ListN.{length, drop, getD};
+ghost use Rattle.laws.specs.Any.{anyOf};
+ghost use Rattle.laws.specs.Order.{same};
+ghost use Rattle.reference_digests.specs.Algorithms.{digestBytes, byteOf};
+ghost use Rattle.reference.specs.References.{image-id};
+ghost use Rattle.store_record.specs.Ids.{sameId, hasId, idTwice};
+ghost use Rattle.store_record.specs.Image.{Image};
+ghost use Rattle.store_record.specs.Record.{headOf, headSize};
+ghost use Rattle.store_record.specs.Reading.{between, heldIn, imagesIn, RecordIn, Reads, ReadsBody, Surveys, Fills, noRecord};
+
+// The positions in a store of one record's parts: the signer's digest, the manifest's, the manifest itself, and the end.
+pub struct Record {
+    pub algorithm: Algorithm,
+    pub signer: usize,
+    pub manifest: usize,
+    pub text: usize,
+    pub end: usize,
+}
+
+impl Record {
+    // The record's ID has that algorithm and that signer.
+    pub fn is_signed_by(self, s: &[u8], a: Algorithm, signer: &[u8]) -> bool
+        requires { ⌜ RecordIn (now s) self ⌝ }
+        ensures { λ r. ⌜ r ≡ (eqb (byteOf a) (byteOf (self .algorithm)) && same (now (signer .entry)) (between (now (s .entry)) (self .signer) (self .manifest))) ⌝ }
+    {
+        let own = self.algorithm;
+        if a.byte() != own.byte() {
+            return false;
+        }
+        let start = self.signer;
+        let end = self.manifest;
+        equal(signer, &s[start..end])
+    }
+
+    // The record's ID is that one.
+    pub fn has_id(self, s: &[u8], a: Algorithm, signer: &[u8], manifest: &[u8]) -> bool
+        requires { ⌜ RecordIn (now s) self ⌝ }
+        ensures { λ r. ⌜ r ≡ hasId (image-id a (now (signer .entry)) (now (manifest .entry))) (heldIn (now (s .entry)) self) ⌝ }
+    {
+        if !self.is_signed_by(s, a, signer) {
+            return false;
+        }
+        let start = self.manifest;
+        let end = self.text;
+        equal(manifest, &s[start..end])
+    }
+}
+
+// Two runs of bytes are equal.
+fn equal(a: &[u8], b: &[u8]) -> bool
+    ensures { λ r. ⌜ r ≡ same (now (a .entry)) (now (b .entry)) ⌝ }
+{
+    if a.len() != b.len() {
+        return false;
+    }
+    let mut i = 0;
+    while i < a.len() {
+        if a[i] != b[i] {
+            return false;
+        }
+        i += 1;
+    }
+    true
+}
+
+// A record, or none that is whole.
+pub enum Found {
+    At(Record),
+    Missing,
+}
+
+// The records of a store, if at most 64 fill it exactly.
+pub struct Survey {
+    pub whole: bool,
+    pub count: usize,
+    pub records: [Record; 64],
+}
+
+// The record that begins at position i.
+pub fn read(s: &[u8], i: usize) -> Found
+    ensures { λ r. ⌜ Reads (now (s .entry)) i r ⌝ }
+{
+    match store_varint::read(s, i, s.len()) {
+        Number::Missing => Found::Missing,
+        Number::At { value, next } => {
+            if s.len() - next < value {
+                return Found::Missing;
+            }
+            body(s, next, next + value)
+        }
+    }
+}
+
+// The record whose algorithm's byte stands at position i, and which ends at `end`.
+fn body(s: &[u8], i: usize, end: usize) -> Found
+    requires { ⌜ (i ≤ end) × (end ≤ length (now s)) ⌝ }
+    ensures { λ r. ⌜ ReadsBody (now (s .entry)) i end r ⌝ }
+{
+    if i == end {
+        return Found::Missing;
+    }
+    match Algorithm::from_byte(s[i]) {
+        Known::Unknown => Found::Missing,
+        Known::Is(algorithm) => {
+            let n = algorithm.digest_bytes();
+            let signer = i + 1;
+            if end - signer < 2 * n {
+                return Found::Missing;
+            }
+            let manifest = signer + n;
+            let text = manifest + n;
+            Found::At(Record {
+                algorithm,
+                signer,
+                manifest,
+                text,
+                end,
+            })
+        }
+    }
+}
+
+// A record that stands nowhere.
+fn no_record() -> Record
+    ensures { λ r. ⌜ r ≡ noRecord ⌝ }
+{
+    Record {
+        algorithm: Algorithm::Sha224,
+        signer: 0,
+        manifest: 0,
+        text: 0,
+        end: 0,
+    }
+}
+
+impl Survey {
+    // The records that fill the bytes s.
+    pub fn of(s: &[u8]) -> Survey
+        ensures { λ r. ⌜ Surveys (now (s .entry)) r ⌝ }
+    {
+        let mut records = [no_record(); 64];
+        let mut count = 0;
+        let mut i = 0;
+        while i < s.len() {
+            if count == 64 {
+                return broken();
+            }
+            match read(s, i) {
+                Found::Missing => return broken(),
+                Found::At(r) => {
+                    records[count] = r;
+                    count += 1;
+                    i = r.end;
+                }
+            }
+        }
+        Survey {
+            whole: true,
+            count,
+            records,
+        }
+    }
+
+    // The record of the image with that index.
+    pub fn record(self, i: ImageIndex) -> Record
+        requires { ⌜ i .0 < 64 ⌝ }
+        ensures { λ r. ⌜ r ≡ getD (self .records) (i .0) noRecord ⌝ }
+    {
+        let k = i.0;
+        self.records[k]
+    }
+}
+
+// What is answered of bytes that no such records fill.
+fn broken() -> Survey
+    ensures { λ r. ⌜ r .whole ≡ false ⌝ }
+{
+    Survey {
+        whole: false,
+        count: 0,
+        records: [no_record(); 64],
+    }
+}
+
+// Writes bytes at the start of `out`; what follows stays.
+fn copy(from: &[u8], out: &mut [u8])
+    requires { ⌜ length (now from) ≤ length (now out) ⌝ }
+    ensures { λ _. ⌜ now (out .exit) ≡ now (from .entry) ++ drop (length (now (from .entry))) (now (out .entry)) ⌝ }
+{
+    let mut i = 0;
+    while i < from.len() {
+        out[i] = from[i];
+        i += 1;
+    }
+}
+
+// Writes the start of a record, up to the manifest, which will have `text` bytes; answers its length. What follows stays.
+pub fn write_head(
+    a: Algorithm,
+    signer: &[u8],
+    manifest: &[u8],
+    text: usize,
+    out: &mut [u8],
+) -> usize
+    requires { ⌜ (length (now signer) ≡ digestBytes a) × (length (now manifest) ≡ digestBytes a) × (text ≤ 16384) × (length (headOf (image-id a (now signer) (now manifest)) text) ≤ length (now out)) ⌝ }
+    ensures { λ r. ⌜ r ≡ length (headOf (image-id a (now (signer .entry)) (now (manifest .entry))) text) ⌝ }
+    ensures { λ r. ⌜ now (out .exit) ≡ headOf (image-id a (now (signer .entry)) (now (manifest .entry))) text ++ drop r (now (out .entry)) ⌝ }
+{
+    let n = a.digest_bytes();
+    let k = store_varint::write(1 + 2 * n + text, out);
+    out[k] = a.byte();
+    let first = k + 1;
+    copy(signer, &mut out[first..]);
+    let second = first + n;
+    copy(manifest, &mut out[second..]);
+    second + n
+}
+
+// How long the start of a record is.
+pub fn head_size(a: Algorithm, text: usize) -> usize
+    requires { ⌜ text ≤ 16384 ⌝ }
+    ensures { λ r. ⌜ r ≡ headSize a text ⌝ }
+{
+    let rest = 1 + 2 * a.digest_bytes();
+    store_varint::size(rest + text) + rest
+}
+
+// Some image from index i on has that ID.
+pub fn is_held(
+    s: &[u8],
+    v: Survey,
+    a: Algorithm,
+    signer: &[u8],
+    manifest: &[u8],
+    i: ImageIndex,
+) -> bool
+    requires { ⌜ Fills (now s) v ⌝ }
+    ensures { λ r. ⌜ r ≡ anyOf (hasId (image-id a (now (signer .entry)) (now (manifest .entry)))) (drop (i .0) (imagesIn (now (s .entry)) v)) ⌝ }
+{
+    let mut j = i.0;
+    while j < v.count {
+        let r = v.record(ImageIndex(j));
+        if r.has_id(s, a, signer, manifest) {
+            return true;
+        }
+        j += 1;
+    }
+    false
+}
+
+// Some ID stands in two images.
+pub fn id_twice(s: &[u8], v: Survey) -> bool
+    requires { ⌜ Fills (now s) v ⌝ }
+    ensures { λ r. ⌜ r ≡ idTwice (imagesIn (now (s .entry)) v) ⌝ }
+{
+    let mut i = 0;
+    while i < v.count {
+        let r = v.record(ImageIndex(i));
+        let a = r.algorithm;
+        let from = r.signer;
+        let to = r.manifest;
+        let end = r.text;
+        if is_held(s, v, a, &s[from..to], &s[to..end], ImageIndex(i + 1)) {
+            return true;
+        }
+        i += 1;
+    }
+    false
+}
