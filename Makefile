@@ -1,6 +1,6 @@
 # make report   the canonical form of an example manifest, through a C host
 # make test     the gate: proofs, must-fail edits, tests
-# make bench    the library beside serde_json and Python's json, and checking beside canonical
+# make bench    the library beside serde_json, Python's json and a host's own loading, and checking beside canonical
 #
 # ACON_LIB=FILE uses another archive than the one that rt makes (not in `make test`).
 

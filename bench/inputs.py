@@ -113,9 +113,9 @@ def grown(manifest, grow, write):
     return last
 
 
-def vendor_manifest(write):
+def vendor_manifest(write, seed=1):
     """A manifest such as a vendor would write, just under 16 KB."""
-    r = random.Random(1)
+    r = random.Random(seed)
     algorithms = ["sha384", "sha384", "sha256", "sha224"]
     layers = []
     for i in range(18):
@@ -189,14 +189,17 @@ def many_aliases(name):
     return grown({"aconSpecVersion": [1, 0], "aliases": {"contents": contents}}, grow, canonical)
 
 
-def two_letters(i):
-    letters = [chr(c) for c in range(0x23, 0x7F) if chr(c) not in "/\\*."]
-    return letters[i // len(letters)] + letters[i % len(letters)]
+LETTERS = [chr(c) for c in range(0x23, 0x7F) if chr(c) not in "/\\*."]
 
 
-def many_rules():
+def word(i, width, letters=LETTERS):
+    """The word of that width with the number i."""
+    return (word(i // len(letters), width - 1, letters) if width > 1 else "") + letters[i % len(letters)]
+
+
+def many_rules(seed=3):
     """64 rules, 64 layers by alias and 64 user IDs."""
-    r = random.Random(3)
+    r = random.Random(seed)
     manifest = {
         "aconSpecVersion": [1, 0],
         "layers": ["signer/sha224/%s/%s" % (digest(r, "sha224"), "x" * (i % 50 + 1)) for i in range(64)],
@@ -218,7 +221,7 @@ def checked():
     yield "its canonical form", canonical(json.loads(worked_manifest()))
     yield "plain, 16 KB", vendor_manifest(canonical)
     yield "long strings, 16 KB", long_strings()
-    yield "short aliases, 16 KB", many_aliases(two_letters)
+    yield "short aliases, 16 KB", many_aliases(lambda i: word(i, 2))
     yield "long aliases, 16 KB", many_aliases(lambda i: "%s%04d" % ("a" * 251, i))
     yield "escaped aliases, 16 KB", many_aliases(lambda i: '\\"%04d' % i)
     yield "rules, layers, numbers, 16 KB", many_rules()

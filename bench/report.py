@@ -1,4 +1,4 @@
-"""Measures and prints: report.py FOLDER, which holds the programs compare, stack and canonical."""
+"""Measures and prints: report.py FOLDER, which holds the programs compare, stack, check and canonical."""
 
 import json
 import os
@@ -9,9 +9,11 @@ import sys
 import time
 
 import inputs
+import stores
 
-SAMPLES = 201
+SAMPLES, SAMPLE_TIME = 201, 300  # in microseconds, at least
 PYTHON_SAMPLES = 51
+LARGE_SAMPLES, LARGE_SAMPLE_TIME = 9, 20000  # of the large stores, where a call takes some milliseconds to some seconds
 
 
 def python_form(data):
@@ -23,18 +25,18 @@ def python_time(data):
     """Nanoseconds, as the median of many samples."""
     calls = 1
     while True:
-        start = time.perf_counter_ns()
+        start = time.process_time_ns()
         for _ in range(calls):
             python_form(data)
-        if time.perf_counter_ns() - start > 1000000:
+        if time.process_time_ns() - start > 1000000:
             break
         calls *= 2
     times = []
     for _ in range(PYTHON_SAMPLES):
-        start = time.perf_counter_ns()
+        start = time.process_time_ns()
         for _ in range(calls):
             python_form(data)
-        times.append((time.perf_counter_ns() - start) / calls)
+        times.append((time.process_time_ns() - start) / calls)
     return statistics.median(times)
 
 
@@ -86,12 +88,52 @@ def report_checks(folder):
     print("Worst manifest of 16 KB over the plain one: %.2f (%s)" % (worst, name))
 
 
+def asked(what, value, most, name=None):
+    """A line with a figure beside the most that is asked for."""
+    print("%s: %.2f%s; asked: at most %.2f, %s" % (
+        what, value, " (%s)" % name if name else "", most, "holds" if value <= most else "does not hold"))
+
+
+def load_rows(folder, samples, sample_time, made):
+    """Microseconds of the library and of the host's own code, and the library's stack, for each store."""
+    paths = [case.path for case in made]
+    speed = lines(os.path.join(folder, "compare"), "load", str(samples), str(sample_time), *paths)
+    stack = lines(os.path.join(folder, "stack"), "load", *paths)
+    return [(case, *(ns / 1000 for ns in speed[case.path]), int(stack[case.path][0])) for case in made]
+
+
+def report_loads(folder):
+    """Plain stores, and what loading into the worst ones costs beside a plain one of their size."""
+    rows = load_rows(folder, SAMPLES, SAMPLE_TIME, stores.write_plain(os.path.join(folder, "stores")))
+    print()
+    print("Loading an image into a store: microseconds for one call, median of %d samples" % SAMPLES)
+    print("%-28s %8s %11s %10s %10s %9s %13s" % ("store", "bytes", "acon", "host", "acon/host", "ns/byte", "acon's stack"))
+    by_byte = {}
+    for case, acon, host, used in rows:
+        by_byte[case.name] = acon * 1000 / (case.store + case.manifest)
+        print("%-28s %8d %11.2f %10.2f %10.2f %9.2f %13d" % (case.name, case.store, acon, host, acon / host, by_byte[case.name], used))
+    print()
+    asked("The library over the host's own code", *max((acon / host, 1, case.name) for case, acon, host, _ in rows))
+    print("Time for a byte, 63 images over 8 images: %.2f; asked: as the bytes, 1.00" % (by_byte["63 images"] / by_byte["8 images"]))
+
+    large = load_rows(folder, LARGE_SAMPLES, LARGE_SAMPLE_TIME, stores.write_worst(os.path.join(folder, "stores")))
+    (_, plain, _, _), *worst = large
+    print()
+    print("Loading an image into a store of 63 manifests of 16 KB: microseconds for one call, median of %d samples" % LARGE_SAMPLES)
+    print("%-28s %8s %11s %10s %10s %9s %13s" % ("store", "bytes", "acon", "host", "acon/host", "/plain", "acon's stack"))
+    for case, acon, host, used in large:
+        print("%-28s %8d %11.2f %10.2f %10.2f %9.2f %13d" % (case.name, case.store, acon, host, acon / host, acon / plain, used))
+    print()
+    asked("Worst store over the plain one of its size", *max((acon / plain, 200, case.name) for case, acon, _, _ in worst))
+    asked("Most stack of acon_load, in KB", max(used for _, _, _, used in rows + large) / 1024, 192)
+
+
 def main():
     folder = sys.argv[1]
     made = inputs.write_all(os.path.join(folder, "inputs"))
     paths = [path for _, _, path in made]
-    speed = lines(os.path.join(folder, "compare"), str(SAMPLES), *paths)
-    stack = lines(os.path.join(folder, "stack"), *paths)
+    speed = lines(os.path.join(folder, "compare"), "canonical", str(SAMPLES), str(SAMPLE_TIME), *paths)
+    stack = lines(os.path.join(folder, "stack"), "canonical", *paths)
     rows = {}
     for name, kilobytes, path in made:
         with open(path, "rb") as f:
@@ -128,6 +170,7 @@ def main():
     print("Worst case over the manifest of 16 KB: %.2f (%s)" % worst)
     print("Most stack: %d bytes" % max(row[4] for row in rows.values()))
     report_checks(folder)
+    report_loads(folder)
 
 
 main()

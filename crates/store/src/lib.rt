@@ -155,9 +155,9 @@ fn load_good(
             signer,
             manifest: digest,
         } => {
-            let mut signer_bytes = [0u8; 48];
+            let mut signer_bytes = [0u8; Algorithm::SHA384_BYTES];
             reference_digests::digest::write_plain(id, signer, algorithm, &mut signer_bytes);
-            let mut digest_bytes = [0u8; 48];
+            let mut digest_bytes = [0u8; Algorithm::SHA384_BYTES];
             reference_digests::digest::write_plain(id, digest, algorithm, &mut digest_bytes);
             let n = algorithm.digest_bytes();
             load_image(

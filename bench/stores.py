@@ -1,0 +1,145 @@
+"""Stores, each with the image that is loaded into it: write_plain(FOLDER), write_worst(FOLDER)."""
+
+import bisect
+import collections
+import json
+import os
+import random
+
+import inputs
+
+IMAGES = 63  # in a store that has place for one more
+ALGORITHMS = {"sha224": 1, "sha256": 2, "sha384": 3}
+
+Image = collections.namedtuple("Image", "algorithm signer digest manifest")
+
+
+def number(n):
+    """Groups of seven bits, the lowest first, the top bit set on all but the last byte."""
+    groups = [n & 0x7F]
+    while n > 0x7F:
+        n >>= 7
+        groups.append(n & 0x7F)
+    return bytes([g | 0x80 for g in groups[:-1]] + groups[-1:])
+
+
+def record(image):
+    rest = (bytes([ALGORITHMS[image.algorithm]]) + bytes.fromhex(image.signer) + bytes.fromhex(image.digest)
+            + image.manifest.encode())
+    return number(len(rest)) + rest
+
+
+# ---- Plain stores: images of the worked manifest
+
+
+def worked_store(count):
+    """Four images to a signer, each with names of its own for itself; the one that is loaded is of the last one's signer
+    and as a vendor writes it."""
+    r = random.Random(count)
+    images = []
+    for i in range(count):
+        if i % 4 == 0:
+            algorithm = list(ALGORITHMS)[i // 4 % 3]
+            signer = inputs.digest(r, algorithm)
+        images.append(Image(algorithm, signer, inputs.digest(r, algorithm), inputs.canonical(json.loads(worked(i)))))
+    return images, Image(algorithm, signer, inputs.digest(r, algorithm), worked(count))
+
+
+def worked(i):
+    return inputs.worked_manifest().replace("SomeProduct", "SomeProduct%02d" % i)
+
+
+# ---- Stores of some 1 MB: manifests of 16 KB
+
+
+def store_of(manifests, one_signer):
+    """Images with these manifests, all of one signer or each of its own; the last one is loaded."""
+    r = random.Random(4)
+    signers = [inputs.digest(r, "sha224") for _ in manifests]
+    images = [Image("sha224", signers[0 if one_signer else i], inputs.digest(r, "sha224"), manifest)
+              for i, manifest in enumerate(manifests)]
+    return images[:-1], images[-1]
+
+
+def vendor_store():
+    """Manifests such as vendors would write, each image of another signer."""
+    return store_of([filled(seed) for seed in range(1, IMAGES + 2)], False)
+
+
+def filled(seed):
+    """The plain manifest of 16 KB, with more variables where its rules end."""
+    def grow(m):
+        env = m["env"]
+        env.append("SERVICE_%02d_URL=https://node%02d.example.org:8443/api/v1" % (len(env), seed))
+        return len(env) < 64
+    return inputs.grown(json.loads(inputs.vendor_manifest(inputs.canonical, seed)), grow, inputs.canonical)
+
+
+def with_names(names, own, layers):
+    """A manifest with names for layers, 64 to each, and names for itself."""
+    contents = {layer: names[64 * i:64 * i + 64] for i, layer in enumerate(layers) if 64 * i < len(names)}
+    return inputs.canonical({"aconSpecVersion": [1, 0], "aliases": {"contents": contents, "self": {".": own}}})
+
+
+def names_store(name, same):
+    """As many names for layers as fit, in no order: `name` gives the one with a number. The same ones in all images, for the
+    same layers, or all different. The names for the image itself are always different."""
+    r = random.Random(5)
+    layers = sorted("sha224/" + inputs.digest(r, "sha224") for _ in range(64))
+    numbers = list(range(4096 if same else 4096 * (IMAGES + 1)))
+    r.shuffle(numbers)
+    own = [inputs.word(i, 3) for i in range(64 * (IMAGES + 1))]
+    r.shuffle(own)
+
+    def manifest(i, n):
+        first = 0 if same else i * n
+        return with_names([name(k) for k in numbers[first:first + n]], own[64 * i:64 * i + 64], layers)
+    # names of one length, or the same ones: as many fit in all images as in the first
+    n = bisect.bisect_right(range(4096), inputs.LARGE, key=lambda n: len(manifest(0, n).encode())) - 1
+    return store_of([manifest(i, n) for i in range(IMAGES + 1)], True)
+
+
+def escaped(i):
+    """Three of sixteen characters, of which two are escaped and two stand beside a backslash."""
+    return inputs.word(i, 3, '[\\]"!#abcdefghij')
+
+
+def plain():
+    """Name, images of the store, the one that is loaded."""
+    for count in (1, 8, 40, IMAGES):
+        yield ("%d images" % count if count > 1 else "1 image", *worked_store(count))
+
+
+def worst():
+    """The plain store comes first."""
+    yield ("plain", *vendor_store())
+    yield ("short names, all different", *names_store(lambda i: inputs.word(i, 3), False))
+    yield ("short names, the same", *names_store(lambda i: inputs.word(i, 2), True))
+    yield ("escaped names, the same", *names_store(escaped, True))
+    yield ("long names, all different", *names_store(lambda i: "%s%06d" % ("a" * 249, i), False))
+    yield ("64 rules", *store_of([inputs.many_rules(seed) for seed in range(IMAGES + 1)], True))
+
+
+Made = collections.namedtuple("Made", "name store manifest path")  # the lengths of both; the path without its ending
+
+
+def write_all(folder, cases):
+    """Writes for each case the store, and the ID and the manifest that are loaded."""
+    os.makedirs(folder, exist_ok=True)
+    made = []
+    for name, images, loaded in cases:
+        path = os.path.join(folder, name.replace(" ", "-").replace(",", ""))
+        store, manifest = b"".join(map(record, images)), loaded.manifest.encode()
+        for ending, data in ((".store", store), (".id", "/".join(loaded[:3]).encode()), (".json", manifest)):
+            with open(path + ending, "wb") as f:
+                f.write(data)
+        made.append(Made(name, len(store), len(manifest), path))
+    return made
+
+
+def write_plain(folder):
+    return write_all(folder, plain())
+
+
+def write_worst(folder):
+    return write_all(folder, worst())
