@@ -1,8 +1,10 @@
+pub mod Accepting
 pub mod Aliases
 pub mod Asking
 pub mod Canonical
 pub mod Checking
 pub mod Groups
+pub mod Limits
 pub mod Objects
 pub mod Opened
 pub mod Opening

@@ -24,7 +24,7 @@ pub enum Object {
 // overwritten.
 pub fn sort_self(s: &[u8], p: Places, names: &mut [u16], spare: &mut [u16]) -> usize
     requires { ⌜ Opens (now s) p × NameSpace (now names) (now spare) ⌝ }
-    ensures { λ r. ⌜ (r ≤ length (now (names .exit))) × SelfSorted (now (s .entry)) (take r (now (names .exit))) ⌝ }
+    ensures { λ r. ⌜ (r ≤ length (now (names .exit))) × SelfSorted (now (s .entry)) (take r (now (names .exit))) × (r ≡ length (selfNames (now (s .entry)))) ⌝ }
 {
     let own = p.own;
     manifest_names::sorted::sort_names(s, own, names, spare)

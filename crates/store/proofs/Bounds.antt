@@ -1,7 +1,7 @@
 -- The numbers that a load tells are small. Assumes nothing.
 use Prim.Native.Nat.{ℕ, _*_, _≤_, _<_}
-use mathlib.Core.Path.{_≡_, sym, ap, _∙_}
-use mathlib.Core.List.{List, [], _∷_, append-nil}
+use mathlib.Core.Path.{_≡_}
+use mathlib.Core.List.{List}
 use mathlib.Core.Bool.{false, not}
 use mathlib.Core.Option.{Option}
 use native.Mathlib.Omega.{arith}
@@ -12,10 +12,10 @@ use Rattle.laws.specs.Any.{anyOf}
 use Rattle.laws.proofs.Any.{or-none}
 use Rattle.laws.proofs.Order.{by-test}
 use Rattle.text.specs.Answer.{isCanonical}
-use Rattle.text.specs.Question.{Question, lowest}
+use Rattle.text.specs.Question.{lowest}
 use Rattle.text.proofs.Taken.{taken}
-use Rattle.manifest.specs.Number.{questions, manifestTextNumber}
-use Rattle.manifest.proofs.Asking.{asked-first, asked-next, asked-after, asked-of-manifest}
+use Rattle.manifest.specs.Number.{manifestTextNumber}
+use Rattle.manifest.proofs.Asking.{nothing-asked, asked-small, asked-after, asked-of-manifest}
 use Rattle.manifest.proofs.Questions.{good-as-text, manifest-small}
 use Rattle.store_record.specs.Image.{Image}
 use Rattle.store_record.specs.Record.{recordOf}
@@ -62,26 +62,14 @@ load-used-small id manifest buffer used b =
         let l = store-short (o .each) (sound-parts (length buffer) xs (k .sound) .fit) in
         omega (arith, used-accepted id manifest buffer used e, used-is buffer used xs o, k .few)
 
--- a question of at most that number, before others of at most that number
-asked-small : (n : ℕ) (q : Question) (qs : List Question) → q .number ≤ n → lowest qs ≤ n → lowest (q ∷ qs) ≤ n
-asked-small n q qs h l =
-    by-test (q .applies)
-    (λ t. omega (arith, asked-first q qs t))
-    (λ f. omega (arith, asked-next q qs f))
-
--- where a good manifest is known, no question is told by 0
-none-small : (manifest : List ℕ) → manifestTextNumber manifest ≡ 0 → lowest [] ≡ 0
-unfolding manifestTextNumber
-none-small manifest e = sym (asked-after manifest [] e) ∙ ap lowest (append-nil (questions manifest)) ∙ e
-
-image-small : (size : ℕ) (images : Option (List Image)) (id manifest : List ℕ) → lowest [] ≡ 0 → lowest (imageQuestions size images id manifest) ≤ 14
+image-small : (size : ℕ) (images : Option (List Image)) (id manifest : List ℕ) → lowest (imageQuestions size images id manifest) ≤ 14
 unfolding imageQuestions storeQuestions
-image-small size images id manifest e =
-    asked-small 14 _ _ (omega arith)
-    (asked-small 14 _ _ (omega arith)
-    (asked-small 14 _ _ (omega arith)
-    (asked-small 14 _ _ (omega arith)
-    (asked-small 14 _ _ (omega arith) (omega arith)))))
+image-small size images id manifest =
+    asked-small _ _ 14 (omega arith)
+    (asked-small _ _ 14 (omega arith)
+    (asked-small _ _ 14 (omega arith)
+    (asked-small _ _ 14 (omega arith)
+    (asked-small _ _ 14 (omega arith) (omega (arith, nothing-asked))))))
 
 -- The number of a load is 14 at most.
 pub load-number-small : (id manifest buffer : List ℕ) (used : ℕ) → loadNumber id manifest buffer used ≤ 14
@@ -90,5 +78,5 @@ load-number-small id manifest buffer used =
     let rs = imageQuestions (length buffer) (held buffer used) id manifest in
     by-test (eqb (manifestTextNumber manifest) 0)
     (λ t. let e = eqb-true (manifestTextNumber manifest) 0 t in
-    omega (arith, asked-after manifest rs e, image-small (length buffer) (held buffer used) id manifest (none-small manifest e)))
+    omega (arith, asked-after manifest rs e, image-small (length buffer) (held buffer used) id manifest))
     (λ f. omega (arith, asked-of-manifest manifest rs (eqb-false (manifestTextNumber manifest) 0 f), manifest-small manifest))

@@ -1,7 +1,7 @@
 -- Questions 11 to 14 of an image and a store whose records were read. Assumes nothing.
 use Prim.Native.Nat.{ℕ, _+_, _-_, _≤_, _<_}
 use mathlib.Core.Path.{_≡_, refl, sym, ap, _∙_}
-use mathlib.Core.List.{List, [], append-nil}
+use mathlib.Core.List.{List}
 use mathlib.Core.Bool.{true, false, or-false, or-true}
 use mathlib.Core.Option.{Option, none, some}
 use native.Mathlib.Omega.{arith}
@@ -14,8 +14,8 @@ use Rattle.text.specs.Answer.{form}
 use Rattle.text.specs.Question.{lowest}
 use Rattle.reference_digests.specs.declared.algorithm.Algorithm.{Algorithm}
 use Rattle.reference.specs.References.{image-id}
-use Rattle.manifest.specs.Number.{questions, manifestTextNumber}
-use Rattle.manifest.proofs.Asking.{asked-first, asked-next, asked-after}
+use Rattle.manifest.specs.Number.{manifestTextNumber}
+use Rattle.manifest.proofs.Asking.{nothing-asked, asked-first, asked-next, asked-none}
 use Rattle.manifest.proofs.Questions.{good-as-text}
 use Rattle.store_record.specs.Image.{Image}
 use Rattle.store_record.specs.Ids.{hasId, shareId}
@@ -95,11 +95,6 @@ module _ (b : List ℕ) (bytes : (j : ℕ) → getD b j 0 < 256) (xs : List Imag
   unfolding noSpace
   space-left h l = rw (lt-leb mostImages (length xs) h, free-is) (le-ltb left (length (recordOf x)) l)
 
--- Of no questions none applies.
-nothing-asked : (s : List ℕ) → manifestTextNumber s ≡ 0 → lowest [] ≡ 0
-unfolding manifestTextNumber
-nothing-asked s good = sym (asked-after s [] good) ∙ ap lowest (append-nil (questions s)) ∙ good
-
 pub read-among : (b : List ℕ) (xs : List Image) → readRecords mostImages b ≡ some xs → among (readRecords mostImages b) ≡ xs
 unfolding among
 read-among b xs e = ap among e
@@ -128,6 +123,6 @@ module _ (size : ℕ) (images : Option (List Image)) (x : Image) where
         unfolding storeQuestions
         number-14 e = sym (asked-next _ _ sound ∙ asked-next _ _ other ∙ asked-next _ _ apart ∙ asked-first _ _ e)
 
-        pub number-0 : (s : List ℕ) → manifestTextNumber s ≡ 0 → noSpace size (among images) x ≡ false → Number 0
+        pub number-0 : noSpace size (among images) x ≡ false → Number 0
         unfolding storeQuestions
-        number-0 s good e = sym (asked-next _ _ sound ∙ asked-next _ _ other ∙ asked-next _ _ apart ∙ asked-next _ _ e ∙ nothing-asked s good)
+        number-0 e = sym (asked-none _ _ sound (asked-none _ _ other (asked-none _ _ apart (asked-none _ _ e nothing-asked))))

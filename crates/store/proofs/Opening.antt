@@ -76,21 +76,23 @@ pub nothing-opened : (b : List ℕ) (v : Survey) (places : List Places) → leng
 nothing-opened b v places h = record { fit = refl; room = h; each = λ k l. absurd (omega arith) }
 
 module _ (b : List ℕ) (v : Survey) (fits : v .count ≤ length (v .records)) (places : List Places) (i : ℕ) (p : OpenedTo b v places i) where
-  module _ (r : Record) (e : r ≡ getD (v .records) i noRecord) (h : i < v .count) where
+  module _ (h : i < v .count) where
     -- the next image is not fit
-    pub found-unfit : isUnfit (heldIn b r) ≡ true → Fitting b v false places
-    found-unfit t = (sym (ap not (p .fit ∙ any-here b v fits i r e h isUnfit t)), λ f. false-true f)
+    pub found-unfit : isUnfit (heldIn b (getD (v .records) i noRecord)) ≡ true → Fitting b v false places
+    found-unfit t = (sym (ap not (p .fit ∙ any-here b v fits i h isUnfit t)), λ f. false-true f)
 
     -- it is, and its manifest is opened
-    pub one-opened : isUnfit (heldIn b r) ≡ false → v .count ≤ mostImages → (q : Places) → Opens (textAt b r) q → OpenedTo b v (set places i q) (i + 1)
+    pub one-opened :
+        isUnfit (heldIn b (getD (v .records) i noRecord)) ≡ false → v .count ≤ mostImages
+        → (q : Places) → Opens (textAt b (getD (v .records) i noRecord)) q → OpenedTo b v (set places i q) (i + 1)
     one-opened t few q o =
-        record { fit = p .fit ∙ any-next b v fits i r e h isUnfit t; room = length-set places i q ∙ p .room; each = λ k l. at k l (decLt k i) }
+        record { fit = p .fit ∙ any-next b v fits i h isUnfit t; room = length-set places i q ∙ p .room; each = λ k l. at k l (decLt k i) }
       where
         at : (k : ℕ) → k < i + 1 → Dec (k < i) → Opens (textAt b (getD (v .records) k noRecord)) (getD (set places i q) k noPlaces)
         at k l (yes m) = rw (getD-set-other places i k q noPlaces (λ e. omega arith)) (p .each k m)
         at k l (no m) =
             let f : k ≡ i = omega arith in
-            rw f (rw (getD-set-same places i q noPlaces (omega (arith, p .room)), ← e) o)
+            rw f (rw (getD-set-same places i q noPlaces (omega (arith, p .room))) o)
 
   -- no record is left
   pub all-opened : Fills b v → v .count ≤ i → Fitting b v true places

@@ -14,12 +14,13 @@ ghost use Rattle.text.specs.Answer.{form};
 ghost use Rattle.text.specs.Question.{lowest};
 ghost use Rattle.manifest.specs.Number.{manifestTextNumber};
 ghost use Rattle.store_record.specs.Ids.{idTwice};
+ghost use Rattle.store_record.specs.Record.{recordOf};
 ghost use Rattle.store_record.specs.Store.{mostImages, readRecords};
 ghost use Rattle.store_clash.specs.Clash.{anyClash};
 ghost use Rattle.store_record.specs.Reading.{Fills, imagesIn};
 ghost use Rattle.store_clash.specs.Opened.{OpenedStore};
 ghost use Rattle.store.specs.Held.{held, isUnfit, isBroken};
-ghost use Rattle.store.specs.Load.{imageOf, storeQuestions, imageQuestions, loadNumber, loadUsed, loadBytes};
+ghost use Rattle.store.specs.Load.{imageOf, storeQuestions, imageQuestions, appended, loadNumber, loadUsed, loadBytes};
 ghost use Rattle.store.specs.Loading.{imageWith, Readied, Digests, Loads, Fits};
 
 // The places in each manifest of a store, where all are canonical and good.
@@ -44,7 +45,7 @@ fn open_all(b: &[u8], v: Survey) -> Fit
     let mut places = [Places::none(); 64];
     let mut i = 0;
     while i < v.count {
-        let r = v.record(ImageIndex(i));
+        let r = v.records[i];
         let start = r.text;
         let end = r.end;
         match manifest::check(&b[start..end]) {
@@ -243,7 +244,7 @@ fn number_in(
     0
 }
 
-// Writes the record after the first `used` bytes.
+// Stores an image that no question refuses, and tells the new used count.
 fn append(
     a: Algorithm,
     signer: &[u8],
@@ -253,14 +254,53 @@ fn append(
     store: &mut [u8],
     used: usize,
 ) -> Answer
-    requires { ⌜ (size ≡ length (form (now manifest))) × (manifestTextNumber (now manifest) ≡ 0) × Digests a (now signer) (now digest) × Fits (imageWith a (now signer) (now digest) (now manifest)) (now store) used ⌝ }
-    ensures { λ r. ⌜ Loads 0 (imageWith a (now (signer .entry)) (now (digest .entry)) (now (manifest .entry))) (now (store .entry)) used r (now (store .exit)) ⌝ }
+    requires { ⌜ (size ≡ length (form (now manifest))) × (manifestTextNumber (now manifest) ≡ 0)
+        × Digests a (now signer) (now digest) × Fits (imageWith a (now signer) (now digest) (now manifest)) (now store) used ⌝ }
+    ensures { λ r. ⌜ Loads 0 (imageWith a (now (signer .entry)) (now (digest .entry)) (now (manifest .entry)))
+        (now (store .entry)) used r (now (store .exit)) ⌝ }
+{
+    let end = used + store_record::head_size(a, size) + size;
+    put_record(a, signer, digest, manifest, size, store, used);
+    Answer {
+        number: 0,
+        used: end,
+    }
+}
+
+// Puts the record after the first `used` bytes. It has no proof file, so that a body which leaves the writing out is refused at what it ensures.
+fn put_record(
+    a: Algorithm,
+    signer: &[u8],
+    digest: &[u8],
+    manifest: &[u8],
+    size: usize,
+    store: &mut [u8],
+    used: usize,
+)
+    requires { ⌜ (size ≡ length (form (now manifest))) × (manifestTextNumber (now manifest) ≡ 0)
+        × Digests a (now signer) (now digest) × Fits (imageWith a (now signer) (now digest) (now manifest)) (now store) used ⌝ }
+    ensures { λ _. ⌜ now (store .exit)
+        ≡ appended (now (store .entry)) used (recordOf (imageWith a (now (signer .entry)) (now (digest .entry)) (now (manifest .entry)))) ⌝ }
+{
+    write_record(a, signer, digest, manifest, size, store, used);
+}
+
+// Writes the record after the first `used` bytes: its start, and then the manifest's form.
+fn write_record(
+    a: Algorithm,
+    signer: &[u8],
+    digest: &[u8],
+    manifest: &[u8],
+    size: usize,
+    store: &mut [u8],
+    used: usize,
+)
+    requires { ⌜ (size ≡ length (form (now manifest))) × (manifestTextNumber (now manifest) ≡ 0)
+        × Digests a (now signer) (now digest) × Fits (imageWith a (now signer) (now digest) (now manifest)) (now store) used ⌝ }
+    ensures { λ _. ⌜ now (store .exit)
+        ≡ appended (now (store .entry)) used (recordOf (imageWith a (now (signer .entry)) (now (digest .entry)) (now (manifest .entry)))) ⌝ }
 {
     let head = store_record::write_head(a, signer, digest, size, &mut store[used..]);
     let at = used + head;
-    let written = text::canonical(manifest, &mut store[at..]);
-    Answer {
-        number: 0,
-        used: at + written.length,
-    }
+    text::write_taken(manifest, &mut store[at..]);
 }

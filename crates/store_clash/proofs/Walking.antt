@@ -18,7 +18,7 @@ use Rattle.manifest.specs.Names.{conflict}
 use Rattle.manifest.specs.Opened.{noPlaces, Opens}
 use Rattle.manifest.specs.declared.Places.{Places}
 use Rattle.store_record.specs.Image.{Image}
-use Rattle.store_record.specs.Reading.{between, heldIn, noRecord, imagesIn, RecordIn}
+use Rattle.store_record.specs.Reading.{between, heldIn, noRecord, imagesIn}
 use Rattle.store_record.specs.declared.Record.{Record}
 use Rattle.store_record.specs.declared.Survey.{Survey}
 use Rattle.store_clash.specs.Clash.{clash}
@@ -57,14 +57,10 @@ any-default xs k d h e =
     let p = drop-cons xs k e h in
     let q = drop-cons xs k d h in cc
 
-module _ (b : List ℕ) (v : Survey) (places : List Places) (o : OpenedStore b v places) (k : ℕ) (h : k < v .count) (r : Record) (e : r ≡ getD (v .records) k noRecord) where
-  -- The record at an index lies inside the store.
-  pub record-in : RecordIn b r
-  record-in = rw e (o .fills .each k h)
-
-  -- Its manifest is opened by the places at that index.
-  pub opened-at : (d : Places) → Opens (between b (r .text) (r .end)) (getD places k d)
-  opened-at d = rw (e, any-default places k noPlaces (omega (arith, o .room, o .fills .few)) d) (o .opens k h)
+-- The manifest of the record at an index is opened by the places there.
+pub opened-at : (b : List ℕ) (v : Survey) (places : List Places) → OpenedStore b v places → (k : ℕ) → k < v .count → (d : Places)
+    → Opens (between b (getD (v .records) k noRecord .text) (getD (v .records) k noRecord .end)) (getD places k d)
+opened-at b v places o k h d = rw (any-default places k noPlaces (omega (arith, o .room, o .fills .few)) d) (o .opens k h)
 
 -- tests that agree on what a list is mapped to
 any-mapped : {A B : Type 0} (f : A → B) (p q : B → Bool) → ((x : A) → p (f x) ≡ q (f x)) → (xs : List A) (k : ℕ) → anyOf p (drop k (map f xs)) ≡ anyOf q (drop k (map f xs))

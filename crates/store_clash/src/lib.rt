@@ -7,12 +7,12 @@ use reference_digests::algorithm::Algorithm;
 use store_record::Record;
 use store_record::Survey;
 ghost use mathlib.Core.Path.{_≡_};
-ghost use Prim.Native.Nat.{_≤_, _<_};
+ghost use Prim.Native.Nat.{_+_, _≤_, _<_};
 ghost use lib.ListN.{length, drop, getD};
 ghost use Rattle.laws.specs.Any.{anyOf};
-ghost use Rattle.manifest.specs.Names.{SelfSorted, ContentsSorted};
+ghost use Rattle.manifest.specs.Names.{NameSpace, SelfSorted, ContentsSorted};
 ghost use Rattle.manifest.specs.Opened.{Opens};
-ghost use Rattle.store_record.specs.Reading.{between, heldIn, imagesIn, RecordIn, Fills};
+ghost use Rattle.store_record.specs.Reading.{between, heldIn, imagesIn, noRecord, RecordIn, Fills};
 ghost use Rattle.store_clash.specs.Clash.{clash, anyClash};
 ghost use Rattle.store_clash.specs.Opened.{OpenedStore};
 ghost use Rattle.store_clash.specs.Signed.{one, isSigned, sharesWith, conflictsWith};
@@ -77,7 +77,7 @@ fn shares_with_any(
 {
     let mut j = i.0;
     while j < v.count {
-        let r = v.record(ImageIndex(j));
+        let r = v.records[j];
         let q = places[j];
         if shares_with(s, names, a, signer, b, r, q) {
             return true;
@@ -104,7 +104,7 @@ fn conflicts_with_any(
 {
     let mut j = i.0;
     while j < v.count {
-        let r = v.record(ImageIndex(j));
+        let r = v.records[j];
         let q = places[j];
         if conflicts_with(s, names, keys, a, signer, b, r, q) {
             return true;
@@ -121,7 +121,7 @@ fn has_signer(b: &[u8], v: Survey, a: Algorithm, signer: &[u8], i: ImageIndex) -
 {
     let mut j = i.0;
     while j < v.count {
-        let r = v.record(ImageIndex(j));
+        let r = v.records[j];
         if r.is_signed_by(b, a, signer) {
             return true;
         }
@@ -130,7 +130,33 @@ fn has_signer(b: &[u8], v: Survey, a: Algorithm, signer: &[u8], i: ImageIndex) -
     false
 }
 
-// The image of that algorithm and signer with the manifest s clashes with one of the store's images from index i on.
+// The image of that algorithm and signer with the manifest s clashes with one of the store's images from index i on. The arrays are lent, so that
+// they are made once for all images of a store; what they hold is overwritten.
+fn clashes_from(
+    s: &[u8],
+    p: Places,
+    a: Algorithm,
+    signer: &[u8],
+    b: &[u8],
+    v: Survey,
+    places: [Places; 64],
+    i: ImageIndex,
+    sorted: &mut [u16],
+    spare: &mut [u16],
+    keys: &mut [u16],
+) -> bool
+    requires { ⌜ Opens (now s) p × OpenedStore (now b) v places × NameSpace (now sorted) (now spare) × (16384 ≤ length (now keys)) ⌝ }
+    ensures { λ r. ⌜ r ≡ anyOf (clash (one a (now (signer .entry)) (now (s .entry)))) (drop (i .0) (imagesIn (now (b .entry)) v)) ⌝ }
+{
+    let n = names::sort_self(s, p, sorted, spare);
+    if shares_with_any(s, &sorted[..n], a, signer, b, v, places, i) {
+        return true;
+    }
+    let m = names::sort_contents(s, p, sorted, spare, keys);
+    conflicts_with_any(s, &sorted[..m], keys, a, signer, b, v, places, i)
+}
+
+// The same with arrays of its own, which are made where some image is of that signer.
 pub fn clashes_with_any(
     s: &[u8],
     p: Places,
@@ -149,13 +175,60 @@ pub fn clashes_with_any(
     }
     let mut sorted = [0u16; 4096];
     let mut spare = [0u16; 4096];
-    let n = names::sort_self(s, p, &mut sorted, &mut spare);
-    if shares_with_any(s, &sorted[..n], a, signer, b, v, places, i) {
-        return true;
-    }
     let mut keys = [0u16; 16384];
-    let m = names::sort_contents(s, p, &mut sorted, &mut spare, &mut keys);
-    conflicts_with_any(s, &sorted[..m], &keys, a, signer, b, v, places, i)
+    clashes_from(
+        s,
+        p,
+        a,
+        signer,
+        b,
+        v,
+        places,
+        i,
+        &mut sorted,
+        &mut spare,
+        &mut keys,
+    )
+}
+
+// The store's image with index i clashes with a later one.
+fn clashes_later(
+    b: &[u8],
+    v: Survey,
+    places: [Places; 64],
+    i: ImageIndex,
+    sorted: &mut [u16],
+    spare: &mut [u16],
+    keys: &mut [u16],
+) -> bool
+    requires { ⌜ OpenedStore (now b) v places × (i .0 < v .count) × NameSpace (now sorted) (now spare) × (16384 ≤ length (now keys)) ⌝ }
+    ensures { λ r. ⌜ r ≡ anyOf (clash (heldIn (now (b .entry)) (getD (v .records) (i .0) noRecord))) (drop (i .0 + 1) (imagesIn (now (b .entry)) v)) ⌝ }
+{
+    let k = i.0;
+    let r = v.records[k];
+    let a = r.algorithm;
+    let from = r.signer;
+    let to = r.manifest;
+    let next = ImageIndex(k + 1);
+    if !has_signer(b, v, a, &b[from..to], next) {
+        return false;
+    }
+    let start = r.text;
+    let end = r.end;
+    let p = places[k];
+    clashes_from(
+        &b[start..end],
+        p,
+        a,
+        &b[from..to],
+        b,
+        v,
+        places,
+        next,
+        sorted,
+        spare,
+        keys,
+    )
 }
 
 // Some two images of the store clash.
@@ -163,17 +236,23 @@ pub fn any_clash(b: &[u8], v: Survey, places: [Places; 64]) -> bool
     requires { ⌜ OpenedStore (now b) v places ⌝ }
     ensures { λ r. ⌜ r ≡ anyClash (imagesIn (now (b .entry)) v) ⌝ }
 {
+    if v.count < 2 {
+        return false;
+    }
+    let mut sorted = [0u16; 4096];
+    let mut spare = [0u16; 4096];
+    let mut keys = [0u16; 16384];
     let mut i = 0;
     while i < v.count {
-        let r = v.record(ImageIndex(i));
-        let start = r.text;
-        let end = r.end;
-        let from = r.signer;
-        let to = r.manifest;
-        let a = r.algorithm;
-        let p = places[i];
-        let next = ImageIndex(i + 1);
-        if clashes_with_any(&b[start..end], p, a, &b[from..to], b, v, places, next) {
+        if clashes_later(
+            b,
+            v,
+            places,
+            ImageIndex(i),
+            &mut sorted,
+            &mut spare,
+            &mut keys,
+        ) {
             return true;
         }
         i += 1;

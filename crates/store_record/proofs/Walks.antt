@@ -5,6 +5,7 @@ use mathlib.Core.List.{List}
 use mathlib.Core.Bool.{Bool, true, false, _||_}
 use native.Mathlib.Omega.{arith}
 use native.Mathlib.Numerals.{add-one}
+use native.Mathlib.Decide.{decLt}
 use mir.Val.{Val}
 use denote.Laws.{Is}
 use denote.Struct.Declared.{row}
@@ -13,7 +14,6 @@ use lib.Seq.{drop-cons, getD-take, length-take-le}
 use Rattle.laws.specs.Any.{anyOf, anyPair}
 use Rattle.store_record.specs.Image.{Image}
 use Rattle.store_record.specs.Reading.{heldIn, imagesIn, noRecord}
-use Rattle.store_record.specs.declared.Record.{Record}
 use Rattle.store_record.specs.declared.Survey.{Survey}
 use Rattle.store_record.proofs.Survey.{the-type}
 
@@ -77,25 +77,33 @@ module _ (s : List ℕ) (v : Survey) (fits : v .count ≤ length (v .records)) w
     pub pair-image-end : (p : Image → Image → Bool) → v .count ≤ k → anyPair p (drop k (imagesIn s v)) ≡ false
     pair-image-end p h = pair-dropped-end p (imagesIn s v) k (omega (arith, images-length))
 
-    module _ (r : Record) (e : r ≡ getD (v .records) k noRecord) (h : k < v .count) where
+    -- A loop reads the record at a position from the array, whose elements are `noRecord` where none stands.
+    module _ (h : k < v .count) where
       module _ (p : Image → Bool) where
         -- The image of the record at a position decides if it passes.
-        pub any-here : p (heldIn s r) ≡ true → anyOf p (drop k (imagesIn s v)) ≡ true
-        any-here t = any-image p h ∙ ap (λ (b : Bool). b || anyOf p (drop (k + 1) (imagesIn s v))) (ap (λ (r : Record). p (heldIn s r)) (sym e) ∙ t)
+        pub any-here : p (heldIn s (getD (v .records) k noRecord)) ≡ true → anyOf p (drop k (imagesIn s v)) ≡ true
+        any-here t = any-image p h ∙ ap (λ (b : Bool). b || anyOf p (drop (k + 1) (imagesIn s v))) t
 
         -- If it does not pass, those after it decide.
-        pub any-next : p (heldIn s r) ≡ false → anyOf p (drop k (imagesIn s v)) ≡ anyOf p (drop (k + 1) (imagesIn s v))
-        any-next t = any-image p h ∙ ap (λ (b : Bool). b || anyOf p (drop (k + 1) (imagesIn s v))) (ap (λ (r : Record). p (heldIn s r)) (sym e) ∙ t)
+        pub any-next : p (heldIn s (getD (v .records) k noRecord)) ≡ false → anyOf p (drop k (imagesIn s v)) ≡ anyOf p (drop (k + 1) (imagesIn s v))
+        any-next t = any-image p h ∙ ap (λ (b : Bool). b || anyOf p (drop (k + 1) (imagesIn s v))) t
 
       module _ (p : Image → Image → Bool) where
         -- The image of the record at a position decides if it passes with one after it.
-        pub pair-here : anyOf (p (heldIn s r)) (drop (k + 1) (imagesIn s v)) ≡ true → anyPair p (drop k (imagesIn s v)) ≡ true
-        pair-here t =
-            pair-image p h
-            ∙ ap (λ (b : Bool). b || anyPair p (drop (k + 1) (imagesIn s v))) (ap (λ (r : Record). anyOf (p (heldIn s r)) (drop (k + 1) (imagesIn s v))) (sym e) ∙ t)
+        pub pair-here : anyOf (p (heldIn s (getD (v .records) k noRecord))) (drop (k + 1) (imagesIn s v)) ≡ true → anyPair p (drop k (imagesIn s v)) ≡ true
+        pair-here t = pair-image p h ∙ ap (λ (b : Bool). b || anyPair p (drop (k + 1) (imagesIn s v))) t
 
         -- If it does not, those after it decide.
-        pub pair-next : anyOf (p (heldIn s r)) (drop (k + 1) (imagesIn s v)) ≡ false → anyPair p (drop k (imagesIn s v)) ≡ anyPair p (drop (k + 1) (imagesIn s v))
-        pair-next t =
-            pair-image p h
-            ∙ ap (λ (b : Bool). b || anyPair p (drop (k + 1) (imagesIn s v))) (ap (λ (r : Record). anyOf (p (heldIn s r)) (drop (k + 1) (imagesIn s v))) (sym e) ∙ t)
+        pub pair-next : anyOf (p (heldIn s (getD (v .records) k noRecord))) (drop (k + 1) (imagesIn s v)) ≡ false
+            → anyPair p (drop k (imagesIn s v)) ≡ anyPair p (drop (k + 1) (imagesIn s v))
+        pair-next t = pair-image p h ∙ ap (λ (b : Bool). b || anyPair p (drop (k + 1) (imagesIn s v))) t
+
+  -- Of fewer than two images no two pass.
+  pub pair-few : (p : Image → Image → Bool) → v .count < 2 → anyPair p (imagesIn s v) ≡ false
+  pair-few p h = by-count (decLt 0 (v .count))
+    where
+      by-count : Dec (0 < v .count) → anyPair p (imagesIn s v) ≡ false
+      by-count (yes m) =
+          pair-image 0 p m
+          ∙ (λ i. any-image-end 1 (p (heldIn s (getD (v .records) 0 noRecord))) (omega arith) i || pair-image-end 1 p (omega arith) i)
+      by-count (no m) = pair-image-end 0 p (omega arith)

@@ -7,8 +7,8 @@ ghost use mathlib.Core.Path.{_≡_};
 ghost use mathlib.Core.Bool.{false, _&&_};
 ghost use mathlib.Core.List.{_++_};
 ghost use lib.Dec.{eqb};
-ghost use Prim.Native.Nat.{_≤_, _<_};
-ghost use lib.ListN.{length, drop, getD};
+ghost use Prim.Native.Nat.{_≤_};
+ghost use lib.ListN.{length, drop};
 ghost use Rattle.laws.specs.Any.{anyOf};
 ghost use Rattle.laws.specs.Order.{same};
 ghost use Rattle.reference_digests.specs.Algorithms.{digestBytes, byteOf};
@@ -170,15 +170,6 @@ impl Survey {
             records,
         }
     }
-
-    // The record of the image with that index.
-    pub fn record(self, i: ImageIndex) -> Record
-        requires { ⌜ i .0 < 64 ⌝ }
-        ensures { λ r. ⌜ r ≡ getD (self .records) (i .0) noRecord ⌝ }
-    {
-        let k = i.0;
-        self.records[k]
-    }
 }
 
 // What is answered of bytes that no such records fill.
@@ -249,7 +240,7 @@ pub fn is_held(
 {
     let mut j = i.0;
     while j < v.count {
-        let r = v.record(ImageIndex(j));
+        let r = v.records[j];
         if r.has_id(s, a, signer, manifest) {
             return true;
         }
@@ -265,7 +256,7 @@ pub fn id_twice(s: &[u8], v: Survey) -> bool
 {
     let mut i = 0;
     while i < v.count {
-        let r = v.record(ImageIndex(i));
+        let r = v.records[i];
         let a = r.algorithm;
         let from = r.signer;
         let to = r.manifest;

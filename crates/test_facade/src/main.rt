@@ -1,16 +1,19 @@
 // Reads manifests from standard input, one to a line, or two with a tab between them, and prints what each says: its number; of a good one the length of its
 // canonical form, whether it is that form, what its layers are, whether it rejects, its instances, whether it has `noRestart`, `writableFS`, an
 // entrypoint and the variable A=b, and its signals. Of two good ones, whether the first accepts the image
-// sha224 with 28 bytes 0xaa as signer, 28 bytes 0xbb as manifest digest, and the second as its manifest.
+// sha224 with 28 bytes 0xaa as signer, 28 bytes 0xbb as manifest digest, and the second as its manifest; and which of its rules match that image.
 use manifest::Checked;
 use manifest::Fault;
 use manifest::Places;
 use manifest::SignalNumber;
+use manifest::names;
+use manifest::rules;
 use reference::LayerIndex;
 use reference::layer::Layer;
 use reference_digests::algorithm::Algorithm;
 ghost use Prim.Native.Nat.{_≤_};
 ghost use lib.ListN.{length};
+ghost use Rattle.manifest.specs.Names.{SelfSorted};
 ghost use Rattle.manifest.specs.Opened.{Opens};
 
 fn show_flag(b: bool) {
@@ -107,6 +110,28 @@ fn show_one(s: &[u8]) {
     }
 }
 
+// Which rules of s match the image whose manifest is t; its own aliases stand at the sorted positions `sorted`.
+fn show_rules(s: &[u8], p: Places, signer: &[u8], digest: &[u8], t: &[u8], sorted: &[u16])
+    requires { ⌜ Opens (now s) p × SelfSorted (now t) (now sorted) ⌝ }
+{
+    let n = rules::count(s, p);
+    let mut i = 0;
+    while i < n {
+        let rule = rules::nth(s, p, i);
+        show_flag(rules::matches(s, rule, Algorithm::Sha224, signer, digest, t, sorted));
+        i += 1;
+    }
+}
+
+fn show_matches(s: &[u8], p: Places, signer: &[u8], digest: &[u8], t: &[u8], q: Places)
+    requires { ⌜ Opens (now s) p × Opens (now t) q ⌝ }
+{
+    let mut sorted = [0u16; 4096];
+    let mut spare = [0u16; 4096];
+    let n = names::sort_self(t, q, &mut sorted, &mut spare);
+    show_rules(s, p, signer, digest, t, &sorted[..n]);
+}
+
 // Whether s accepts the image whose manifest is t.
 fn show_accepts(s: &[u8], p: Places, t: &[u8], q: Places)
     requires { ⌜ Opens (now s) p × Opens (now t) q ⌝ }
@@ -114,6 +139,7 @@ fn show_accepts(s: &[u8], p: Places, t: &[u8], q: Places)
     let signer = [0xaau8; 28];
     let digest = [0xbbu8; 28];
     show_flag(manifest::accepts(s, p, Algorithm::Sha224, &signer, &digest, t, q));
+    show_matches(s, p, &signer, &digest, t, q);
     io::write_all(1, b"\n");
 }
 

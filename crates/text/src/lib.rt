@@ -5,6 +5,7 @@ ghost use mathlib.Core.Path.{_≡_};
 ghost use mathlib.Core.List.{_++_};
 ghost use Rattle.text.specs.Keys.{KeyRoom, RootKeys, FormReady, refusedText, withCount};
 ghost use Rattle.text.specs.Answer.{faultNumber, faultPlace, checked, byTree, byFaults, isForm, form, canonicalNumber, canonicalLength, canonicalBytes, isCanonical};
+ghost use Rattle.text.specs.Question.{textNumber};
 ghost use Prim.Native.Nat.{_-_, _≤_};
 ghost use lib.ListN.{length, drop};
 ghost use Rattle.text_json.specs.Syntax.{Syntax};
@@ -230,6 +231,18 @@ fn write_value(
     ensures { λ r. ⌜ WritesValue (now (text .entry)) at 8 (now (out .entry)) (now (out .exit)) r ⌝ }
 {
     text_canonical::write_root(text, at, count, out, keys, spare)
+}
+
+// Writes the canonical form of a text that is taken at the start of `out`, and answers its length; what follows stays. No question is asked again.
+pub fn write_taken(text: &[u8], out: &mut [u8]) -> usize
+    requires { ⌜ (textNumber (now text) ≡ 0) × (length (form (now text)) ≤ length (now out)) ⌝ }
+    ensures { λ r. ⌜ r ≡ length (form (now (text .entry))) ⌝ }
+    ensures { λ _. ⌜ now (out .exit) ≡ form (now (text .entry)) ++ drop (length (form (now (text .entry)))) (now (out .entry)) ⌝ }
+{
+    let mut keys = [0u16; 4096];
+    let mut spare = [0u16; 4096];
+    let at = text_view::value::root(text);
+    text_canonical::write_value(text, at, 8, out, &mut keys, &mut spare)
 }
 
 // The text is taken and is its own canonical form.

@@ -171,7 +171,7 @@ returns-6 c =
     let a = begin (opening e) in
     let few : length (imagesIn (bytes a) (opening e .«open» .result .survey)) < mostImages =
     omega (arith, count e, opened e .fills .few, c .before .before .if4 .left) in
-    number-0 (size a) (images a) (its-image a) (sound e) (other (t .before .before .before)) (apart t) (now (a .args .manifest)) (a .pre .0 .opens .good)
+    number-0 (size a) (images a) (its-image a) (sound e) (other (t .before .before .before)) (apart t)
     (space t ∙ space-left (bytes a) (small (opening e)) _ (opened e .fills .images) (a .args .left) (its-image a) few (omega (arith, needed (c .before), c .if5 .left)))
 
 pub number-in-spec : {M : Type 1} → statement M

@@ -1,14 +1,15 @@
 -- `store::open_all` meets its contract. The loop keeps that the manifests of the records before i are opened; the measure is how many are left.
 use Prim.Native.Nat.{_-_, _≤_, _<_}
-use mathlib.Core.Path.{refl, sym, subst}
+use mathlib.Core.Path.{refl}
 use native.Mathlib.Omega.{arith}
 use borrow.Author.Needs.{needs}
 use borrow.Author.Tests.{not-true, not-false}
 use denote.Ref.{now}
-use lib.ListN.{length}
+use lib.ListN.{length, getD}
 use Rattle.manifest.specs.Answer.{Answers}
 use Rattle.manifest.proofs.Opening.{good-opens}
-use Rattle.store_record.specs.Reading.{between, RecordIn}
+use Rattle.store_record.specs.Reading.{between, noRecord, RecordIn}
+use Rattle.store_record.specs.declared.Record.{Record}
 use Rattle.store_record.proofs.Walks.{records-size}
 use Rattle.store.proofs.Opening.{textAt, refused-unfit, other-unfit, good-fit, OpenedTo, nothing-opened, found-unfit, one-opened, all-opened}
 use Rattle.store.proofs.open_all.Statement.{statement}
@@ -23,26 +24,29 @@ abbrev μ-loop : tie.MeasureT-loop
 abbrev start : tie.At-loop Inv-loop μ-loop → tie.Start Inv-loop μ-loop
 start l = l .before .before .before
 
-abbrev head : tie.After-record Inv-loop μ-loop → tie.At-loop Inv-loop μ-loop
-head c = c .before .before .before
+abbrev head : tie.After-r Inv-loop μ-loop → tie.At-loop Inv-loop μ-loop
+head c = c .before .before
 
-fits : (a : tie.Start Inv-loop μ-loop) → a .args .v .count ≤ length (a .args .v .records)
-fits a = omega (arith, records-size (a .args .v) (a .good .1 .0), a .pre .few)
+fits : (a : tie.Start Inv-loop μ-loop) → a .args .t2 .count ≤ length (a .args .t2 .records)
+fits a = omega (arith, records-size (a .args .t2) (a .good .1 .0), a .pre .few)
 
-is-in : (c : tie.After-record Inv-loop μ-loop) → RecordIn (now (start (head c) .args .b)) (c .«record» .result)
-is-in c =
-    let a = start (head c) in
-    subst (RecordIn (now (a .args .b))) (sym (c .«record» .ensures)) (a .pre .each (head c .loop .i) (c .before .if1 .taken))
+-- the record at the index
+abbrev the-record : tie.After-r Inv-loop μ-loop → Record
+the-record c = getD (start (head c) .args .t2 .records) (head c .loop .i) noRecord
 
-answers : (c : tie.After-check Inv-loop μ-loop) → let r = c .before .before in Answers (textAt (now (start (head r) .args .b)) (r .«record» .result)) (c .check .result)
+is-in : (c : tie.After-r Inv-loop μ-loop) → RecordIn (now (start (head c) .args .b)) (the-record c)
+is-in c = start (head c) .pre .each (head c .loop .i) (c .before .loop-test .taken)
+
+answers : (c : tie.After-check Inv-loop μ-loop)
+    → let r = c .before .before in Answers (textAt (now (start (head r) .args .b)) (the-record r)) (c .check .result)
 unfolding between
 answers c = c .check .ensures
 
 -- a place is free
-free : (c : tie.Else2 Inv-loop μ-loop) → head (c .before .before .before .before .before .before) .loop .i < 64
+free : (c : tie.Else1 Inv-loop μ-loop) → head (c .before .before .before .before .before .before) .loop .i < 64
 free c =
     let r = c .before .before .before .before .before .before in
-    omega (arith, r .before .if1 .taken, start (head r) .pre .few)
+    omega (arith, r .before .loop-test .taken, start (head r) .pre .few)
 
 none-requires : tie.Need-none-requires Inv-loop μ-loop
 none-requires c κs = search needs
@@ -50,8 +54,11 @@ none-requires c κs = search needs
 loop-holds : tie.Need-loop-holds Inv-loop μ-loop
 loop-holds c = nothing-opened _ _ _ refl
 
-record-requires : tie.Need-record-requires Inv-loop μ-loop
-record-requires c κs = omega (arith, c .if1 .taken, start (c .before .before) .pre .few)
+mul-r : tie.Need-mul-r Inv-loop μ-loop
+mul-r c = omega (arith, c .loop-test .taken, start (c .before) .pre .few)
+
+element-copy-out-r : tie.Need-element-copy-out-r Inv-loop μ-loop
+element-copy-out-r c = omega (arith, c .loop-test .taken, start (c .before) .pre .few)
 
 sub-check : tie.Need-sub-check Inv-loop μ-loop
 sub-check c = is-in c .text
@@ -74,7 +81,7 @@ returns c =
     let r = k .before .before in
     let l = head r in
     let a = start l in
-    found-unfit (now (a .args .b)) (a .args .v) (fits a) (l .loop .places) (l .loop .i) (l .loop .inv) (r .«record» .result) (r .«record» .ensures) (r .before .if1 .taken)
+    found-unfit (now (a .args .b)) (a .args .t2) (fits a) (l .loop .places) (l .loop .i) (l .loop .inv) (r .before .loop-test .taken)
     (refused-unfit _ _ (answers k) (c .enum-told .given .1))
 
 enum-known-canonical : tie.Need-enum-known-canonical Inv-loop μ-loop
@@ -87,8 +94,8 @@ returns-2 c =
     let r = k .before .before in
     let l = head r in
     let a = start l in
-    found-unfit (now (a .args .b)) (a .args .v) (fits a) (l .loop .places) (l .loop .i) (l .loop .inv) (r .«record» .result) (r .«record» .ensures) (r .before .if1 .taken)
-    (other-unfit _ _ (answers k) (d .canonical .given .1) (not-true _ (c .if2 .taken)))
+    found-unfit (now (a .args .b)) (a .args .t2) (fits a) (l .loop .places) (l .loop .i) (l .loop .inv) (r .before .loop-test .taken)
+    (other-unfit _ _ (answers k) (d .canonical .given .1) (not-true _ (c .if1 .taken)))
 
 mul-places : tie.Need-mul-places Inv-loop μ-loop
 mul-places c = omega (arith, free c)
@@ -100,7 +107,7 @@ add-i : tie.Need-add-i Inv-loop μ-loop
 add-i c = omega (arith, free c)
 
 loop-less : tie.Need-loop-less Inv-loop μ-loop
-loop-less c = omega (arith, c .before .before .before .before .before .before .before .if1 .taken)
+loop-less c = omega (arith, c .before .before .before .before .before .before .before .loop-test .taken)
 
 loop-again : tie.Need-loop-again Inv-loop μ-loop
 loop-again c =
@@ -109,14 +116,14 @@ loop-again c =
     let r = k .before .before in
     let l = head r in
     let a = start l in
-    one-opened (now (a .args .b)) (a .args .v) (fits a) (l .loop .places) (l .loop .i) (l .loop .inv) (r .«record» .result) (r .«record» .ensures) (r .before .if1 .taken)
-    (good-fit _ _ (answers k) (d .canonical .given .1) (not-false _ (c .if2 .left))) (a .pre .few) _ (good-opens _ (answers k) (d .canonical .given .1))
+    one-opened (now (a .args .b)) (a .args .t2) (fits a) (l .loop .places) (l .loop .i) (l .loop .inv) (r .before .loop-test .taken)
+    (good-fit _ _ (answers k) (d .canonical .given .1) (not-false _ (c .if1 .left))) (a .pre .few) _ (good-opens _ (answers k) (d .canonical .given .1))
 
 returns-3 : tie.Need-returns-3 Inv-loop μ-loop
 returns-3 c =
-    let l = c .before .before in
+    let l = c .before in
     let a = start l in
-    all-opened (now (a .args .b)) (a .args .v) (fits a) (l .loop .places) (l .loop .i) (l .loop .inv) (a .pre) (c .if1 .left)
+    all-opened (now (a .args .b)) (a .args .t2) (fits a) (l .loop .places) (l .loop .i) (l .loop .inv) (a .pre) (c .loop-test .left)
 
 pub open-all-spec : {M : Type 1} → statement M
 open-all-spec =
@@ -126,7 +133,8 @@ open-all-spec =
     μ-loop
     none-requires
     loop-holds
-    record-requires
+    mul-r
+    element-copy-out-r
     sub-check
     part-check-start
     part-check-end

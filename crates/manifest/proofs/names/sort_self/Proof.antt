@@ -1,6 +1,9 @@
 -- `manifest::names::sort_self` meets its contract: the names of the group `self` are sorted. Assumes nothing.
 use borrow.Author.Needs.{needs}
+use mathlib.Core.Path.{sym, _∙_}
+use lib.Seq.{length-take-le}
 use Rattle.manifest.proofs.Groups.{self-space, self-sorted}
+use Rattle.manifest.proofs.Limits.{self-sorted-length}
 use Rattle.manifest.proofs.names.sort_self.Statement.{statement}
 use Rattle.manifest.proofs.names.sort_self.Tie as tie
 
@@ -17,7 +20,9 @@ returns : tie.Need-returns
 returns c =
     let f = c .before .before .before .before in
     let a = f .before .before .before .before .before .before in
-    (f .sort-names .ensures .0, self-sorted _ _ (a .pre .0) _ (f .sort-names .ensures .1))
+    let n = f .sort-names .ensures in
+    let m = self-sorted _ _ (a .pre .0) _ (n .1) in
+    (n .0, m, sym (length-take-le _ _ (n .0)) ∙ self-sorted-length m)
 
 pub sort-self-spec : {M : Type 1} → statement M
 sort-self-spec = tie.close (tie.spec sort-names-requires same-length same-length-2 returns)
