@@ -1,10 +1,11 @@
-# make report   the canonical form of an example manifest, through a C host
-# make test     the gate: proofs, must-fail edits, tests
-# make bench    the library beside serde_json, Python's json and a host's own loading, and checking beside canonical
+# make report      an evening's images, loaded one after the other, and who shuts out whom
+# make canonical   the canonical form of an example manifest, through a C host
+# make test        the gate: proofs, must-fail edits, tests
+# make bench       the library beside serde_json, Python's json and a host's own loading and judging, and checking beside canonical
 #
 # ACON_LIB=FILE uses another archive than the one that rt makes (not in `make test`).
 
-.PHONY: report test bench archive
+.PHONY: report canonical test bench archive
 
 ifdef ACON_LIB
 archive:
@@ -14,7 +15,11 @@ archive:
 	rt staticlib acon
 endif
 
-report: archive
+report:
+	rt check roomreport
+	target/bin/roomreport < examples/room.txt
+
+canonical: archive
 	@mkdir -p target/examples
 	gcc -O2 -std=c11 -Wall -Wextra -Iinclude examples/canonical.c $(ACON_LIB) -o target/examples/canonical
 	target/examples/canonical examples/manifest.json

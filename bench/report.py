@@ -94,17 +94,17 @@ def asked(what, value, most, name=None):
         what, value, " (%s)" % name if name else "", most, "holds" if value <= most else "does not hold"))
 
 
-def load_rows(folder, samples, sample_time, made):
+def store_rows(folder, call, samples, sample_time, made):
     """Microseconds of the library and of the host's own code, and the library's stack, for each store."""
     paths = [case.path for case in made]
-    speed = lines(os.path.join(folder, "compare"), "load", str(samples), str(sample_time), *paths)
-    stack = lines(os.path.join(folder, "stack"), "load", *paths)
+    speed = lines(os.path.join(folder, "compare"), call, str(samples), str(sample_time), *paths)
+    stack = lines(os.path.join(folder, "stack"), call, *paths)
     return [(case, *(ns / 1000 for ns in speed[case.path]), int(stack[case.path][0])) for case in made]
 
 
 def report_loads(folder):
     """Plain stores, and what loading into the worst ones costs beside a plain one of their size."""
-    rows = load_rows(folder, SAMPLES, SAMPLE_TIME, stores.write_plain(os.path.join(folder, "stores")))
+    rows = store_rows(folder, "load", SAMPLES, SAMPLE_TIME, stores.write_plain(os.path.join(folder, "stores")))
     print()
     print("Loading an image into a store: microseconds for one call, median of %d samples" % SAMPLES)
     print("%-28s %8s %11s %10s %10s %9s %13s" % ("store", "bytes", "acon", "host", "acon/host", "ns/byte", "acon's stack"))
@@ -116,7 +116,7 @@ def report_loads(folder):
     asked("The library over the host's own code", *max((acon / host, 1, case.name) for case, acon, host, _ in rows))
     print("Time for a byte, 63 images over 8 images: %.2f; asked: as the bytes, 1.00" % (by_byte["63 images"] / by_byte["8 images"]))
 
-    large = load_rows(folder, LARGE_SAMPLES, LARGE_SAMPLE_TIME, stores.write_worst(os.path.join(folder, "stores")))
+    large = store_rows(folder, "load", LARGE_SAMPLES, LARGE_SAMPLE_TIME, stores.write_worst(os.path.join(folder, "stores")))
     (_, plain, _, _), *worst = large
     print()
     print("Loading an image into a store of 63 manifests of 16 KB: microseconds for one call, median of %d samples" % LARGE_SAMPLES)
@@ -126,6 +126,23 @@ def report_loads(folder):
     print()
     asked("Worst store over the plain one of its size", *max((acon / plain, 200, case.name) for case, acon, _, _ in worst))
     asked("Most stack of acon_load, in KB", max(used for _, _, _, used in rows + large) / 1024, 192)
+
+
+def report_judges(folder):
+    """Plain stores, and what judging the worst ones costs beside the plain one with as many images."""
+    to = os.path.join(folder, "judged")
+    rows = store_rows(folder, "judge", SAMPLES, SAMPLE_TIME, stores.write_judged(to, stores.judged_plain()))
+    worst = store_rows(folder, "judge", LARGE_SAMPLES, LARGE_SAMPLE_TIME, stores.write_judged(to, stores.judged_worst()))
+    _, plain, _, _ = rows[-1]
+    print()
+    print("Judging a store: microseconds for one call, median of %d samples (64 rules: %d)" % (SAMPLES, LARGE_SAMPLES))
+    print("%-28s %8s %11s %10s %10s %9s %13s" % ("store", "bytes", "acon", "host", "acon/host", "/plain", "acon's stack"))
+    for case, acon, host, used in rows + worst:
+        print("%-28s %8d %11.2f %10.2f %10.2f %9.2f %13d" % (case.name, case.store, acon, host, acon / host, acon / plain, used))
+    print()
+    asked("The library over the host's own code, plain stores", *max((acon / host, 1, case.name) for case, acon, host, _ in rows))
+    asked("Worst store over the plain one of 64 images", *max((acon / plain, 100, case.name) for case, acon, _, _ in worst))
+    asked("Most stack of acon_judge, in KB", max(used for _, _, _, used in rows + worst) / 1024, 192)
 
 
 def main():
@@ -171,6 +188,7 @@ def main():
     print("Most stack: %d bytes" % max(row[4] for row in rows.values()))
     report_checks(folder)
     report_loads(folder)
+    report_judges(folder)
 
 
 main()

@@ -1,8 +1,8 @@
-/* stack canonical FILE..., stack load FILE...: prints for each file how many
- * bytes of stack acon_canonical or acon_load used. The call runs on a stack that
- * is filled with a pattern; the lowest byte that changed shows how far down it
- * went. For acon_load a file is given without its ending: the store stands in
- * FILE.store, the image that is loaded in FILE.id and FILE.json. */
+/* stack canonical|load|judge FILE...: prints for each file how many bytes of
+ * stack acon_canonical, acon_load or acon_judge used. The call runs on a stack
+ * that is filled with a pattern; the lowest byte that changed shows how far down
+ * it went. For acon_load and acon_judge a file is given without its ending: the
+ * store stands in FILE.store, the image that is loaded in FILE.id and FILE.json. */
 #define _GNU_SOURCE
 #include "acon.h"
 
@@ -15,7 +15,7 @@
 enum { STACK = 16 << 20, TEXT = 1 << 16, BUFFER = 2 << 20, ID = 1 << 8, PATH = 1 << 12 };
 
 static uint8_t *stack, *from;
-static uint8_t text[TEXT], buffer[BUFFER], id[ID];
+static uint8_t text[TEXT], buffer[BUFFER], id[ID], report[ACON_REPORT_MAX];
 static size_t text_len, used, id_len;
 static uint64_t answer;
 static ucontext_t here, there;
@@ -37,6 +37,12 @@ static void load(void)
 {
     from = __builtin_frame_address(0);
     answer = acon_load(id, id_len, text, text_len, buffer, sizeof buffer, used);
+}
+
+static void judge(void)
+{
+    from = __builtin_frame_address(0);
+    answer = acon_judge(buffer, sizeof buffer, used, report, sizeof report);
 }
 
 /* Stack below the frame that calls, for the input that is there. */
@@ -74,17 +80,18 @@ int main(int argc, char **argv)
 {
     if (argc < 2)
         return 2;
-    int loads = strcmp(argv[1], "load") == 0;
+    int loads = strcmp(argv[1], "load") == 0, judges = strcmp(argv[1], "judge") == 0;
     stack = mmap(NULL, STACK, PROT_READ | PROT_WRITE, MAP_PRIVATE | MAP_ANONYMOUS, -1, 0);
     if (stack == MAP_FAILED)
         return 1;
     for (int i = 2; i < argc; i++) {
-        text_len = read_file(argv[i], loads ? ".json" : "", text, sizeof text);
-        if (loads) {
+        if (!judges)
+            text_len = read_file(argv[i], loads ? ".json" : "", text, sizeof text);
+        if (loads || judges)
             used = read_file(argv[i], ".store", buffer, sizeof buffer);
+        if (loads)
             id_len = read_file(argv[i], ".id", id, sizeof id);
-        }
-        size_t bytes = measure(loads ? load : canonical);
+        size_t bytes = measure(judges ? judge : loads ? load : canonical);
         if (acon_number(answer) != 0) {
             fprintf(stderr, "stack: %s is refused by %u\n", argv[i], acon_number(answer));
             return 1;

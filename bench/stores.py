@@ -1,4 +1,5 @@
-"""Stores, each with the image that is loaded into it: write_plain(FOLDER), write_worst(FOLDER)."""
+"""Stores, each with the image that is loaded into it: write_plain(FOLDER), write_worst(FOLDER); and stores that are judged:
+write_judged(FOLDER, judged_plain()), write_judged(FOLDER, judged_worst())."""
 
 import bisect
 import collections
@@ -120,19 +121,62 @@ def worst():
     yield ("64 rules", *store_of([inputs.many_rules(seed) for seed in range(IMAGES + 1)], True))
 
 
+# ---- Stores that are judged
+
+QUOTES = '\\"' * 26  # a start of names that is escaped throughout
+
+
+def rules_store(name, signer):
+    """64 names for itself in each image, and 64 rules by names that no image has, though each image's algorithm and signer match:
+    `name` gives the one with a number, and `signer` says whether rules name the signer or have `*`."""
+    r = random.Random(6)
+    own = [name(i) for i in range(64 * 64)]
+    other = [name(i) for i in range(64 * 64, 2 * 64 * 64)]
+    r.shuffle(own)
+    r.shuffle(other)
+    by = inputs.digest(r, "sha224")
+
+    def manifest(i):
+        rules = ["sha224/%s/%s" % (by if signer else "*", n) for n in other[64 * i:64 * i + 64]]
+        return inputs.canonical({"aconSpecVersion": [1, 0], "aliases": {"self": {".": own[64 * i:64 * i + 64]}},
+                                 "policy": {"accepts": rules, "rejectUnaccepted": True}})
+    return [Image("sha224", by, inputs.digest(r, "sha224"), manifest(i)) for i in range(64)]
+
+
+def judged_plain():
+    """Name and images."""
+    for count in (8, 40, 64):
+        yield "%d images" % count, worked_store(count)[0]
+
+
+def judged_worst():
+    yield "64 rules, short names", rules_store(lambda i: inputs.word(i, 3), False)
+    yield "64 rules, long names", rules_store(lambda i: "%s%06d" % ("a" * 110, i), False)
+    yield "64 rules, long names, signer", rules_store(lambda i: "%s%06d" % ("a" * 80, i), True)
+    yield "64 rules, escaped names", rules_store(lambda i: QUOTES + escaped(i) + inputs.word(i // 4096, 1), False)
+
+
+# ---- Files
+
 Made = collections.namedtuple("Made", "name store manifest path")  # the lengths of both; the path without its ending
+
+
+def write_files(folder, name, **parts):
+    """Writes the parts of a case, each by its ending; gives the path without it."""
+    os.makedirs(folder, exist_ok=True)
+    path = os.path.join(folder, name.replace(" ", "-").replace(",", ""))
+    for ending, data in parts.items():
+        with open("%s.%s" % (path, ending), "wb") as f:
+            f.write(data)
+    return path
 
 
 def write_all(folder, cases):
     """Writes for each case the store, and the ID and the manifest that are loaded."""
-    os.makedirs(folder, exist_ok=True)
     made = []
     for name, images, loaded in cases:
-        path = os.path.join(folder, name.replace(" ", "-").replace(",", ""))
         store, manifest = b"".join(map(record, images)), loaded.manifest.encode()
-        for ending, data in ((".store", store), (".id", "/".join(loaded[:3]).encode()), (".json", manifest)):
-            with open(path + ending, "wb") as f:
-                f.write(data)
+        path = write_files(folder, name, store=store, id="/".join(loaded[:3]).encode(), json=manifest)
         made.append(Made(name, len(store), len(manifest), path))
     return made
 
@@ -143,3 +187,9 @@ def write_plain(folder):
 
 def write_worst(folder):
     return write_all(folder, worst())
+
+
+def write_judged(folder, cases):
+    """Writes the store of each case."""
+    stores = [(name, b"".join(map(record, images))) for name, images in cases]
+    return [Made(name, len(store), 0, write_files(folder, name, store=store)) for name, store in stores]

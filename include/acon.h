@@ -52,8 +52,8 @@ enum {
  * outermost counting 1. */
 enum { ACON_TEXT_MAX = 16384, ACON_NESTING_MAX = 8 };
 
-/* Most images of a store. */
-enum { ACON_IMAGES_MAX = 64 };
+/* Most images of a store, and most bytes of a report. */
+enum { ACON_IMAGES_MAX = 64, ACON_REPORT_MAX = 2 * 64 * 63 };
 
 /* The number of an answer. */
 static inline unsigned acon_number(uint64_t answer)
@@ -100,6 +100,29 @@ uint64_t acon_canonical(const uint8_t *text, size_t text_len, uint8_t *out, size
  */
 uint64_t acon_load(const uint8_t *id, size_t id_len, const uint8_t *manifest, size_t manifest_len,
                    uint8_t *buffer, size_t buffer_len, size_t used);
+
+/* Judges the images of a store by their launch policies, and writes a report.
+ *
+ * The store is the first used bytes of a buffer, as for acon_load. An image
+ * accepts another if one of the rules in accepts of its policy matches that one.
+ * A chain is a list of images of the store in which each accepts the next. A
+ * guard is an image with rejectUnaccepted true. The report lists each pair of a
+ * guard and another image to which no chain leads from it, in two bytes: the
+ * guard's place, then the other's. A place is the index of an image's record in
+ * the store, from 0. Pairs stand by guard and then by other, each once.
+ *
+ * The store is admitted if the number is 0 and there are 0 pairs: every guard
+ * leads to every other image. Pairs are no refusal, and the host decides what
+ * follows from them.
+ *
+ * Number: 0, 11 or 20. It is 20 where the report buffer has fewer than two bytes
+ * for each pair; ACON_REPORT_MAX bytes are always enough. First value: the number
+ * of pairs. Second value: 0.
+ * On success the bytes of the report buffer past the pairs stay as they were. The
+ * store is only read.
+ */
+uint64_t acon_judge(const uint8_t *store, size_t store_len, size_t used, uint8_t *report,
+                    size_t report_len);
 
 #ifdef __cplusplus
 }

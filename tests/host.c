@@ -1,7 +1,7 @@
-/* A C host that calls acon_canonical on single cases, each written out with
- * what must come back. Every case is run with a buffer that is longer than the
- * output, one that fits exactly and, where there is an output, one that is a
- * byte short. */
+/* A C host that calls acon_canonical, and acon_judge on stores that it loads,
+ * on single cases, each written out with what must come back. Every case is run
+ * with a buffer that is longer than the output, one that fits exactly and, where
+ * there is an output, one that is a byte short. */
 #include "acon.h"
 
 #include <stdio.h>
@@ -394,6 +394,98 @@ static void long_texts(void)
     free(form);
 }
 
+/* ---- Judge */
+
+#define SIGNER "sha224/aaaaaaaaaaaaaaaaaaaaaaaaaaaaaaaaaaaaaaaaaaaaaaaaaaaaaaaa/"
+#define DIGITS "000000000000000000000000000000000000000000000000000000"
+#define A SIGNER DIGITS "0a"
+#define B SIGNER DIGITS "0b"
+#define C SIGNER DIGITS "0c"
+#define PLAIN "{\"aconSpecVersion\":[1,0]}"
+#define NAMED(name) "{\"aconSpecVersion\":[1,0],\"aliases\":{\"self\":{\".\":[\"" name "\"]}}}"
+#define ACCEPTS(rule) "{\"aconSpecVersion\":[1,0],\"policy\":{\"accepts\":[\"" rule "\"]}}"
+#define GUARD(rules) "{\"aconSpecVersion\":[1,0],\"policy\":{\"accepts\":[" rules "],\"rejectUnaccepted\":true}}"
+#define RULE(rule) "\"" rule "\""
+
+struct image {
+    const char *id, *manifest;
+};
+
+struct judged {
+    const char *what;
+    struct image images[4]; /* up to one with no ID */
+    size_t pairs;
+    const char *report;
+};
+
+static const struct judged judgeds[] = {
+    {"the empty store", {{0}}, 0, ""},
+    {"a guard alone", {{A, GUARD("")}}, 0, ""},
+    {"no guard", {{A, PLAIN}, {B, ACCEPTS(A)}}, 0, ""},
+    {"a guard and a stranger", {{A, GUARD("")}, {B, PLAIN}}, 1, "\0\1"},
+    {"a guard that is loaded later", {{A, PLAIN}, {B, GUARD("")}}, 1, "\1\0"},
+    {"a chain of two", {{A, GUARD(RULE(B))}, {B, ACCEPTS(C)}, {C, PLAIN}}, 0, ""},
+    {"its middle is not loaded", {{A, GUARD(RULE(B))}, {C, PLAIN}}, 1, "\0\1"},
+    {"a ring of guards", {{A, GUARD(RULE(B))}, {B, GUARD(RULE(C))}, {C, GUARD(RULE(A))}}, 0, ""},
+    {"two of the ring", {{A, GUARD(RULE(B))}, {B, GUARD(RULE(C))}}, 1, "\1\0"},
+    {"by guard and then by other", {{A, GUARD("")}, {B, PLAIN}, {C, GUARD(RULE(B))}}, 3, "\0\1\0\2\2\0"},
+    {"any image of the algorithm", {{A, GUARD(RULE("sha224/*/*"))}, {B, PLAIN}}, 0, ""},
+    {"any image of the signer", {{A, GUARD(RULE(SIGNER "*"))}, {B, PLAIN}}, 0, ""},
+    {"another algorithm", {{A, GUARD(RULE("sha256/*/*"))}, {B, PLAIN}}, 1, "\0\1"},
+    {"a name", {{A, GUARD(RULE("sha224/*/Job:10"))}, {B, NAMED("Job:10")}}, 0, ""},
+    {"the start of a name", {{A, GUARD(RULE("sha224/*/Job:1"))}, {B, NAMED("Job:10")}}, 1, "\0\1"},
+};
+
+static uint8_t store[4096];
+
+/* One call with a report buffer of `size` bytes: the packed answer, the report
+ * and every byte around it. */
+static void judge(const char *what, size_t used, size_t size, unsigned number, const char *report,
+                  size_t pairs)
+{
+    const uint8_t *name = (const uint8_t *)what;
+    for (size_t i = 0; i < sizeof buffer; i++)
+        buffer[i] = pattern(i);
+    uint64_t answer = acon_judge(store, sizeof store, used, buffer, size);
+    if (answer != ((uint64_t)pairs << 8 | number))
+        fail("judge: wrong answer", name, strlen(what), answer);
+    if (memcmp(buffer, report, 2 * pairs) != 0)
+        fail("judge: wrong report", name, strlen(what), answer);
+    for (size_t i = 2 * pairs; i < sizeof buffer; i++)
+        if (buffer[i] != pattern(i))
+            fail("judge: a byte past the report changed", name, strlen(what), answer);
+    checks++;
+}
+
+static void judge_all(void)
+{
+    for (size_t k = 0; k < sizeof judgeds / sizeof judgeds[0]; k++) {
+        const struct judged *j = &judgeds[k];
+        size_t used = 0;
+        for (const struct image *i = j->images; i->id; i++) {
+            uint64_t answer = acon_load((const uint8_t *)i->id, strlen(i->id), (const uint8_t *)i->manifest,
+                                        strlen(i->manifest), store, sizeof store, used);
+            if (acon_number(answer) != 0)
+                fail("judge: not loaded", (const uint8_t *)i->manifest, strlen(i->manifest), answer);
+            used = acon_first(answer);
+        }
+        size_t n = 2 * j->pairs;
+        judge(j->what, used, ACON_REPORT_MAX, 0, j->report, j->pairs);
+        judge(j->what, used, n, 0, j->report, j->pairs);
+        judge(j->what, used, n + 1, 0, j->report, j->pairs);
+        if (n > 0) {
+            judge(j->what, used, n - 1, ACON_NO_SPACE, "", 0);
+            judge(j->what, used, 0, ACON_NO_SPACE, "", 0);
+        }
+        /* more than the buffer has, and a record that is cut */
+        judge(j->what, sizeof store + 1, ACON_REPORT_MAX, ACON_BAD_STORE, "", 0);
+        if (used > 0) {
+            judge(j->what, used - 1, ACON_REPORT_MAX, ACON_BAD_STORE, "", 0);
+            judge(j->what, used - 1, 0, ACON_BAD_STORE, "", 0);
+        }
+    }
+}
+
 int main(void)
 {
     for (size_t i = 0; i < sizeof goods / sizeof goods[0]; i++)
@@ -403,6 +495,7 @@ int main(void)
         refused((const uint8_t *)bads[i].text, bads[i].len ? bads[i].len : strlen(bads[i].text),
                 bads[i].number);
     long_texts();
+    judge_all();
     printf("host: %lu calls answered as written down\n", checks);
     return 0;
 }

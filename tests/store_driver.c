@@ -1,13 +1,15 @@
-/* Loads images for stores.py. Input: commands, each a letter and what follows
- * it; numbers are so many bytes long, lowest first.
+/* Loads images and judges stores for histories.py. Input: commands, each a
+ * letter and what follows it; numbers are so many bytes long, lowest first.
  *
  *   N length(4) bytes                            a new buffer with these bytes
  *   P offset(4) length(4) bytes                  other bytes in the buffer
  *   L used(8) length(4) length(4) ID manifest    a load
+ *   J used(8) length(4) bytes                    a judge, with a report buffer of these bytes
  *
- * Output for each load: the packed answer (8), the place of the first byte of
- * the buffer that changed (4), how many there are from it to the last one that
- * changed (4), and these. Where none changed both numbers are 0.
+ * Output for each load and each judge: the packed answer (8), the place of the
+ * first byte of the buffer or the report buffer that changed (4), how many there
+ * are from it to the last one that changed (4), and these. Where none changed
+ * both numbers are 0. No other byte that is lent may change.
  *
  * What is lent lies between pages that must not be touched, and touches one of
  * them: by turns its first byte and its last. */
@@ -48,7 +50,7 @@ struct lent {
     uint8_t known[SPACE]; /* the bytes that have to stand there */
 };
 
-static struct lent ids, manifests, stores;
+static struct lent ids, manifests, stores, reports;
 
 static void prepare(struct lent *l)
 {
@@ -67,6 +69,12 @@ static void take(struct lent *l, size_t n)
     l->n = n;
     l->at = l->turn++ % 2 ? l->pages : l->pages + SPACE - n;
     memcpy(l->at, l->known, n);
+}
+
+static void unchanged(const struct lent *l, const char *what)
+{
+    if (memcmp(l->at, l->known, l->n) != 0)
+        fail(what);
 }
 
 /* ---- Commands */
@@ -88,6 +96,20 @@ static void answer(uint64_t n, unsigned bytes)
         putchar((int)(n & 0xff));
 }
 
+/* The bytes that a call changed, which are known from now on. */
+static void changes(struct lent *l)
+{
+    size_t first = 0, end = l->n;
+    while (first < end && l->at[first] == l->known[first])
+        first++;
+    while (end > first && l->at[end - 1] == l->known[end - 1])
+        end--;
+    answer(first < end ? first : 0, 4);
+    answer(end - first, 4);
+    fwrite(l->at + first, 1, end - first, stdout);
+    memcpy(l->known + first, l->at + first, end - first);
+}
+
 static void put(void)
 {
     size_t at = number(4), n = number(4);
@@ -104,18 +126,19 @@ static void load(void)
     take(&manifests, manifest_len);
     fflush(stdout); /* where the library crashes, the answers before are seen */
     answer(acon_load(ids.at, ids.n, manifests.at, manifests.n, stores.at, stores.n, used), 8);
-    if (memcmp(ids.at, ids.known, ids.n) != 0 || memcmp(manifests.at, manifests.known, manifests.n) != 0)
-        fail("an Image ID or a manifest changed");
+    unchanged(&ids, "an Image ID changed");
+    unchanged(&manifests, "a manifest changed");
+    changes(&stores);
+}
 
-    size_t first = 0, end = stores.n;
-    while (first < end && stores.at[first] == stores.known[first])
-        first++;
-    while (end > first && stores.at[end - 1] == stores.known[end - 1])
-        end--;
-    answer(first < end ? first : 0, 4);
-    answer(end - first, 4);
-    fwrite(stores.at + first, 1, end - first, stdout);
-    memcpy(stores.known + first, stores.at + first, end - first);
+static void judge(void)
+{
+    uint64_t used = number(8);
+    take(&reports, number(4));
+    fflush(stdout);
+    answer(acon_judge(stores.at, stores.n, used, reports.at, reports.n), 8);
+    unchanged(&stores, "a judge changed the store");
+    changes(&reports);
 }
 
 int main(void)
@@ -125,6 +148,7 @@ int main(void)
     prepare(&ids);
     prepare(&manifests);
     prepare(&stores);
+    prepare(&reports);
     stores.at = stores.pages;
     for (int c; (c = getchar()) != EOF;) {
         if (c == 'N')
@@ -133,6 +157,8 @@ int main(void)
             put();
         else if (c == 'L')
             load();
+        else if (c == 'J')
+            judge();
         else
             fail("bad input");
     }

@@ -3,7 +3,7 @@
     store_lines.py           compares crates/test_store/stdin and stdout with these
     store_lines.py --write   writes both files
 
-The number that each load gets is written out here beside it, from document 01's words."""
+The number that each load gets, and the number and the pairs of each judge, are written out here beside it, from document 01's words."""
 
 import json
 import os
@@ -11,11 +11,14 @@ import sys
 
 HERE = os.path.dirname(os.path.abspath(__file__))
 sys.path.insert(0, os.path.join(HERE, "reference"))
+from policy import judge  # noqa: E402
 from store import Image, load, number_bytes, read_id, record  # noqa: E402
 
 FOLDER = os.path.join(HERE, "..", "crates", "test_store")
-INPUT = 65536  # bytes that the program takes
+INPUT = 131072  # bytes that the program takes
 BUFFER = 32768  # the longest buffer
+REPORT = 8192  # the longest report buffer
+ROOMY = 2 * 64 * 63  # long enough for any report
 FILL = 0xEE
 DIGITS = {"sha224": 56, "sha256": 64, "sha384": 96}
 
@@ -31,7 +34,7 @@ class Bench:
     """A buffer and its used count, worked on line by line."""
 
     def __init__(self):
-        self.buffer, self.used, self.numbers = bytearray(), 0, []
+        self.buffer, self.used, self.numbers, self.reports = bytearray(), 0, [], []
 
     def new(self, words):
         size = decimal(words)
@@ -70,10 +73,19 @@ class Bench:
         after = self.buffer[self.used :]
         return [self.buffer[: self.used].hex().encode(), b"%d" % (len(after) - after.count(FILL))]
 
+    def judge(self, words):
+        size = decimal(words)
+        if size > REPORT:
+            raise Refused
+        number, pairs, written = judge(self.buffer, self.used, size)
+        self.reports.append((number, written))
+        return [b"%d %d" % (number, pairs), written.hex().encode(), b"0"]
+
     def answer(self, line):
         """What the program prints for a line."""
+        works = ((b"new ", self.new), (b"load ", self.load), (b"put ", self.put), (b"used ", self.set_used), (b"judge ", self.judge))
         try:
-            for word, work in ((b"new ", self.new), (b"load ", self.load), (b"put ", self.put), (b"used ", self.set_used)):
+            for word, work in works:
                 if line.startswith(word):
                     return work(line[len(word) :])
             if line == b"show":
@@ -112,14 +124,16 @@ def layer(digit, algorithm="sha224"):
     return algorithm + "/" + digit * DIGITS[algorithm]
 
 
-def text(**groups):
-    """A canonical manifest with aliases: `own` for `self`, and `contents`."""
-    aliases = {}
-    if "contents" in groups:
-        aliases["contents"] = groups["contents"]
-    if "own" in groups:
-        aliases["self"] = {".": groups["own"]}
-    return json.dumps({"aconSpecVersion": [1, 0], "aliases": aliases}, sort_keys=True, ensure_ascii=False, separators=(",", ":")).encode()
+def text(contents=None, own=None, accepts=None, guard=None):
+    """A canonical manifest with aliases, `own` for `self`, and a policy."""
+    aliases = {"contents": contents, "self": own and {".": own}}
+    policy = {"accepts": accepts, "rejectUnaccepted": guard}
+    value = {"aconSpecVersion": [1, 0]}
+    for field, members in (("aliases", aliases), ("policy", policy)):
+        members = {key: member for key, member in members.items() if member is not None}
+        if members:
+            value[field] = members
+    return json.dumps(value, sort_keys=True, ensure_ascii=False, separators=(",", ":")).encode()
 
 
 def made(given_id, manifest):
@@ -128,10 +142,10 @@ def made(given_id, manifest):
 
 
 class Lines:
-    """The lines, and the number that each load among them has to get."""
+    """The lines, the number that each load among them has to get, and the number and the report of each judge."""
 
     def __init__(self):
-        self.lines, self.numbers = [], []
+        self.lines, self.numbers, self.reports = [], [], []
 
     def line(self, line):
         self.lines.append(line)
@@ -142,6 +156,15 @@ class Lines:
     def load(self, number, given_id, manifest=V):
         self.line(b"load " + given_id + b" " + manifest)
         self.numbers.append(number)
+
+    def judge(self, *pairs, size=None):
+        """With a report buffer that fits, or of that size."""
+        self.line(b"judge %d" % (2 * len(pairs) if size is None else size))
+        self.reports.append((0, b"".join(map(bytes, pairs))))
+
+    def unjudged(self, number, size):
+        self.line(b"judge %d" % size)
+        self.reports.append((number, b""))
 
     def put(self, at, data):
         self.line(b"put %d %s" % (at, data.hex().encode()))
@@ -162,6 +185,7 @@ class Lines:
 def lengths(b):
     """Records, exact fits, and the bytes after a record."""
     b.show()  # before any buffer
+    b.judge()
     b.load(14, name("a", "b"))
     assert len(made(name("a", "b"), V)) == 83 and made(name("a", "b"), V)[0] == 0x52
     b.new(166)  # two images with V
@@ -354,23 +378,140 @@ def together(b):
 
 
 def full(b):
-    """64 images, one more load, and a 65th record put in by hand."""
-    b.new(8000)
+    """64 images, one more load, and a 65th record put in by hand. All but the first are guards that accept nobody."""
+    guard = text(guard=True)
+    first, each = len(made(name("a", "00"), text(own=["x"]))), len(made(name("a", "01"), guard))
+    b.new(9000)
     b.load(0, name("a", "00"), text(own=["x"]))
     for k in range(1, 64):
-        b.load(0, name("a", "%02x" % k))
-    first = len(made(name("a", "00"), text(own=["x"])))
+        b.load(0, name("a", "%02x" % k), guard)
     b.load(14, name("a", "ff"))
     b.load(13, name("a", "ff"), text(own=["x"]))
     b.load(12, name("a", "3f"), text(own=["x"]))
-    b.put(first + 63 * 83, made(name("a", "40"), V))
-    b.used(first + 64 * 83)
+    b.judge(*((k, other) for k in range(1, 64) for other in range(64) if other != k))
+    b.unjudged(20, 2 * 63 * 63 - 1)
+    b.put(first + 63 * each, made(name("a", "40"), V))
+    b.used(first + 63 * each + 83)
     b.load(11, name("a", "ff"))
-    b.used(first + 63 * 83)
+    b.unjudged(11, ROOMY)
+    b.used(first + 63 * each)
     b.load(14, name("a", "ff"))
-    b.used(first + 62 * 83)
+    b.used(first + 62 * each)
     b.load(0, name("a", "ff"))
     b.show()
+
+
+def chains(b):
+    """P10 and P11, both ways, and other chains."""
+    one, two, three = name("a", "1"), name("a", "2"), name("a", "3")
+    to = lambda given_id: [given_id.decode()]  # a rule for just that image
+    b.new(2000)
+    b.judge()  # the empty store
+    b.judge(size=1)
+    b.load(0, one, text(accepts=to(two), guard=True))  # P10: the only guard accepts the second, and that the third
+    b.judge()
+    b.load(0, three)
+    for size in (2, 3, 4, ROOMY, REPORT):  # the second is not loaded, so no chain runs through it
+        b.judge((0, 1), size=size)
+    b.unjudged(20, 1)
+    b.unjudged(20, 0)
+    b.load(0, two, text(accepts=to(three)))
+    b.judge()
+    b.judge(size=ROOMY)
+    b.new(2000)  # the same in another order
+    b.load(0, three)
+    b.judge()
+    b.load(0, two, text(accepts=to(three)))
+    b.judge()
+    b.load(0, one, text(accepts=to(two), guard=True))
+    b.judge()
+    b.new(2000)  # P11: three guards in a ring
+    b.load(0, one, text(accepts=to(two), guard=True))
+    b.load(0, two, text(accepts=to(three), guard=True))
+    b.judge((1, 0))
+    b.load(0, three, text(accepts=to(one), guard=True))
+    b.judge()
+    b.new(2000)  # the chain goes from the guard outward
+    b.load(0, one, text(guard=True))
+    b.load(0, two, text(accepts=to(one)))
+    b.judge((0, 1))
+    b.new(2000)  # it may run through another guard, which may have pairs of its own
+    b.load(0, one, text(accepts=to(two), guard=True))
+    b.load(0, two, text(accepts=to(three), guard=True))
+    b.load(0, three)
+    b.judge((1, 0))
+    b.new(2000)  # who accepts only itself, and who is no guard
+    b.load(0, one, text(accepts=to(one), guard=True))
+    b.judge()
+    b.load(0, two, text(accepts=[], guard=False))
+    b.load(0, three)
+    b.judge((0, 1), (0, 2))
+    b.new(2000)  # by guard and then by other
+    for k in "321":
+        b.load(0, name("a", k), text(guard=True))
+    b.judge((0, 1), (0, 2), (1, 0), (1, 2), (2, 0), (2, 1))
+    b.unjudged(20, 11)
+    b.judge((0, 1), (0, 2), (1, 0), (1, 2), (2, 0), (2, 1), size=13)
+
+
+def rules(b):
+    """A guard with one rule and an image: whether the rule matches."""
+    other, signer, digest = name("c", "d"), "c" * 56, "d" * 56
+    manifest = text(contents={layer("1"): ["ink", "well"]}, own=["Job:10", KA * 22, "well"])
+    matching = ["sha224/*/*", "sha224/%s/*" % signer, "sha224/*/" + digest, other.decode(), "sha224/*/Job:10", "sha224/%s/Job:10" % signer,
+                "sha224/*/" + KA * 22, "sha224/*/well"]
+    others = ["sha256/*/*", "sha384/*/Job:10",  # another algorithm
+              "sha224/%sd/*" % signer[1:], "sha224/%sd/Job:10" % signer[1:], "sha224/*/%sc" % digest[1:], "sha224/%s/%s" % (signer, signer),
+              "sha224/*/Job:1", "sha224/*/Job:100", "sha224/*/job:10",  # P12 and other names
+              "sha224/*/" + KA * 21, "sha224/*/" + KA * 21 + KHA,
+              "sha224/*/ink"]  # a name for a layer
+    for rule in matching + others:
+        b.new(2000)
+        b.load(0, name("a", "b"), text(accepts=[rule], guard=True))
+        b.load(0, other, manifest)
+        b.judge(*([(0, 1)] if rule in others else []))
+    b.new(2000)  # any one of the rules, and as they stand in a text that is not canonical
+    b.load(0, name("a", "b"), text(accepts=others[:4] + matching[:1] + others[4:6], guard=True))
+    b.load(0, other, manifest)
+    b.judge()
+    b.new(2000)
+    b.load(0, name("a", "b"), b' {"policy": {"rejectUnaccepted": true, "accepts": ["sha224\\/*\\/\\u004aob:\\"1"]}, "aconSpecVersion": [1, 0]}')
+    b.load(0, other, text(own=['Job:"1']))
+    b.judge()
+
+
+def spoiled(b):
+    """Judges of stores that are not well-formed: 11, whatever the report buffer."""
+    one = made(name("a", "b"), text(guard=True))
+    b.new(1000)
+    b.store(one, made(name("a", "c"), V))
+    b.judge((0, 1))
+    for used in (1, len(one) - 1, len(one) + 1, len(one) + 82, len(one) + 84, 1001, 2**32 + len(one), 2**64 - 7):
+        b.used(used)
+        b.unjudged(11, 2)
+    b.unjudged(11, 0)
+    b.used(len(one))
+    b.judge()
+    for at, old, new in ((0, one[:1], b"\0"), (1, b"\x01", b"\x04"), (len(one) - 1, b"}", b" ")):
+        b.put(at, new)
+        b.unjudged(11, 100)
+        b.put(at, old)
+    b.judge(size=100)
+    for records in ((one, one), (made(name("a", "b"), b'{"aconSpecVersion":[1, 0]}'),), (made(name("a", "b"), b"{}"),),
+                    (made(name("a", "b"), text(own=["x"])), made(name("a", "c"), text(own=["x"])))):
+        b.store(*records)
+        b.unjudged(11, 100)
+
+
+def long_ring(b):
+    """64 guards in a ring, by their names: before the last one each leads to those after it only."""
+    b.new(20000)
+    for k in range(64):
+        if k == 63:
+            b.judge(*((guard, other) for guard in range(63) for other in range(guard)))
+            b.unjudged(20, 63 * 62 - 1)
+        b.load(0, name("a", "%02x" % k), text(own=["n%d" % k], accepts=["sha224/*/n%d" % ((k + 1) % 64)], guard=True))
+    b.judge()
 
 
 def bad_lines(b):
@@ -379,7 +520,8 @@ def bad_lines(b):
     for line in (b"", b" ", b"new", b"new ", b"new x", b"new 32769", b"new -1", b"new 1 ", b"load", b"load x", b"put", b"put 0", b"put 0 0",
                  b"put 0 0g", b"put 0 AA", b"put 9 aabb", b"put 11 ", b"put 18446744073709551609 aa", b"put 99999999999999999999 aa",
                  b"put 0 " + b"00" * 11, b"put  00", b"used", b"used ", b"used 1x", b"used 18446744073709551610",
-                 b"used 18446744073709551615", b"used 18446744073709551616", b"show ", b"sho", b"shown", b"\xff"):
+                 b"used 18446744073709551615", b"used 18446744073709551616", b"show ", b"sho", b"shown", b"judge", b"judge ", b"judge x",
+                 b"judge 1 ", b"judge 8193", b"judge 18446744073709551616", b"\xff"):
         b.line(line)
     b.put(9, b"\xaa")
     b.put(10, b"")
@@ -390,7 +532,7 @@ def bad_lines(b):
 
 def lines():
     b = Lines()
-    for part in (lengths, numbers, canonical, clashes, order, damaged, unfit, together, full, bad_lines):
+    for part in (lengths, numbers, canonical, clashes, order, damaged, unfit, together, full, chains, rules, spoiled, long_ring, bad_lines):
         part(b)
     return b
 
@@ -406,6 +548,9 @@ def main():
         k = next(k for k, (x, y) in enumerate(zip(bench.numbers, made_here.numbers)) if x != y)
         line = [line for line in made_here.lines if line.startswith(b"load ") and b" " in line[5:]][k]
         sys.exit("store_lines: the reference gives %d and not %d: %r" % (bench.numbers[k], made_here.numbers[k], line[:400]))
+    if bench.reports != made_here.reports:
+        k = next(k for k, (x, y) in enumerate(zip(bench.reports, made_here.reports)) if x != y)
+        sys.exit("store_lines: judge %d: the reference gives %r and not %r" % (k, bench.reports[k], made_here.reports[k]))
     for kind, data in (("stdin", given), ("stdout", wanted)):
         path = os.path.join(FOLDER, kind)
         if sys.argv[1:] == ["--write"]:
@@ -414,7 +559,8 @@ def main():
         with open(path, "rb") as f:
             if f.read() != data:
                 sys.exit("store_lines: crates/test_store/%s is not what store_lines.py makes" % kind)
-    print("store_lines: %d lines of test_store, %d of them loads, are those made here" % (len(made_here.lines), len(bench.numbers)))
+    print("store_lines: %d lines of test_store, %d of them loads and %d judges, are those made here"
+          % (len(made_here.lines), len(bench.numbers), len(bench.reports)))
 
 
 main()

@@ -56,7 +56,7 @@ def parts(value):
 
 
 def refused_string(s):
-    return any(c < " " or c == "\x7f" or "\ud800" <= c <= "\udfff" for c in s)
+    return re.search("[\x00-\x1f\x7f\ud800-\udfff]", s) is not None
 
 
 def refused_number(s):

@@ -47,6 +47,7 @@ fn is_number(refused: Refused, number: u8) -> bool {
         Refused::SameId => number == 12,
         Refused::Clash => number == 13,
         Refused::Full => number == 14,
+        Refused::NoSpace => false,
     }
 }
 

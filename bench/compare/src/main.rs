@@ -1,10 +1,11 @@
 //! compare WHAT SAMPLES MICROSECONDS FILE...: times the library and what a host would
 //! use instead on each file, and prints the median of either in nanoseconds. WHAT is
-//! `canonical`, with texts, or `load`, with stores (see load.rs). A sample takes
-//! MICROSECONDS at least.
+//! `canonical`, with texts, or `load` or `judge`, with stores (see load.rs, judge.rs).
+//! A sample takes MICROSECONDS at least.
 
 mod canonical;
 mod host;
+mod judge;
 mod load;
 mod timing;
 
@@ -22,6 +23,7 @@ fn main() {
     match &what[..] {
         "canonical" => canonical::run(plan, paths),
         "load" => load::run(plan, paths),
-        _ => panic!("canonical or load"),
+        "judge" => judge::run(plan, paths),
+        _ => panic!("canonical, load or judge"),
     }
 }

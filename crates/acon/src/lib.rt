@@ -4,6 +4,7 @@ ghost use Prim.Native.Nat.{_<_};
 ghost use lib.ListN.{length};
 ghost use Rattle.text.specs.Answer.{canonicalNumber, canonicalLength, canonicalBytes};
 ghost use Rattle.store.specs.Load.{loadNumber, loadUsed, loadBytes};
+ghost use Rattle.policy.specs.Judge.{judgeNumber, judgePairs, judgeBytes};
 ghost use Rattle.acon.specs.Packed.{packed};
 
 // The canonical form of a JSON text, written at the start of `out`; the first value is its length.
@@ -24,6 +25,16 @@ pub extern "C" fn acon_load(id: &[u8], manifest: &[u8], buffer: &mut [u8], used:
 {
     let a = store::load(id, manifest, buffer, used);
     pack(a.number, a.used, 0)
+}
+
+// Judges the images in the first `used` bytes of `store`: writes the report's pairs at the start of `report`; the first value is their number.
+#[no_mangle]
+pub extern "C" fn acon_judge(store: &[u8], used: usize, report: &mut [u8]) -> u64
+    ensures { λ r. ⌜ r ≡ packed (judgeNumber (now (store .entry)) used (length (now (report .entry)))) (judgePairs (now (store .entry)) used (length (now (report .entry)))) 0 ⌝ }
+    ensures { λ _. ⌜ now (report .exit) ≡ judgeBytes (now (store .entry)) used (now (report .entry)) ⌝ }
+{
+    let a = policy::judge(store, used, report);
+    pack(a.number, a.pairs, 0)
 }
 
 fn pack(number: usize, first: usize, second: usize) -> u64

@@ -15,8 +15,10 @@ use Rattle.laws.specs.Order.{same}
 use Rattle.text.specs.Question.{textNumber}
 use Rattle.text.specs.Answer.{form}
 use Rattle.store_varint.specs.Varint.{varint, Parsed, number, no-number, readVarint}
-use Rattle.store_record.specs.Image.{Image}
 use Rattle.store_record.specs.Record.{recordOf}
+use Rattle.store.specs.Load.{imageOf}
+use Rattle.policy.specs.Judge.{judgeNumber, judgePairs, judgeBytes}
+use Rattle.history.specs.Calls.{Call, State, run, numbers}
 
 pub data Case : Type 0 where
   -- the text gets that number
@@ -41,6 +43,8 @@ pub data Case : Type 0 where
   not-shortest : List ℕ → Case
   -- the record of an image with that ID and that manifest has so many bytes, and this is the first
   recorded : List ℕ → List ℕ → ℕ → ℕ → Case
+  -- these loads in an empty store are all accepted, and judge then reports so many pairs, with these bytes
+  judged : List Call → ℕ → List ℕ → Case
 
 -- the number of the manifest that was read
 unfoldable pub numberRead : Read Syntax → ℕ
@@ -60,13 +64,24 @@ unfoldable pub isNone : Parsed → Bool
 isNone no-number = true
 isNone (number m r) = false
 
--- the image with that ID and that manifest
-unfoldable pub imageOf : List ℕ → List ℕ → Image
-imageOf i t = record { ids = imageId i ∷ []; text = t }
-
 unfoldable pub times : ℕ → List ℕ → List ℕ
 times zero c = []
 times (suc n) c = c ++ times n c
+
+-- every one of these numbers is 0
+unfoldable pub allZero : List ℕ → Bool
+allZero [] = true
+allZero (n ∷ ns) = eqb n 0 && allZero ns
+
+-- judge, with a report buffer of as many zeros as the bytes that it has to write
+unfoldable pub reports : State → ℕ → List ℕ → Bool
+reports s n r =
+    eqb (judgeNumber (s .buffer) (s .used) (length r)) 0
+    && (eqb (judgePairs (s .buffer) (s .used) (length r)) n && same (judgeBytes (s .buffer) (s .used) (times (length r) (0 ∷ []))) r)
+
+-- an empty store in a buffer of 800 bytes
+unfoldable pub emptyStore : List ℕ
+emptyStore = times 800 (0 ∷ [])
 
 unfoldable pub holds : Case → Bool
 holds (numbered s n) = eqb (textNumber s) n
@@ -79,6 +94,7 @@ holds (does-match r i names) = matches (rule r) (imageId i) names
 holds (no-match r i names) = not (matches (rule r) (imageId i) names)
 holds (encoded n b) = same (varint n) b && isRead n (readVarint b)
 holds (not-shortest b) = isNone (readVarint b)
+holds (judged cs n r) = allZero (numbers emptyStore cs) && reports (run emptyStore cs) n r
 holds (recorded i t n b) = eqb (length (recordOf (imageOf i t))) n && eqb (getD (recordOf (imageOf i t)) 0 0) b
 
 unfoldable pub every : List Case → Bool
@@ -114,6 +130,35 @@ withSignals c =
     (0x7B ∷ 0x22 ∷ 0x61 ∷ 0x63 ∷ 0x6F ∷ 0x6E ∷ 0x53 ∷ 0x70 ∷ 0x65 ∷ 0x63 ∷ 0x56 ∷ 0x65 ∷ 0x72 ∷ 0x73 ∷ 0x69 ∷ 0x6F ∷ 0x6E ∷ 0x22 ∷ 0x3A ∷ 0x5B ∷ 0x31 ∷ 0x2C ∷ 0x30 ∷ 0x5D ∷ 0x2C ∷ 0x22 ∷ 0x73 ∷ 0x69 ∷ 0x67 ∷ 0x6E ∷ 0x61 ∷ 0x6C ∷ 0x73 ∷ 0x22 ∷ 0x3A ∷ 0x5B ∷ [])
     ++ (c ++ (0x5D ∷ 0x7D ∷ []))
 
+-- the Image ID sha224/, 56 letters a, / and 56 times that letter
+unfoldable pub idWith : ℕ → List ℕ
+idWith c = hash ++ (letters ++ (0x2F ∷ times 56 (c ∷ [])))
+
+-- a manifest whose one rule is sha224/*/ and 56 times that letter, and which goes on as given after the list of rules:
+-- {"aconSpecVersion":[1,0],"policy":{"accepts":["sha224/*/
+unfoldable pub accepting : ℕ → List ℕ → List ℕ
+accepting c rest =
+    (0x7B ∷ 0x22 ∷ 0x61 ∷ 0x63 ∷ 0x6F ∷ 0x6E ∷ 0x53 ∷ 0x70 ∷ 0x65 ∷ 0x63 ∷ 0x56 ∷ 0x65 ∷ 0x72 ∷ 0x73 ∷ 0x69 ∷ 0x6F ∷ 0x6E ∷ 0x22 ∷ 0x3A ∷ 0x5B ∷ 0x31 ∷ 0x2C ∷ 0x30 ∷ 0x5D ∷ 0x2C ∷ 0x22 ∷ 0x70 ∷ 0x6F ∷ 0x6C ∷ 0x69 ∷ 0x63 ∷ 0x79 ∷ 0x22 ∷ 0x3A ∷ 0x7B ∷ 0x22 ∷ 0x61 ∷ 0x63 ∷ 0x63 ∷ 0x65 ∷ 0x70 ∷ 0x74 ∷ 0x73 ∷ 0x22 ∷ 0x3A ∷ 0x5B ∷ 0x22 ∷ 0x73 ∷ 0x68 ∷ 0x61 ∷ 0x32 ∷ 0x32 ∷ 0x34 ∷ 0x2F ∷ 0x2A ∷ 0x2F ∷ [])
+    ++ (times 56 (c ∷ []) ++ (0x22 ∷ 0x5D ∷ rest))
+
+-- ,"rejectUnaccepted":true}} and }}
+abbrev pub asGuard : List ℕ
+asGuard =
+    0x2C ∷ 0x22 ∷ 0x72 ∷ 0x65 ∷ 0x6A ∷ 0x65 ∷ 0x63 ∷ 0x74 ∷ 0x55 ∷ 0x6E ∷ 0x61 ∷ 0x63 ∷ 0x63 ∷ 0x65 ∷ 0x70 ∷ 0x74 ∷ 0x65 ∷ 0x64 ∷ 0x22 ∷ 0x3A ∷ 0x74 ∷ 0x72 ∷ 0x75 ∷ 0x65 ∷ 0x7D ∷ 0x7D ∷ []
+
+abbrev pub asOther : List ℕ
+asOther = 0x7D ∷ 0x7D ∷ []
+
+-- a load of the image named by the first letter, with a rule for the one named by the second
+unfoldable pub guardLoad : ℕ → ℕ → Call
+guardLoad a b = record { id = idWith a; manifest = accepting b asGuard }
+
+unfoldable pub otherLoad : ℕ → ℕ → Call
+otherLoad a b = record { id = idWith a; manifest = accepting b asOther }
+
+unfoldable pub plainLoad : ℕ → Call
+plainLoad a = record { id = idWith a; manifest = versionOnly }
+
 -- Job:1
 abbrev pub jobOne : List ℕ
 jobOne = 0x4A ∷ 0x6F ∷ 0x62 ∷ 0x3A ∷ 0x31 ∷ []
@@ -148,6 +193,12 @@ cases =
     ∷ manifested (withSignals (0x2D ∷ 0x36 ∷ 0x35 ∷ [])) 7
     -- P9: V under sha224 is a record of 83 bytes; its first byte is 52
     ∷ recorded someId versionOnly 83 0x52
+    -- P10: A, the only guard, accepts B, and B accepts C: A, B, C admitted; A and C alone: one pair. A, B and C are 61, 62 and 63
+    ∷ judged (guardLoad 0x61 0x62 ∷ otherLoad 0x62 0x63 ∷ plainLoad 0x63 ∷ []) 0 []
+    ∷ judged (guardLoad 0x61 0x62 ∷ plainLoad 0x63 ∷ []) 1 (0 ∷ 1 ∷ [])
+    -- P11: guards A, B, C in a ring of single rules: all three admitted; A then B alone: one pair, 1 0
+    ∷ judged (guardLoad 0x61 0x62 ∷ guardLoad 0x62 0x63 ∷ guardLoad 0x63 0x61 ∷ []) 0 []
+    ∷ judged (guardLoad 0x61 0x62 ∷ guardLoad 0x62 0x63 ∷ []) 1 (1 ∷ 0 ∷ [])
     -- P12: a rule with the alias Job:1 does not match an image whose only alias is Job:10; one with Job:1 it does
     ∷ no-match (hash ++ (0x2A ∷ 0x2F ∷ jobOne)) someId ((jobOne ++ (0x30 ∷ [])) ∷ [])
     ∷ does-match (hash ++ (0x2A ∷ 0x2F ∷ jobOne)) someId (jobOne ∷ [])

@@ -1,10 +1,12 @@
-// Loads images into a store as the lines of standard input say, and prints what comes back:
+// Loads images into a store and judges it as the lines of standard input say, and prints what comes back:
 //
 //   new N              a buffer of N bytes, each 0xEE, with used count 0
 //   load ID MANIFEST   loads an image; prints the number and the new used count, which is kept where the number is 0
 //   put OFFSET HEX     writes bytes into the buffer, each as two hexadecimal digits
 //   used N             sets the used count
 //   show               prints the bytes up to the used count, and on a line of its own how many after them are not 0xEE any more
+//   judge N            judges the store with a report buffer of N bytes, each 0xEE; prints the number and the number of pairs, then the
+//                      pairs and what follows them as `show` does
 //
 // A line that is none of these, or that asks for bytes which the buffer does not have, prints `bad`.
 ghost use Prim.Native.Nat.{_≤_, _<_, _*_};
@@ -163,6 +165,14 @@ fn print_bytes(s: &[u8]) {
     io::write_all(1, b"\n");
 }
 
+// Two numbers of an answer, on a line.
+fn print_two(number: usize, value: usize) {
+    io::print_decimal(1, number as u64);
+    io::write_all(1, b" ");
+    io::print_decimal(1, value as u64);
+    io::write_all(1, b"\n");
+}
+
 fn show(store: &[u8], used: usize) {
     if store.len() < used {
         print_bad();
@@ -215,10 +225,7 @@ fn load(words: &[u8], store: &mut [u8], used: usize) -> usize {
     }
     let from = space + 1;
     let a = store::load(&words[0..space], &words[from..], store, used);
-    io::print_decimal(1, a.number as u64);
-    io::write_all(1, b" ");
-    io::print_decimal(1, a.used as u64);
-    io::write_all(1, b"\n");
+    print_two(a.number, a.used);
     if a.number == 0 { a.used } else { used }
 }
 
@@ -230,6 +237,34 @@ fn set_used(words: &[u8], used: usize) -> usize {
             used
         }
         Number::Is(n) => n,
+    }
+}
+
+// Judges the store with this report buffer.
+fn judge_into(store: &[u8], used: usize, report: &mut [u8]) {
+    let a = policy::judge(store, used, report);
+    print_two(a.number, a.pairs);
+    let pairs = a.pairs;
+    if report.len() / 2 < pairs {
+        print_bad();
+        return;
+    }
+    show(report, pairs * 2);
+}
+
+// `judge`: how long the report buffer is.
+fn judge(words: &[u8], store: &[u8], used: usize) {
+    let mut space = [FILL; 8192];
+    let report: &mut [u8] = &mut space;
+    match decimal(words) {
+        Number::Bad => print_bad(),
+        Number::Is(n) => {
+            if report.len() < n {
+                print_bad();
+                return;
+            }
+            judge_into(store, used, &mut report[0..n]);
+        }
     }
 }
 
@@ -247,6 +282,11 @@ fn work(line: &[u8], store: &mut [u8], used: usize) -> usize {
     let counted = after(line, b"used ");
     if 0 < counted {
         return set_used(&line[counted..], used);
+    }
+    let judged = after(line, b"judge ");
+    if 0 < judged {
+        judge(&line[judged..], store, used);
+        return used;
     }
     let shown = after(line, b"show");
     if 0 < shown && shown == line.len() {
@@ -305,7 +345,7 @@ fn obey_all(s: &[u8], buffer: &mut [u8]) {
 }
 
 fn main() {
-    let mut input = io::large_buffer();
+    let mut input = [0u8; 131072];
     let n = io::read_full(0, &mut input);
     let mut buffer = [FILL; 32768];
     obey_all(&input[..n], &mut buffer);

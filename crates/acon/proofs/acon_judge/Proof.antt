@@ -1,0 +1,36 @@
+-- `acon::acon_judge` meets its contract. Assumes nothing.
+use Prim.Native.Nat.{ℕ}
+use mathlib.Core.Path.{ap₂, _∙_}
+use native.Mathlib.Omega.{arith}
+use denote.Ref.{now}
+use lib.ListN.{length}
+use Rattle.policy.specs.Judge.{judgePairs, judgeBytes}
+use Rattle.policy.proofs.Admitting.{judge-number-small, judge-pairs-small}
+use Rattle.acon.specs.Packed.{packed}
+use borrow.Author.Needs.{needs}
+use Rattle.acon.proofs.acon_judge.Statement.{statement}
+use Rattle.acon.proofs.acon_judge.Tie as tie
+
+judge-requires : tie.Need-judge-requires
+judge-requires c κs = search needs
+
+pack-requires : tie.Need-pack-requires
+unfolding judgePairs
+pack-requires c κs =
+    let a = c .before .before .before .before .before .before .args in
+    let e = c .before .before .judge .ensures in
+    let s = now (a .store) in
+    let n = length (now (a .report)) in
+    omega (arith, e .number, e .pairs, judge-number-small s (a .used) n, judge-pairs-small s (a .used) n)
+
+same-length : tie.Need-same-length
+same-length c = search needs
+
+returns : tie.Need-returns
+unfolding judgePairs judgeBytes
+returns c =
+    let e = c .before .before .before .judge .ensures in
+    (c .pack .ensures ∙ ap₂ (λ (n l : ℕ). packed n l 0) (e .number) (e .pairs), e .bytes)
+
+pub acon-judge-spec : {M : Type 1} → statement M
+acon-judge-spec = tie.close (tie.spec judge-requires pack-requires same-length returns)

@@ -1,0 +1,4 @@
+pub mod Calls
+pub mod Ledger
+pub mod Reports
+pub mod Demand3

@@ -1,0 +1,5 @@
+pub mod Chains
+pub mod Exact
+pub mod Admitting
+pub mod Reordering
+pub mod Judging

@@ -1,0 +1,4 @@
+pub mod Chain
+pub mod Pairs
+pub mod Judge
+pub mod Exact

@@ -1,0 +1,3 @@
+pub mod Marks
+pub mod Pairs
+pub mod Words

@@ -1,0 +1,4 @@
+pub mod Copying
+pub mod Joining
+pub mod Rows
+pub mod Sorting

@@ -1,0 +1,62 @@
+-- What `roomreport` prints (document 01, "On the bench"): "`load`, the line's index from 0 and its number for each line, then the pairs."
+use Prim.Native.Nat.{ℕ, zero, suc, _+_, _/_, _%_}
+use mathlib.Core.Path.{_≡_}
+use mathlib.Core.Bool.{true, false}
+use mathlib.Core.List.{List, [], _∷_, _++_}
+use lib.Dec.{ltb}
+use lib.ListN.{length, replicate}
+use Rattle.store.specs.Load.{appended}
+use Rattle.report_lines.specs.Lines.{linesOf, lineNumber, lineUsed, lineBytes}
+
+-- bytes are put at a place of a buffer, those after them stay, and r is the place after them
+pub record Puts (out : List ℕ) (at : ℕ) (bytes : List ℕ) (out′ : List ℕ) (r : ℕ) : Type 0 where
+  pub place : r ≡ at + length bytes
+  pub all : out′ ≡ appended out at bytes
+
+-- the decimal digits of n, the highest first, where n has at most that many
+unfoldable pub digitsOf : ℕ → ℕ → List ℕ
+digitsOf zero n = []
+digitsOf (suc k) n = elim (ltb n 10) [ true ↦ (0x30 + n) ∷ [] | false ↦ digitsOf k (n / 10) ++ (0x30 + n % 10) ∷ [] ]
+
+unfoldable pub decimal : ℕ → List ℕ
+decimal n = digitsOf (n + 1) n
+
+-- `load I N`, and the line's end
+unfoldable pub loadLine : ℕ → ℕ → List ℕ
+loadLine i n = (0x6C ∷ 0x6F ∷ 0x61 ∷ 0x64 ∷ 0x20 ∷ []) ++ (decimal i ++ (0x20 ∷ decimal n ++ (0x0A ∷ [])))
+
+-- `pairs K`
+unfoldable pub pairsLine : ℕ → List ℕ
+pairsLine k = (0x70 ∷ 0x61 ∷ 0x69 ∷ 0x72 ∷ 0x73 ∷ 0x20 ∷ []) ++ (decimal k ++ (0x0A ∷ []))
+
+-- `G O`, a guard's place and the other's
+unfoldable pub pairLine : ℕ → ℕ → List ℕ
+pairLine g o = decimal g ++ (0x20 ∷ decimal o ++ (0x0A ∷ []))
+
+-- what is printed for these lines, of which the first has index i, and the store after them
+unfoldable pub loadLines : ℕ → List (List ℕ) → List ℕ → ℕ → List ℕ
+loadLines i [] buffer used = []
+loadLines i (l ∷ ls) buffer used = loadLine i (lineNumber l buffer used) ++ loadLines (i + 1) ls (lineBytes l buffer used) (lineUsed l buffer used)
+
+unfoldable pub usedAfter : List (List ℕ) → List ℕ → ℕ → ℕ
+usedAfter [] buffer used = used
+usedAfter (l ∷ ls) buffer used = usedAfter ls (lineBytes l buffer used) (lineUsed l buffer used)
+
+unfoldable pub bytesAfter : List (List ℕ) → List ℕ → ℕ → List ℕ
+bytesAfter [] buffer used = buffer
+bytesAfter (l ∷ ls) buffer used = bytesAfter ls (lineBytes l buffer used) (lineUsed l buffer used)
+
+unfoldable pub pairLines : List (ℕ × ℕ) → List ℕ
+pairLines [] = []
+pairLines (p ∷ ps) = pairLine (p .0) (p .1) ++ pairLines ps
+
+-- "Its room has 32,768 bytes."
+unfoldable pub emptyStore : List ℕ
+emptyStore = replicate 32768 0
+
+-- what is printed for an input, where `judged` gives the pairs of the store in the first so many bytes of a buffer
+unfoldable pub outputOf : (List ℕ → ℕ → List (ℕ × ℕ)) → List ℕ → List ℕ
+outputOf judged input =
+    let ls = linesOf input in
+    let ps = judged (bytesAfter ls emptyStore 0) (usedAfter ls emptyStore 0) in
+    loadLines 0 ls emptyStore 0 ++ (pairsLine (length ps) ++ pairLines ps)
