@@ -1,17 +1,13 @@
 -- Tables and rows of marks in words of 64 bits: the mark of image j is bit j, the lowest being bit 0.
-use Prim.Native.Nat.{ℕ, zero, suc, _/_, _%_, _^_, _≤_, _<_}
+use Prim.Native.Nat.{ℕ, zero, suc, _/_, _%_, _^_}
 use mathlib.Core.Path.{_≡_}
 use mathlib.Core.Bool.{Bool, true, false}
 use mathlib.Core.List.{List, [], _∷_, map}
 use lib.Dec.{eqb}
-use lib.ListN.{length, take, getD}
+use lib.ListN.{take}
 use Rattle.policy_marks.specs.Pairs.{Pair, noReportSpace, pairsAfter, reportAfter}
 use Rattle.policy_marks.specs.declared.Table.{Table}
 use Rattle.policy_marks.specs.declared.Report.{Report}
-
--- the most images that a table has
-abbrev pub mostRows : ℕ
-mostRows = 64
 
 -- bit i of a word
 unfoldable pub bitAt : ℕ → ℕ → Bool

@@ -4,9 +4,9 @@ use mathlib.Core.Path.{_≡_}
 use mathlib.Core.Bool.{true, false}
 use mathlib.Core.List.{List, [], _∷_, _++_}
 use lib.Dec.{ltb}
-use lib.ListN.{length, replicate}
+use lib.ListN.{length}
 use Rattle.store.specs.Load.{appended}
-use Rattle.report_lines.specs.Lines.{linesOf, lineNumber, lineUsed, lineBytes}
+use Rattle.report_lines.specs.Lines.{lineNumber, lineUsed, lineBytes}
 
 -- bytes are put at a place of a buffer, those after them stay, and r is the place after them
 pub record Puts (out : List ℕ) (at : ℕ) (bytes : List ℕ) (out′ : List ℕ) (r : ℕ) : Type 0 where
@@ -45,18 +45,3 @@ usedAfter (l ∷ ls) buffer used = usedAfter ls (lineBytes l buffer used) (lineU
 unfoldable pub bytesAfter : List (List ℕ) → List ℕ → ℕ → List ℕ
 bytesAfter [] buffer used = buffer
 bytesAfter (l ∷ ls) buffer used = bytesAfter ls (lineBytes l buffer used) (lineUsed l buffer used)
-
-unfoldable pub pairLines : List (ℕ × ℕ) → List ℕ
-pairLines [] = []
-pairLines (p ∷ ps) = pairLine (p .0) (p .1) ++ pairLines ps
-
--- "Its room has 32,768 bytes."
-unfoldable pub emptyStore : List ℕ
-emptyStore = replicate 32768 0
-
--- what is printed for an input, where `judged` gives the pairs of the store in the first so many bytes of a buffer
-unfoldable pub outputOf : (List ℕ → ℕ → List (ℕ × ℕ)) → List ℕ → List ℕ
-outputOf judged input =
-    let ls = linesOf input in
-    let ps = judged (bytesAfter ls emptyStore 0) (usedAfter ls emptyStore 0) in
-    loadLines 0 ls emptyStore 0 ++ (pairsLine (length ps) ++ pairLines ps)

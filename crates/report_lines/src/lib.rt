@@ -5,14 +5,14 @@ ghost use Prim.Native.Nat.{_+_, _≤_, min};
 ghost use mathlib.Core.Path.{_≡_};
 ghost use lib.ListN.{length, drop};
 ghost use lib.Seq.{paste};
-ghost use Rattle.report_lines.specs.Lines.{before, lineNumber, lineUsed, lineBytes};
+ghost use Rattle.report_lines.specs.Lines.{before, mostLine, lineNumber, lineUsed, lineBytes};
 ghost use Rattle.report_lines.specs.Parts.{Takes};
 
 // The most bytes that a line may have.
 pub const MOST_LINE: usize = 16600;
 
 // As many bytes are kept of a line: one more, so that a line that is too long is known by them.
-pub const KEPT: usize = 16601;
+const KEPT: usize = 16601;
 
 // The number of a line, and the used count for the next one.
 pub struct Loaded {
@@ -25,6 +25,13 @@ pub struct Taken {
     pub at: usize,
     pub length: usize,
     pub ended: bool,
+}
+
+// What is kept of a line: an array with space for one byte more than a line may have.
+pub fn line_buffer() -> [u8; KEPT]
+    ensures { λ r. ⌜ mostLine + 1 ≡ length r ⌝ }
+{
+    [0; KEPT]
 }
 
 // Where the first such byte is, from `at` on; the length where there is none.

@@ -146,7 +146,7 @@ fn report(store: &[u8], used: usize, out: &mut [u8], unprinted: usize)
 
 fn main() {
     let mut store = [0u8; 32768];
-    let mut kept = [0u8; report_lines::KEPT];
+    let mut kept = report_lines::line_buffer();
     let mut part = io::large_buffer();
     let mut out = io::large_buffer();
     let open = read_all(&mut part, &mut kept, &mut store, &mut out);
