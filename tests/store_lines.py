@@ -294,6 +294,16 @@ def clashes(b):
     b.load(13, name("a", "d"), text(contents={layer("1", "sha256"): ["ink"]}))
     b.load(0, name("ab", "d"), text(contents={layer("1", "sha256"): ["ink"]}))
     b.load(0, name("a", "d"), text(contents={layer("2"): ["In", "ink ", "inks", "in"]}))
+    names = ["anvil", "brush", "cyan", "duct", "ex", "flap", "gripper"]  # looked up among others, of one image and of the other
+    for mine, theirs in ((names, [one]) for one in names):
+        for first, second in ((mine, theirs), (theirs, mine)):
+            for group in ("own", "contents"):
+                b.new(2000)
+                b.load(0, name("a", "b"), text(**{group: first if group == "own" else {layer("1"): first}}))
+                b.load(13, name("a", "c"), text(**{group: second if group == "own" else {layer("2"): second}}))
+    b.new(2000)
+    b.load(0, name("a", "b"), text(own=names, contents={layer("1"): names}))
+    b.load(0, name("a", "c"), text(own=["anvi", "bruss", "cyam", "duct ", "e", "zinc"], contents={layer("2"): ["anvi", "bruss", "cyam", "duct ", "e", "zinc"]}))
 
 
 def order(b):
@@ -470,6 +480,15 @@ def rules(b):
         b.load(0, name("a", "b"), text(accepts=[rule], guard=True))
         b.load(0, other, manifest)
         b.judge(*([(0, 1)] if rule in others else []))
+    for algorithm in ("sha256", "sha384"):  # longer digests: the first that differs in its last digit is another
+        longer = name("c", "d", algorithm)
+        signer, digest = ("%s" % k * DIGITS[algorithm] for k in "cd")
+        for rule, pairs in (("/*/*", []), ("/%s/*" % signer, []), ("/*/" + digest, []), ("/%s/Job:10" % signer, []), ("/%sd/*" % signer[1:], [(0, 1)]),
+                            ("/%sd/*" % signer[:-1], [(0, 1)]), ("/*/%sc" % digest[:-1], [(0, 1)]), ("/*/Job:1", [(0, 1)])):
+            b.new(2000)
+            b.load(0, name("a", "b"), text(accepts=[algorithm + rule], guard=True))
+            b.load(0, longer, manifest)
+            b.judge(*pairs)
     b.new(2000)  # any one of the rules, and as they stand in a text that is not canonical
     b.load(0, name("a", "b"), text(accepts=others[:4] + matching[:1] + others[4:6], guard=True))
     b.load(0, other, manifest)

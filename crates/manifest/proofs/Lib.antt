@@ -4,9 +4,13 @@ pub mod Asking
 pub mod Canonical
 pub mod Checking
 pub mod Groups
+pub mod Indexing
 pub mod Limits
+pub mod Naming
 pub mod Objects
 pub mod Opened
 pub mod Opening
+pub mod Placing
 pub mod Questions
+pub mod RulePlaces
 pub mod Taken

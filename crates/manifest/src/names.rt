@@ -1,5 +1,5 @@
 // The names of two manifests compared, and the object of an alias. The positions of a manifest's names are sorted once, into arrays that the caller
-// lends; the names of other manifests are looked up among them.
+// lends, with their heads in another; the names of other manifests are looked up among them.
 use crate::Places;
 use reference::layer::Layer;
 ghost use mathlib.Core.Path.{_≡_};
@@ -10,6 +10,8 @@ ghost use Rattle.text_strings.specs.InString.{Inside, contentFrom};
 ghost use Rattle.reference_digests.specs.declared.algorithm.Algorithm.{Algorithm};
 ghost use Rattle.reference.specs.References.{layer-alias};
 ghost use Rattle.manifest_names.specs.Contents.{shareName};
+ghost use Rattle.manifest_names.specs.Heads.{HeadsOf};
+ghost use Rattle.manifest_names.specs.Placed.{SomeNames};
 ghost use Rattle.manifest.specs.Manifest.{selfNames, contents};
 ghost use Rattle.manifest.specs.Names.{conflict, NameSpace, SelfSorted, ContentsSorted, AliasRead, FindsObject};
 ghost use Rattle.manifest.specs.Opened.{Opens, Denotes};
@@ -30,13 +32,21 @@ pub fn sort_self(s: &[u8], p: Places, names: &mut [u16], spare: &mut [u16]) -> u
     manifest_names::sorted::sort_names(s, own, names, spare)
 }
 
-// The images of t and s have an alias in common; `names` are the sorted positions of those of s.
-pub fn shares_self(s: &[u8], names: &[u16], t: &[u8], q: Places) -> bool
-    requires { ⌜ SelfSorted (now s) (now names) × Opens (now t) q ⌝ }
+// Puts the heads of sorted names at the start of `heads`.
+pub fn fill_heads(s: &[u8], names: &[u16], heads: &mut [u32])
+    requires { ⌜ SomeNames (now s) (now names) × (length (now names) ≤ length (now heads)) ⌝ }
+    ensures { λ _. ⌜ HeadsOf (now (s .entry)) (now (names .entry)) (now (heads .exit)) ⌝ }
+{
+    manifest_names::headed::fill_heads(s, names, heads);
+}
+
+// The images of t and s have an alias in common; `names` are the sorted positions of those of s, with their heads.
+pub fn shares_self(s: &[u8], names: &[u16], heads: &[u32], t: &[u8], q: Places) -> bool
+    requires { ⌜ SelfSorted (now s) (now names) × HeadsOf (now s) (now names) (now heads) × Opens (now t) q ⌝ }
     ensures { λ r. ⌜ r ≡ shareName (selfNames (now (t .entry))) (selfNames (now (s .entry))) ⌝ }
 {
     let group = q.own;
-    manifest_names::shared::shares(s, names, t, group)
+    manifest_names::shared::shares(s, names, heads, t, group)
 }
 
 // Puts the positions of the aliases of layers, sorted by name, at the start of `names`, and into `keys` the position of the key of each; answers how
@@ -55,13 +65,13 @@ pub fn sort_contents(
     manifest_names::keyed::sort_contents(s, contents, names, spare, keys)
 }
 
-// An alias of a layer stands in t and in s with different objects; `names` and `keys` are what sorting the aliases of s gave.
-pub fn conflicts(s: &[u8], names: &[u16], keys: &[u16], t: &[u8], q: Places) -> bool
-    requires { ⌜ ContentsSorted (now s) (now names) (now keys) × Opens (now t) q ⌝ }
+// An alias of a layer stands in t and in s with different objects; `names` and `keys` are what sorting the aliases of s gave, with the names' heads.
+pub fn conflicts(s: &[u8], names: &[u16], heads: &[u32], keys: &[u16], t: &[u8], q: Places) -> bool
+    requires { ⌜ ContentsSorted (now s) (now names) (now keys) × HeadsOf (now s) (now names) (now heads) × Opens (now t) q ⌝ }
     ensures { λ r. ⌜ r ≡ conflict (contents (now (t .entry))) (contents (now (s .entry))) ⌝ }
 {
     let group = q.contents;
-    manifest_names::conflict::conflicts(s, names, keys, t, group)
+    manifest_names::conflict::conflicts(s, names, heads, keys, t, group)
 }
 
 // The object in s of the name from position q of t on.

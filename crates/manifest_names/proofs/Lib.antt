@@ -5,5 +5,6 @@ pub mod Walking
 pub mod Objects
 pub mod Founds
 pub mod Elsewhere
+pub mod Heading
 pub mod Keying
 pub mod Goods

@@ -3,3 +3,4 @@ pub mod Placed
 pub mod Groups
 pub mod Keyed
 pub mod Searches
+pub mod Heads

@@ -1,6 +1,6 @@
 // Whether a name stands in a group of one manifest and in a group of another, under different keys. The same name under the same key is no conflict.
+use crate::headed::find_headed;
 use crate::sorted::Search;
-use crate::sorted::find_name;
 use manifest_fields::member::Found;
 use text_view::Element;
 use text_view::Elements;
@@ -18,14 +18,23 @@ ghost use Rattle.manifest_fields.specs.Members.{Finds};
 ghost use Rattle.manifest_fields.specs.Rules.{foundMembers};
 ghost use Rattle.manifest_names.specs.Contents.{Named, namedUnder, namedIn, conflict, standsElsewhere};
 ghost use Rattle.manifest_names.specs.Groups.{Grouped, AliasGroup, AliasList};
+ghost use Rattle.manifest_names.specs.Heads.{HeadsOf};
 ghost use Rattle.manifest_names.specs.Placed.{SortedContents, SomeContents};
 
 // The name from position q of t on stands in s, under another key than the one from position k of t on.
-fn is_elsewhere(s: &[u8], names: &[u16], keys: &[u16], t: &[u8], q: usize, k: usize) -> bool
-    requires { ⌜ SomeContents (now s) (now keys) (now names) × Inside (now t) q × Inside (now t) k ⌝ }
+fn is_elsewhere(
+    s: &[u8],
+    names: &[u16],
+    heads: &[u32],
+    keys: &[u16],
+    t: &[u8],
+    q: usize,
+    k: usize,
+) -> bool
+    requires { ⌜ SomeContents (now s) (now keys) (now names) × HeadsOf (now s) (now names) (now heads) × Inside (now t) q × Inside (now t) k ⌝ }
     ensures { λ r. ⌜ ((xs : List Named) → SortedContents (now (s .entry)) xs (now (keys .entry)) (now (names .entry)) → r ≡ standsElsewhere (contentFrom (now (t .entry)) q) (contentFrom (now (t .entry)) k) xs) ⌝ }
 {
-    match find_name(s, names, t, q) {
+    match find_headed(s, names, heads, t, q) {
         Search::Missing => false,
         Search::At(p) => {
             let own = keys[p] as usize;
@@ -38,13 +47,14 @@ fn is_elsewhere(s: &[u8], names: &[u16], keys: &[u16], t: &[u8], q: usize, k: us
 fn conflicts_list(
     s: &[u8],
     names: &[u16],
+    heads: &[u32],
     keys: &[u16],
     t: &[u8],
     k: usize,
     at: usize,
     depth: usize,
 ) -> bool
-    requires { ⌜ SomeContents (now s) (now keys) (now names) × Inside (now t) k × AliasList (now t) at depth ⌝ }
+    requires { ⌜ SomeContents (now s) (now keys) (now names) × HeadsOf (now s) (now names) (now heads) × Inside (now t) k × AliasList (now t) at depth ⌝ }
     ensures { λ r. ⌜ ((xs : List Named) (vs : Values) → SortedContents (now (s .entry)) xs (now (keys .entry)) (now (names .entry)) → ValueAt (now (t .entry)) at depth (array vs) → r ≡ conflict (namedUnder (contentFrom (now (t .entry)) k) (texts vs)) xs) ⌝ }
 {
     let mut left = Elements::new(t, at, depth);
@@ -52,7 +62,7 @@ fn conflicts_list(
         match left.next(t) {
             Element::End => return false,
             Element::At(p, rest) => {
-                if is_elsewhere(s, names, keys, t, p + 1, k) {
+                if is_elsewhere(s, names, heads, keys, t, p + 1, k) {
                     return true;
                 }
                 left = rest;
@@ -62,8 +72,16 @@ fn conflicts_list(
 }
 
 // One of the aliases of the group at `at` of t does.
-fn conflicts_group(s: &[u8], names: &[u16], keys: &[u16], t: &[u8], at: usize, depth: usize) -> bool
-    requires { ⌜ SomeContents (now s) (now keys) (now names) × AliasGroup (now t) at depth ⌝ }
+fn conflicts_group(
+    s: &[u8],
+    names: &[u16],
+    heads: &[u32],
+    keys: &[u16],
+    t: &[u8],
+    at: usize,
+    depth: usize,
+) -> bool
+    requires { ⌜ SomeContents (now s) (now keys) (now names) × HeadsOf (now s) (now names) (now heads) × AliasGroup (now t) at depth ⌝ }
     ensures { λ r. ⌜ ((xs : List Named) (fs : Fields) → SortedContents (now (s .entry)) xs (now (keys .entry)) (now (names .entry)) → ValueAt (now (t .entry)) at depth (object fs) → r ≡ conflict (namedIn fs) xs) ⌝ }
 {
     let mut left = Members::new(t, at, depth);
@@ -71,7 +89,7 @@ fn conflicts_group(s: &[u8], names: &[u16], keys: &[u16], t: &[u8], at: usize, d
         match left.next(t) {
             Member::End => return false,
             Member::At { key, value, rest } => {
-                if conflicts_list(s, names, keys, t, key + 1, value, left.depth) {
+                if conflicts_list(s, names, heads, keys, t, key + 1, value, left.depth) {
                     return true;
                 }
                 left = rest;
@@ -80,13 +98,20 @@ fn conflicts_group(s: &[u8], names: &[u16], keys: &[u16], t: &[u8], at: usize, d
     }
 }
 
-// A name stands in a group of t that was looked for and in the group of s whose sorted aliases are given, under different keys.
-pub fn conflicts(s: &[u8], names: &[u16], keys: &[u16], t: &[u8], group: Found) -> bool
-    requires { ⌜ SomeContents (now s) (now keys) (now names) × Grouped (now t) 6 group ⌝ }
+// A name stands in a group of t that was looked for and in the group of s whose sorted aliases and their heads are given, under different keys.
+pub fn conflicts(
+    s: &[u8],
+    names: &[u16],
+    heads: &[u32],
+    keys: &[u16],
+    t: &[u8],
+    group: Found,
+) -> bool
+    requires { ⌜ SomeContents (now s) (now keys) (now names) × HeadsOf (now s) (now names) (now heads) × Grouped (now t) 6 group ⌝ }
     ensures { λ r. ⌜ ((xs : List Named) (o : Option Value) → SortedContents (now (s .entry)) xs (now (keys .entry)) (now (names .entry)) → Finds (now (t .entry)) 6 o group → r ≡ conflict (namedIn (foundMembers o)) xs) ⌝ }
 {
     match group {
         Found::Missing => false,
-        Found::At(p) => conflicts_group(s, names, keys, t, p, 6),
+        Found::At(p) => conflicts_group(s, names, heads, keys, t, p, 6),
     }
 }

@@ -1,6 +1,6 @@
 // Whether a group of one manifest and a group of another have a name in common. One group's names are sorted, and each name of the other is
 // looked up among them.
-use crate::sorted::has_name;
+use crate::headed::has_headed;
 use manifest_fields::member::Found;
 use text_view::Element;
 use text_view::Elements;
@@ -17,11 +17,12 @@ ghost use Rattle.manifest_fields.specs.Members.{Finds};
 ghost use Rattle.manifest_fields.specs.Rules.{foundMembers};
 ghost use Rattle.manifest_names.specs.Contents.{shareName};
 ghost use Rattle.manifest_names.specs.Groups.{Grouped, AliasGroup, AliasList};
+ghost use Rattle.manifest_names.specs.Heads.{HeadsOf};
 ghost use Rattle.manifest_names.specs.Placed.{SortedNames, SomeNames};
 
 // One of the strings of the array at `at` of t is one of the sorted names of s.
-fn shares_list(s: &[u8], names: &[u16], t: &[u8], at: usize, depth: usize) -> bool
-    requires { ⌜ SomeNames (now s) (now names) × AliasList (now t) at depth ⌝ }
+fn shares_list(s: &[u8], names: &[u16], heads: &[u32], t: &[u8], at: usize, depth: usize) -> bool
+    requires { ⌜ SomeNames (now s) (now names) × HeadsOf (now s) (now names) (now heads) × AliasList (now t) at depth ⌝ }
     ensures { λ r. ⌜ ((cs : List (List ℕ)) (vs : Values) → SortedNames (now (s .entry)) cs (now (names .entry)) → ValueAt (now (t .entry)) at depth (array vs) → r ≡ shareName (texts vs) cs) ⌝ }
 {
     let mut left = Elements::new(t, at, depth);
@@ -29,7 +30,7 @@ fn shares_list(s: &[u8], names: &[u16], t: &[u8], at: usize, depth: usize) -> bo
         match left.next(t) {
             Element::End => return false,
             Element::At(p, rest) => {
-                if has_name(s, names, t, p + 1) {
+                if has_headed(s, names, heads, t, p + 1) {
                     return true;
                 }
                 left = rest;
@@ -39,8 +40,8 @@ fn shares_list(s: &[u8], names: &[u16], t: &[u8], at: usize, depth: usize) -> bo
 }
 
 // One of the aliases of the group at `at` of t is one of them.
-fn shares_group(s: &[u8], names: &[u16], t: &[u8], at: usize, depth: usize) -> bool
-    requires { ⌜ SomeNames (now s) (now names) × AliasGroup (now t) at depth ⌝ }
+fn shares_group(s: &[u8], names: &[u16], heads: &[u32], t: &[u8], at: usize, depth: usize) -> bool
+    requires { ⌜ SomeNames (now s) (now names) × HeadsOf (now s) (now names) (now heads) × AliasGroup (now t) at depth ⌝ }
     ensures { λ r. ⌜ ((cs : List (List ℕ)) (fs : Fields) → SortedNames (now (s .entry)) cs (now (names .entry)) → ValueAt (now (t .entry)) at depth (object fs) → r ≡ shareName (namesOf fs) cs) ⌝ }
 {
     let mut left = Members::new(t, at, depth);
@@ -52,7 +53,7 @@ fn shares_group(s: &[u8], names: &[u16], t: &[u8], at: usize, depth: usize) -> b
                 value,
                 rest,
             } => {
-                if shares_list(s, names, t, value, left.depth) {
+                if shares_list(s, names, heads, t, value, left.depth) {
                     return true;
                 }
                 left = rest;
@@ -61,13 +62,13 @@ fn shares_group(s: &[u8], names: &[u16], t: &[u8], at: usize, depth: usize) -> b
     }
 }
 
-// A group of t that was looked for and the group of s whose sorted names are given have a name in common.
-pub fn shares(s: &[u8], names: &[u16], t: &[u8], group: Found) -> bool
-    requires { ⌜ SomeNames (now s) (now names) × Grouped (now t) 6 group ⌝ }
+// A group of t that was looked for and the group of s whose sorted names and their heads are given have a name in common.
+pub fn shares(s: &[u8], names: &[u16], heads: &[u32], t: &[u8], group: Found) -> bool
+    requires { ⌜ SomeNames (now s) (now names) × HeadsOf (now s) (now names) (now heads) × Grouped (now t) 6 group ⌝ }
     ensures { λ r. ⌜ ((cs : List (List ℕ)) (o : Option Value) → SortedNames (now (s .entry)) cs (now (names .entry)) → Finds (now (t .entry)) 6 o group → r ≡ shareName (namesOf (foundMembers o)) cs) ⌝ }
 {
     match group {
         Found::Missing => false,
-        Found::At(p) => shares_group(s, names, t, p, 6),
+        Found::At(p) => shares_group(s, names, heads, t, p, 6),
     }
 }

@@ -1,4 +1,3 @@
-pub mod RuleSearch
 pub mod Arrays
 pub mod Instances
 pub mod Listing

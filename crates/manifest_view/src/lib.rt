@@ -1,5 +1,3 @@
-// Reading a manifest in place: its entries and single values, and when a rule of it matches an image.
-pub mod accepting;
-pub mod accessor;
+// Reading a manifest in place: its entries and single values, whether a list has a string, and when a rule's SIGNER matches.
 pub mod entries;
 pub mod matching;

@@ -3,20 +3,20 @@
 use Prim.Native.Nat.{ℕ}
 use mathlib.Core.Path.{_≡_, refl, sym, ap, subst, _∙_}
 use mathlib.Core.Logic.{_↔_}
-use mathlib.Core.Bool.{Bool, false, _||_, or-assoc}
+use mathlib.Core.Bool.{false, _||_}
 use mathlib.Core.List.{List, _++_, List·Memᴰ as In, List·Memᴰ·head, List·Memᴰ·tail}
 use mathlib.Core.List.{List·Permᴰ as Permutation, List·Permᴰ·nil, List·Permᴰ·cons, List·Permᴰ·swap, List·Permᴰ·trans, Permᴰ·symm}
 use native.Mathlib.Omega.{arith}
 use lib.Dec.{ltb}
 use lib.ListN.{length, length-append}
-use Rattle.laws.specs.Any.{anyOf, anyPair}
-use Rattle.laws.proofs.Any.{any-permuted, or-exchanged}
+use Rattle.laws.proofs.Any.{any-permuted}
 use Rattle.laws.proofs.Permutations.{same-elements}
 use Rattle.store_record.specs.Image.{Image}
 use Rattle.store_record.specs.Ids.{shareId, idTwice}
 use Rattle.store_record.specs.Record.{recordOf, Shaped}
 use Rattle.store_record.specs.Store.{mostImages, storeOf, AllShaped, shaped}
 use Rattle.store_record.proofs.Sharing.{share-id-sym}
+use Rattle.store_names.proofs.Pairs.{pair-permuted}
 use Rattle.store_clash.specs.Clash.{clash, anyClash}
 use Rattle.store_clash.proofs.Clashing.{clash-sym}
 use Rattle.store.specs.Held.{isUnfit, tooMany, areUnsound}
@@ -26,9 +26,6 @@ use Rattle.policy.specs.Pairs.{pairs}
 use Rattle.policy.proofs.Chains.{at-in, in-at, at-one, distinct}
 use Rattle.policy.proofs.Exact.{listed-exactly}
 
-or-crossed : (a b c d : Bool) → ((a || b) || (c || d)) ≡ ((a || c) || (b || d))
-or-crossed a b c d = or-assoc a b (c || d) ∙ ap (λ (r : Bool). a || r) (or-exchanged b c d) ∙ sym (or-assoc a c (b || d))
-
 module _ {A : Type 0} where
   -- A list in another order has as many elements.
   pub length-permuted : {xs ys : List A} → Permutation xs ys → length xs ≡ length ys
@@ -36,20 +33,6 @@ module _ {A : Type 0} where
   length-permuted (List·Permᴰ·cons e p) = let l = length-permuted p in omega arith
   length-permuted (List·Permᴰ·swap e f) = refl
   length-permuted (List·Permᴰ·trans p q) = length-permuted p ∙ length-permuted q
-
-  module _ (p : A → A → Bool) where
-    -- A list in another order has two elements that pass a test exactly if the list has, where the test of two of its elements goes both ways.
-    pub pair-permuted : {xs ys : List A} → ((x y : A) → In x xs → In y xs → p x y ≡ p y x) → Permutation xs ys → anyPair p xs ≡ anyPair p ys
-    unfolding anyPair anyOf
-    pair-permuted s List·Permᴰ·nil = refl
-    pair-permuted s (List·Permᴰ·cons e q) =
-        let r = pair-permuted (λ x y m n. s x y (List·Memᴰ·tail m) (List·Memᴰ·tail n)) q in (λ i. any-permuted (p (e i)) q i || r i)
-    pair-permuted s (List·Permᴰ·swap {a = a} {b = b} {l = l} e f) =
-        ap (λ (t : Bool). (t || anyOf (p a) l) || (anyOf (p b) l || anyPair p l)) (s a b (List·Memᴰ·head refl) (List·Memᴰ·tail (List·Memᴰ·head refl)))
-        ∙ or-crossed (p b a) (anyOf (p a) l) (anyOf (p b) l) (anyPair p l)
-        ∙ (λ i. (p (f i) (e i) || anyOf (p (f i)) l) || (anyOf (p (e i)) l || anyPair p l))
-    pair-permuted s (List·Permᴰ·trans q r) =
-        pair-permuted s q ∙ pair-permuted (λ x y m n. s x y (same-elements x q .1 m) (same-elements y q .1 n)) r
 
 -- Images in another order are as a record holds them, if the images are.
 pub shaped-permuted : {xs ys : List Image} → Permutation xs ys → AllShaped xs → AllShaped ys

@@ -1,16 +1,15 @@
 -- Who accepts whom, rule by rule: the words of single rules are joined to the word of a list of rules.
-use Prim.Native.Nat.{ℕ, zero, suc, _+_, _^_, _≤_, _<_}
+use Prim.Native.Nat.{ℕ, _+_, _^_, _≤_, _<_}
 use mathlib.Core.Path.{_≡_, refl, sym, ap, ap₂, _∙_}
 use mathlib.Core.Bool.{Bool, false, _||_, or-false}
-use mathlib.Core.List.{List, [], _∷_, _++_, map}
+use mathlib.Core.List.{List, [], _∷_, map}
 use native.Mathlib.Omega.{arith}
-use native.Mathlib.Numerals.{add-one}
 use lib.Bits.{bitOr, or-lt}
 use lib.ListN.{length, take, getD}
 use lib.Pow.{pow-pos}
-use lib.Seq.{take-all, take-suc}
+use lib.Seq.{take-all}
 use Rattle.laws.specs.Any.{anyOf}
-use Rattle.laws.proofs.Any.{any-both, any-pointwise, any-swapped}
+use Rattle.laws.proofs.Any.{any-pointwise, any-swapped}
 use Rattle.reference.specs.Matches.{matches}
 use Rattle.reference.specs.References.{Id, Rule, image-id}
 use Rattle.manifest.specs.Manifest.{rules, selfNames, accepts}
@@ -21,6 +20,7 @@ use Rattle.policy_marks.proofs.Words.{row-or}
 use Rattle.store_record.specs.Image.{Image}
 use Rattle.store_record.specs.Reading.{between, heldIn}
 use Rattle.store_record.specs.declared.Record.{Record}
+use Rattle.store_names.proofs.Pairs.{any-last}
 use Rattle.policy_table.specs.Accepting.{acceptsImage, matchesImage}
 
 -- An image that a record holds is matched under its one ID.
@@ -56,13 +56,6 @@ row-unmarked : {A : Type 0} (xs : List A) → rowOf (length xs) 0 ≡ map (λ (x
 unfolding rowOf
 row-unmarked [] = refl
 row-unmarked (x ∷ xs) = ap (λ (l : List Bool). false ∷ l) (row-unmarked xs)
-
--- some of the first tests, or the next
-any-last : {B : Type 0} (p : B → Bool) (ys : List B) (j : ℕ) (d : B) → j < length ys → anyOf p (take (j + 1) ys) ≡ (anyOf p (take j ys) || p (getD ys j d))
-unfolding anyOf
-any-last {B} p ys j d h =
-    ap (λ (k : ℕ). anyOf p (take k ys)) (add-one j) ∙ ap (anyOf p) (take-suc ys j d h) ∙ any-both p (take j ys) (getD ys j d ∷ [])
-    ∙ ap (λ (b : Bool). anyOf p (take j ys) || b) (or-false (p (getD ys j d)))
 
 -- the word w has a mark for each of n elements that one of the first j tests takes
 pub record Joined {A B : Type 0} (f : B → A → Bool) (xs : List A) (ys : List B) (n j w : ℕ) : Type 0 where

@@ -1,4 +1,4 @@
-pub mod Copying
+pub mod Bits
 pub mod Joining
+pub mod Naming
 pub mod Rows
-pub mod Sorting

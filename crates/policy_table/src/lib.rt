@@ -1,6 +1,7 @@
-// Who accepts whom in a store, as a table. Each rule is read once and then asked of every image; an alias is looked up in the image's sorted names.
+// Who accepts whom in a store, as a table. The own aliases of all images stand in one index; each rule is read once, its alias is looked up there once,
+// and then it is asked of every image. Alias k of image i has the number 64 * i + k.
 use manifest::Places;
-use manifest::names;
+use manifest::index;
 use manifest::rules;
 use policy_marks::Table;
 use reference::ImageIndex;
@@ -8,87 +9,77 @@ use reference::rule::Rule;
 use store_record::Record;
 use store_record::Survey;
 ghost use mathlib.Core.Path.{_≡_};
-ghost use mathlib.Core.List.{map, _++_};
-ghost use Prim.Native.Nat.{_^_, _≤_, _<_};
-ghost use lib.ListN.{length, getD, drop};
+ghost use mathlib.Core.Bool.{_&&_};
+ghost use mathlib.Core.List.{map};
+ghost use Prim.Native.Nat.{ℕ, _+_, _*_, _/_, _^_, _<_};
+ghost use lib.Dec.{eqb};
+ghost use lib.ListN.{length, getD};
+ghost use Rattle.laws.specs.Any.{anyOf};
 ghost use Rattle.reference.specs.References.{Rule as PolicyRule};
-ghost use Rattle.manifest.specs.Names.{SelfSorted};
+ghost use Rattle.manifest.specs.Index.{nameAt, SomeNameIndex, asksFor};
+ghost use Rattle.manifest.specs.Manifest.{selfNames};
 ghost use Rattle.manifest.specs.Opened.{ReadsRule, SomeRule};
-ghost use Rattle.policy_marks.specs.Words.{rowOf, guardsIn, rowsIn};
+ghost use Rattle.policy_marks.specs.Words.{bitAt, rowOf, guardsIn, rowsIn};
 ghost use Rattle.store_record.specs.Reading.{between, heldIn, imagesIn, noRecord, RecordIn, Fills};
-ghost use Rattle.store_clash.specs.Opened.{OpenedStore};
+ghost use Rattle.store_names.specs.Opened.{OpenedStore};
 ghost use Rattle.policy_table.specs.Accepting.{acceptsImage, matchesImage, guards as guardsOf, marks};
-ghost use Rattle.policy_table.specs.Sorted.{SortedUpTo};
+ghost use Rattle.store_names.specs.Placed.{Indexed};
 
-// Writes positions at the start of `out`; what follows stays.
-fn copy(from: &[u16], out: &mut [u16])
-    requires { ⌜ length (now from) ≤ length (now out) ⌝ }
-    ensures { λ _. ⌜ now (out .exit) ≡ now (from .entry) ++ drop (length (now (from .entry))) (now (out .entry)) ⌝ }
+// The images that have the aliases with these numbers, as a row of marks.
+fn owners(order: &[u16]) -> u64
+    requires { ⌜ ((i : ℕ) → i < length (now order) → getD (now order) i 0 < 4096) ⌝ }
+    ensures { λ r. ⌜ ((j : ℕ) → bitAt r j ≡ anyOf (λ (e : ℕ). eqb (e / 64) j) (now (order .entry))) ⌝ }
 {
+    let mut word = 0;
     let mut i = 0;
-    while i < from.len() {
-        out[i] = from[i];
+    while i < order.len() {
+        let e = order[i] as usize;
+        let image = e / 64;
+        word |= 1u64 << image;
         i += 1;
     }
+    word
 }
 
-// Sorts the aliases that each image has for itself.
-fn sort_all(b: &[u8], v: Survey, places: [Places; 64], sorted: &mut [u16], counts: &mut [u16])
-    requires { ⌜ OpenedStore (now b) v places × (length (now sorted) ≡ 4096) × (length (now counts) ≡ 64) ⌝ }
-    ensures { λ _. ⌜ SortedUpTo (v .count) (now (b .entry)) v (now (sorted .exit)) (now (counts .exit)) ⌝ }
-{
-    let mut own = [0u16; 4096];
-    let mut spare = [0u16; 4096];
-    let mut i = 0;
-    while i < v.count {
-        let r = v.records[i];
-        let start = r.text;
-        let end = r.end;
-        let q = places[i];
-        let n = names::sort_self(&b[start..end], q, &mut own, &mut spare);
-        let at = 64 * i;
-        copy(&own[..n], &mut sorted[at..]);
-        counts[i] = n as u16;
-        i += 1;
-    }
-}
-
-// A rule that was read in s matches the image of record r, whose own aliases stand at the sorted positions `names`.
-fn matches_image(s: &[u8], x: Rule, b: &[u8], r: Record, names: &[u16]) -> bool
-    requires { ⌜ SomeRule (now s) x × RecordIn (now b) r × SelfSorted (between (now b) (r .text) (r .end)) (now names) ⌝ }
-    ensures { λ t. ⌜ ((y : PolicyRule) → ReadsRule (now (s .entry)) x y → t ≡ matchesImage y (heldIn (now (b .entry)) r)) ⌝ }
+// A rule that was read in s matches the image of record r; `named` tells whether the image has the alias that the rule asks for.
+fn matches_image(s: &[u8], x: Rule, b: &[u8], r: Record, named: bool) -> bool
+    requires { ⌜ SomeRule (now s) x × RecordIn (now b) r ⌝ }
+    ensures { λ t. ⌜ ((y : PolicyRule) → ReadsRule (now (s .entry)) x y → named ≡ anyOf (asksFor y) (selfNames (between (now (b .entry)) (r .text) (r .end)))
+        → t ≡ matchesImage y (heldIn (now (b .entry)) r)) ⌝ }
 {
     let a = r.algorithm;
     let signer = r.signer;
     let digest = r.manifest;
     let text = r.text;
-    let end = r.end;
-    rules::matches(
-        s,
-        x,
-        a,
-        &b[signer..digest],
-        &b[digest..text],
-        &b[text..end],
-        names,
-    )
+    rules::matches(s, x, a, &b[signer..digest], &b[digest..text], named)
+}
+
+// The images that have an alias which the rule asks for, that was read in s, as a row of marks; `order` is the index of all aliases.
+fn named_by(s: &[u8], x: Rule, b: &[u8], at: &[usize], order: &[u16]) -> u64
+    requires { ⌜ SomeRule (now s) x × SomeNameIndex (now b) (now at) (now order) × (length (now at) ≡ 4096) ⌝ }
+    ensures { λ r. ⌜ ((y : PolicyRule) → ReadsRule (now (s .entry)) x y
+        → (j : ℕ) → bitAt r j ≡ anyOf (λ (e : ℕ). asksFor y (nameAt (now (b .entry)) (now (at .entry)) e) && eqb (e / 64) j) (now (order .entry))) ⌝ }
+{
+    let r = index::asked(b, at, order, s, x);
+    let from = r.from;
+    let to = r.to;
+    owners(&order[from..to])
 }
 
 // The images that a rule which was read in s matches, as a row of marks.
-fn matched(s: &[u8], x: Rule, b: &[u8], v: Survey, sorted: &[u16], counts: &[u16]) -> u64
-    requires { ⌜ SomeRule (now s) x × Fills (now b) v × SortedUpTo (v .count) (now b) v (now sorted) (now counts) ⌝ }
+fn matched(s: &[u8], x: Rule, b: &[u8], v: Survey, at: &[usize], order: &[u16]) -> u64
+    requires { ⌜ SomeRule (now s) x × Fills (now b) v × Indexed (now b) v (now at) (now order) ⌝ }
     ensures { λ r. ⌜ ((y : PolicyRule) → ReadsRule (now (s .entry)) x y → rowOf (v .count) r ≡ map (matchesImage y) (imagesIn (now (b .entry)) v)) ⌝ }
     ensures { λ r. ⌜ r < 2 ^ v .count ⌝ }
 {
+    let named = named_by(s, x, b, at, order);
     let mut word = 0;
     let mut j = v.count;
     while 0 < j {
         j -= 1;
         let r = v.records[j];
-        let from = 64 * j;
-        let to = from + counts[j] as usize;
         word *= 2;
-        if matches_image(s, x, b, r, &sorted[from..to]) {
+        if matches_image(s, x, b, r, policy_marks::has(named, j)) {
             word += 1;
         }
     }
@@ -96,15 +87,8 @@ fn matched(s: &[u8], x: Rule, b: &[u8], v: Survey, sorted: &[u16], counts: &[u16
 }
 
 // The images that image i accepts, as a row of marks.
-fn row(
-    b: &[u8],
-    v: Survey,
-    places: [Places; 64],
-    sorted: &[u16],
-    counts: &[u16],
-    i: ImageIndex,
-) -> u64
-    requires { ⌜ OpenedStore (now b) v places × SortedUpTo (v .count) (now b) v (now sorted) (now counts) × (i .0 < v .count) ⌝ }
+fn row(b: &[u8], v: Survey, places: [Places; 64], at: &[usize], order: &[u16], i: ImageIndex) -> u64
+    requires { ⌜ OpenedStore (now b) v places × Indexed (now b) v (now at) (now order) × (i .0 < v .count) ⌝ }
     ensures { λ r. ⌜ rowOf (v .count) r ≡ map (acceptsImage (heldIn (now (b .entry)) (getD (v .records) (i .0) noRecord))) (imagesIn (now (b .entry)) v) ⌝ }
     ensures { λ r. ⌜ r < 2 ^ v .count ⌝ }
 {
@@ -114,12 +98,13 @@ fn row(
     let end = x.end;
     let s = &b[start..end];
     let p = places[k];
-    let n = rules::count(s, p);
+    let mut at_rules = [0usize; 64];
+    let n = rules::place(s, p, &mut at_rules);
     let mut word = 0;
     let mut j = 0;
     while j < n {
-        let rule = rules::nth(s, p, j);
-        word |= matched(s, rule, b, v, sorted, counts);
+        let rule = rules::read(s, at_rules[j]);
+        word |= matched(s, rule, b, v, at, order);
         j += 1;
     }
     word
@@ -152,13 +137,15 @@ pub fn table(b: &[u8], v: Survey, places: [Places; 64]) -> Table
     requires { ⌜ OpenedStore (now b) v places ⌝ }
     ensures { λ r. ⌜ (r .count ≡ v .count) × (guardsIn r ≡ guardsOf (imagesIn (now (b .entry)) v)) × (rowsIn r ≡ marks (imagesIn (now (b .entry)) v)) ⌝ }
 {
-    let mut sorted = [0u16; 4096];
+    let mut at = [0usize; 4096];
     let mut counts = [0u16; 64];
-    sort_all(b, v, places, &mut sorted, &mut counts);
+    store_names::place_all(b, v, places, &mut at, &mut counts);
+    let mut order = [0u16; 4096];
+    let n = store_names::index_all(b, &at, &counts, v.count, &mut order);
     let mut rows = [0u64; 64];
     let mut i = 0;
     while i < v.count {
-        rows[i] = row(b, v, places, &sorted, &counts, ImageIndex(i));
+        rows[i] = row(b, v, places, &at, &order[..n], ImageIndex(i));
         i += 1;
     }
     Table {

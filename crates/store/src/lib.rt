@@ -18,7 +18,7 @@ ghost use Rattle.store_record.specs.Record.{recordOf};
 ghost use Rattle.store_record.specs.Store.{mostImages, readRecords};
 ghost use Rattle.store_clash.specs.Clash.{anyClash};
 ghost use Rattle.store_record.specs.Reading.{Fills, imagesIn};
-ghost use Rattle.store_clash.specs.Opened.{OpenedStore};
+ghost use Rattle.store_names.specs.Opened.{OpenedStore};
 ghost use Rattle.store.specs.Held.{held, isUnfit, isBroken};
 ghost use Rattle.store.specs.Load.{imageOf, storeQuestions, imageQuestions, appended, loadNumber, loadUsed, loadBytes};
 ghost use Rattle.store.specs.Loading.{imageWith, Readied, Digests, Loads, Fits};

@@ -22,7 +22,7 @@ use Rattle.store_record.specs.Reading.{between, heldIn, noRecord, imagesIn}
 use Rattle.store_record.specs.declared.Record.{Record}
 use Rattle.store_record.specs.declared.Survey.{Survey}
 use Rattle.store_clash.specs.Clash.{clash}
-use Rattle.store_clash.specs.Opened.{OpenedStore}
+use Rattle.store_names.specs.Opened.{OpenedStore}
 use Rattle.store_clash.specs.Signed.{one, signedBy, isSigned, sharesWith, conflictsWith}
 use Rattle.store_clash.proofs.Clashing.{single, clash-split, clash-digest}
 

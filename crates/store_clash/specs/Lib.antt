@@ -1,4 +1,3 @@
 pub mod Keys
 pub mod Clash
 pub mod Signed
-pub mod Opened

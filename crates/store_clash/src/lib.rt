@@ -10,24 +10,26 @@ ghost use mathlib.Core.Path.{_≡_};
 ghost use Prim.Native.Nat.{_+_, _≤_, _<_};
 ghost use lib.ListN.{length, drop, getD};
 ghost use Rattle.laws.specs.Any.{anyOf};
+ghost use Rattle.manifest_names.specs.Heads.{HeadsOf};
 ghost use Rattle.manifest.specs.Names.{NameSpace, SelfSorted, ContentsSorted};
 ghost use Rattle.manifest.specs.Opened.{Opens};
 ghost use Rattle.store_record.specs.Reading.{between, heldIn, imagesIn, noRecord, RecordIn, Fills};
 ghost use Rattle.store_clash.specs.Clash.{clash, anyClash};
-ghost use Rattle.store_clash.specs.Opened.{OpenedStore};
+ghost use Rattle.store_names.specs.Opened.{OpenedStore};
 ghost use Rattle.store_clash.specs.Signed.{one, isSigned, sharesWith, conflictsWith};
 
-// The image of a record is of that signer, and has an alias of s for itself; `names` are those of s, sorted.
+// The image of a record is of that signer, and has an alias of s for itself; `names` are those of s, sorted, with their heads.
 fn shares_with(
     s: &[u8],
     names: &[u16],
+    heads: &[u32],
     a: Algorithm,
     signer: &[u8],
     b: &[u8],
     r: Record,
     q: Places,
 ) -> bool
-    requires { ⌜ SelfSorted (now s) (now names) × RecordIn (now b) r × Opens (between (now b) (r .text) (r .end)) q ⌝ }
+    requires { ⌜ SelfSorted (now s) (now names) × HeadsOf (now s) (now names) (now heads) × RecordIn (now b) r × Opens (between (now b) (r .text) (r .end)) q ⌝ }
     ensures { λ t. ⌜ t ≡ sharesWith a (now (signer .entry)) (now (s .entry)) (heldIn (now (b .entry)) r) ⌝ }
 {
     if !r.is_signed_by(b, a, signer) {
@@ -35,14 +37,15 @@ fn shares_with(
     }
     let start = r.text;
     let end = r.end;
-    names::shares_self(s, names, &b[start..end], q)
+    names::shares_self(s, names, heads, &b[start..end], q)
 }
 
 // The image of a record is of that signer, and has an alias of a layer that stands in s for another object; `names` and `keys` are what sorting
-// the aliases of s gave.
+// the aliases of s gave, with the names' heads.
 fn conflicts_with(
     s: &[u8],
     names: &[u16],
+    heads: &[u32],
     keys: &[u16],
     a: Algorithm,
     signer: &[u8],
@@ -50,7 +53,7 @@ fn conflicts_with(
     r: Record,
     q: Places,
 ) -> bool
-    requires { ⌜ ContentsSorted (now s) (now names) (now keys) × RecordIn (now b) r × Opens (between (now b) (r .text) (r .end)) q ⌝ }
+    requires { ⌜ ContentsSorted (now s) (now names) (now keys) × HeadsOf (now s) (now names) (now heads) × RecordIn (now b) r × Opens (between (now b) (r .text) (r .end)) q ⌝ }
     ensures { λ t. ⌜ t ≡ conflictsWith a (now (signer .entry)) (now (s .entry)) (heldIn (now (b .entry)) r) ⌝ }
 {
     if !r.is_signed_by(b, a, signer) {
@@ -58,13 +61,14 @@ fn conflicts_with(
     }
     let start = r.text;
     let end = r.end;
-    names::conflicts(s, names, keys, &b[start..end], q)
+    names::conflicts(s, names, heads, keys, &b[start..end], q)
 }
 
 // Some image of the store from index i on has an alias of s for itself.
 fn shares_with_any(
     s: &[u8],
     names: &[u16],
+    heads: &[u32],
     a: Algorithm,
     signer: &[u8],
     b: &[u8],
@@ -72,14 +76,14 @@ fn shares_with_any(
     places: [Places; 64],
     i: ImageIndex,
 ) -> bool
-    requires { ⌜ SelfSorted (now s) (now names) × OpenedStore (now b) v places ⌝ }
+    requires { ⌜ SelfSorted (now s) (now names) × HeadsOf (now s) (now names) (now heads) × OpenedStore (now b) v places ⌝ }
     ensures { λ r. ⌜ r ≡ anyOf (sharesWith a (now (signer .entry)) (now (s .entry))) (drop (i .0) (imagesIn (now (b .entry)) v)) ⌝ }
 {
     let mut j = i.0;
     while j < v.count {
         let r = v.records[j];
         let q = places[j];
-        if shares_with(s, names, a, signer, b, r, q) {
+        if shares_with(s, names, heads, a, signer, b, r, q) {
             return true;
         }
         j += 1;
@@ -91,6 +95,7 @@ fn shares_with_any(
 fn conflicts_with_any(
     s: &[u8],
     names: &[u16],
+    heads: &[u32],
     keys: &[u16],
     a: Algorithm,
     signer: &[u8],
@@ -99,14 +104,14 @@ fn conflicts_with_any(
     places: [Places; 64],
     i: ImageIndex,
 ) -> bool
-    requires { ⌜ ContentsSorted (now s) (now names) (now keys) × OpenedStore (now b) v places ⌝ }
+    requires { ⌜ ContentsSorted (now s) (now names) (now keys) × HeadsOf (now s) (now names) (now heads) × OpenedStore (now b) v places ⌝ }
     ensures { λ r. ⌜ r ≡ anyOf (conflictsWith a (now (signer .entry)) (now (s .entry))) (drop (i .0) (imagesIn (now (b .entry)) v)) ⌝ }
 {
     let mut j = i.0;
     while j < v.count {
         let r = v.records[j];
         let q = places[j];
-        if conflicts_with(s, names, keys, a, signer, b, r, q) {
+        if conflicts_with(s, names, heads, keys, a, signer, b, r, q) {
             return true;
         }
         j += 1;
@@ -143,17 +148,20 @@ fn clashes_from(
     i: ImageIndex,
     sorted: &mut [u16],
     spare: &mut [u16],
+    heads: &mut [u32],
     keys: &mut [u16],
 ) -> bool
-    requires { ⌜ Opens (now s) p × OpenedStore (now b) v places × NameSpace (now sorted) (now spare) × (16384 ≤ length (now keys)) ⌝ }
+    requires { ⌜ Opens (now s) p × OpenedStore (now b) v places × NameSpace (now sorted) (now spare) × (length (now sorted) ≤ length (now heads)) × (16384 ≤ length (now keys)) ⌝ }
     ensures { λ r. ⌜ r ≡ anyOf (clash (one a (now (signer .entry)) (now (s .entry)))) (drop (i .0) (imagesIn (now (b .entry)) v)) ⌝ }
 {
     let n = names::sort_self(s, p, sorted, spare);
-    if shares_with_any(s, &sorted[..n], a, signer, b, v, places, i) {
+    names::fill_heads(s, &sorted[..n], heads);
+    if shares_with_any(s, &sorted[..n], heads, a, signer, b, v, places, i) {
         return true;
     }
     let m = names::sort_contents(s, p, sorted, spare, keys);
-    conflicts_with_any(s, &sorted[..m], keys, a, signer, b, v, places, i)
+    names::fill_heads(s, &sorted[..m], heads);
+    conflicts_with_any(s, &sorted[..m], heads, keys, a, signer, b, v, places, i)
 }
 
 // The same with arrays of its own, which are made where some image is of that signer.
@@ -175,6 +183,7 @@ pub fn clashes_with_any(
     }
     let mut sorted = [0u16; 4096];
     let mut spare = [0u16; 4096];
+    let mut heads = [0u32; 4096];
     let mut keys = [0u16; 16384];
     clashes_from(
         s,
@@ -187,6 +196,7 @@ pub fn clashes_with_any(
         i,
         &mut sorted,
         &mut spare,
+        &mut heads,
         &mut keys,
     )
 }
@@ -199,9 +209,10 @@ fn clashes_later(
     i: ImageIndex,
     sorted: &mut [u16],
     spare: &mut [u16],
+    heads: &mut [u32],
     keys: &mut [u16],
 ) -> bool
-    requires { ⌜ OpenedStore (now b) v places × (i .0 < v .count) × NameSpace (now sorted) (now spare) × (16384 ≤ length (now keys)) ⌝ }
+    requires { ⌜ OpenedStore (now b) v places × (i .0 < v .count) × NameSpace (now sorted) (now spare) × (length (now sorted) ≤ length (now heads)) × (16384 ≤ length (now keys)) ⌝ }
     ensures { λ r. ⌜ r ≡ anyOf (clash (heldIn (now (b .entry)) (getD (v .records) (i .0) noRecord))) (drop (i .0 + 1) (imagesIn (now (b .entry)) v)) ⌝ }
 {
     let k = i.0;
@@ -227,6 +238,7 @@ fn clashes_later(
         next,
         sorted,
         spare,
+        heads,
         keys,
     )
 }
@@ -241,6 +253,7 @@ pub fn any_clash(b: &[u8], v: Survey, places: [Places; 64]) -> bool
     }
     let mut sorted = [0u16; 4096];
     let mut spare = [0u16; 4096];
+    let mut heads = [0u32; 4096];
     let mut keys = [0u16; 16384];
     let mut i = 0;
     while i < v.count {
@@ -251,6 +264,7 @@ pub fn any_clash(b: &[u8], v: Survey, places: [Places; 64]) -> bool
             ImageIndex(i),
             &mut sorted,
             &mut spare,
+            &mut heads,
             &mut keys,
         ) {
             return true;

@@ -35,7 +35,6 @@ use Rattle.store_record.specs.Record.{idBytes, idsBytes, bodyOf, recordOf}
 use Rattle.laws.specs.Any.{anyOf, anyPair}
 use Rattle.text.specs.Answer.{byFaults, byTree, byVerdict, checked, canonicalNumber, canonicalLength, canonicalBytes, isCanonical, isForm as isOwnForm}
 use Rattle.manifest_fields.specs.Accessors.{entrypointOf, envOf, signalsOf, isTrue, rejectsOf, writableOf, noRestartOf, instancesOf, maxInstancesOf, numberOf, numbers}
-use Rattle.manifest_view.specs.Accepting.{anyMatches}
 use Rattle.manifest.specs.Number.{asked, questions as manifestQuestions, manifestTextNumber}
 use Rattle.manifest.specs.Manifest.{contentOf, manifestOf as goodContent, rejects, rules, selfNames, aliasesTo, aliasesOf, contents, layers, env, signals, maxInstances, noRestart, writableFs, hasEntrypoint, accepts, objectOf}
 use Rattle.manifest.specs.Names.{differ, conflict, keysOf, objects}
@@ -55,5 +54,5 @@ use Rattle.history.specs.Calls.{callNumber, after, runFrom, numbersFrom, accept
 use Rattle.test_cases.specs.Cases.{holds, every, numberRead, elsewhere, isRead, isNone, times, letters, hash, someId, versionOnly, withSignals, allZero, reports, emptyStore, idWith, accepting, guardLoad, otherLoad, plainLoad, cases}
 
 pub all-hold : every cases ≡ true
-unfolding same leq within table leadIn lead utf8From utf8 encode between isSpace isDigit isExp isSign isHex hexValue isUnescaped isShort shortValue elements members both andThen spaces readWord digitsOf afterDigits readSomeDigits readInt readFrac readSigned readExp readUnsigned readNumber prepend readChars readString readScalar afterItem readItems readFirst readListed readPair readNested read atEnd readText isHigh isLow isSurrogate isPair pairValue unescape lone isControl anyControl refusedString escaped quoted decimalFrom decimal limit refusedNumber signed content insertField sorted comma write canonical mark stringFault numberFault among repeated keyFault tooLong notUtf8 isStuck notJson faulty badString badNumber sameKeys questions lowest textNumber formOf form everyByte named isDivided longer parts isLowerHex isDigest digestOf isReserved isDigestLength isNameLength isAlias isSigner signerOf isManifest manifestOf ruleUnder ruleOf rule idUnder idOf imageId isOneOf signerMatches manifestMatches matches isEmpty beginsWith isLayer isRule textPasses numberPasses isForm passes allPass count firstNamed fieldNamed find isArrayOf isSome entries membersOf isObject isBoolean isCount isPath isNumber isVersion isAmong repeats allDifferent countFields everyMember isObjectOf namesPass groupPasses policyPasses fieldPasses memberPasses isFound foundEntries foundMembers allRequired wellFielded fieldOf acceptsField rejectsField contentsField selfField layersOf acceptsOf contentsOf selfOf textOf texts namesOf badField contentsForm selfForm badForm repeatedName repeatedAlias manifestNumber digestLayer aliasLayer layerOf layer groups varint grouped readVarint idBytes idsBytes bodyOf recordOf numbered holds every numberRead elsewhere isRead isNone times letters hash someId versionOnly withSignals allZero reports emptyStore idWith accepting guardLoad otherLoad plainLoad anyOf anyPair byFaults byTree byVerdict checked canonicalNumber canonicalLength canonicalBytes isCanonical isOwnForm entrypointOf envOf signalsOf isTrue rejectsOf writableOf noRestartOf instancesOf maxInstancesOf numberOf numbers anyMatches asked manifestQuestions manifestTextNumber contentOf goodContent rejects rules selfNames aliasesTo aliasesOf contents layers env signals maxInstances noRestart writableFs hasEntrypoint accepts objectOf differ conflict keysOf objects sameId hasId shareId idTwice headOf headSize bodyUnder readBody beforeRest readSized readRecord storeOf andThenImage continued readRecords keysUnder layerKeysUnder imageKeysOf layerKeysOf imageKeys layerKeys sameKey disagree clash anyClash held isUnfit tooMany areUnsound isBroken wellFormed imageOf isNoId amongHeld noSpace storeQuestions imageQuestions loadQuestions loadNumber appended usedAfter bytesAfter loadUsed loadBytes tableMark orRow through closedAt closedBelow closed pairsWith pairsFrom pairsWhere isReported pairsIn pairsOf reportOf noReportSpace pairsAfter reportAfter acceptsImage isGuard guards marks pairs judgeQuestions judgeNumber heldPairs judgePairs judgeBytes callNumber after runFrom numbersFrom acceptedFrom start run callNumbers accepted cases
+unfolding same leq within table leadIn lead utf8From utf8 encode between isSpace isDigit isExp isSign isHex hexValue isUnescaped isShort shortValue elements members both andThen spaces readWord digitsOf afterDigits readSomeDigits readInt readFrac readSigned readExp readUnsigned readNumber prepend readChars readString readScalar afterItem readItems readFirst readListed readPair readNested read atEnd readText isHigh isLow isSurrogate isPair pairValue unescape lone isControl anyControl refusedString escaped quoted decimalFrom decimal limit refusedNumber signed content insertField sorted comma write canonical mark stringFault numberFault among repeated keyFault tooLong notUtf8 isStuck notJson faulty badString badNumber sameKeys questions lowest textNumber formOf form everyByte named isDivided longer parts isLowerHex isDigest digestOf isReserved isDigestLength isNameLength isAlias isSigner signerOf isManifest manifestOf ruleUnder ruleOf rule idUnder idOf imageId isOneOf signerMatches manifestMatches matches isEmpty beginsWith isLayer isRule textPasses numberPasses isForm passes allPass count firstNamed fieldNamed find isArrayOf isSome entries membersOf isObject isBoolean isCount isPath isNumber isVersion isAmong repeats allDifferent countFields everyMember isObjectOf namesPass groupPasses policyPasses fieldPasses memberPasses isFound foundEntries foundMembers allRequired wellFielded fieldOf acceptsField rejectsField contentsField selfField layersOf acceptsOf contentsOf selfOf textOf texts namesOf badField contentsForm selfForm badForm repeatedName repeatedAlias manifestNumber digestLayer aliasLayer layerOf layer groups varint grouped readVarint idBytes idsBytes bodyOf recordOf numbered holds every numberRead elsewhere isRead isNone times letters hash someId versionOnly withSignals allZero reports emptyStore idWith accepting guardLoad otherLoad plainLoad anyOf anyPair byFaults byTree byVerdict checked canonicalNumber canonicalLength canonicalBytes isCanonical isOwnForm entrypointOf envOf signalsOf isTrue rejectsOf writableOf noRestartOf instancesOf maxInstancesOf numberOf numbers asked manifestQuestions manifestTextNumber contentOf goodContent rejects rules selfNames aliasesTo aliasesOf contents layers env signals maxInstances noRestart writableFs hasEntrypoint accepts objectOf differ conflict keysOf objects sameId hasId shareId idTwice headOf headSize bodyUnder readBody beforeRest readSized readRecord storeOf andThenImage continued readRecords keysUnder layerKeysUnder imageKeysOf layerKeysOf imageKeys layerKeys sameKey disagree clash anyClash held isUnfit tooMany areUnsound isBroken wellFormed imageOf isNoId amongHeld noSpace storeQuestions imageQuestions loadQuestions loadNumber appended usedAfter bytesAfter loadUsed loadBytes tableMark orRow through closedAt closedBelow closed pairsWith pairsFrom pairsWhere isReported pairsIn pairsOf reportOf noReportSpace pairsAfter reportAfter acceptsImage isGuard guards marks pairs judgeQuestions judgeNumber heldPairs judgePairs judgeBytes callNumber after runFrom numbersFrom acceptedFrom start run callNumbers accepted cases
 all-hold = refl

@@ -1,19 +1,20 @@
 // Reads manifests from standard input, one to a line, or two with a tab between them, and prints what each says: its number; of a good one the length of its
 // canonical form, whether it is that form, what its layers are, whether it rejects, its instances, whether it has `noRestart`, `writableFS`, an
-// entrypoint and the variable A=b, and its signals. Of two good ones, whether the first accepts the image
-// sha224 with 28 bytes 0xaa as signer, 28 bytes 0xbb as manifest digest, and the second as its manifest; and which of its rules match that image.
+// entrypoint and the variable A=b, and its signals. Of two good ones, which rules of the first match the image
+// sha224 with 28 bytes 0xaa as signer, 28 bytes 0xbb as manifest digest, and the second as its manifest.
 use manifest::Checked;
 use manifest::Fault;
 use manifest::Places;
 use manifest::SignalNumber;
-use manifest::names;
+use manifest::index;
 use manifest::rules;
 use reference::LayerIndex;
 use reference::layer::Layer;
 use reference_digests::algorithm::Algorithm;
-ghost use Prim.Native.Nat.{_≤_};
-ghost use lib.ListN.{length};
-ghost use Rattle.manifest.specs.Names.{SelfSorted};
+ghost use mathlib.Core.Path.{_≡_};
+ghost use Prim.Native.Nat.{ℕ, _≤_, _<_};
+ghost use lib.ListN.{length, take};
+ghost use Rattle.manifest.specs.Index.{NumberOf, SomeNameIndex};
 ghost use Rattle.manifest.specs.Opened.{Opens};
 
 fn show_flag(b: bool) {
@@ -110,35 +111,59 @@ fn show_one(s: &[u8]) {
     }
 }
 
-// Which rules of s match the image whose manifest is t; its own aliases stand at the sorted positions `sorted`.
-fn show_rules(s: &[u8], p: Places, signer: &[u8], digest: &[u8], t: &[u8], sorted: &[u16])
-    requires { ⌜ Opens (now s) p × SelfSorted (now t) (now sorted) ⌝ }
+// Which rules of s match the image whose manifest is t; `order` is the index of its own aliases.
+fn show_rules(
+    s: &[u8],
+    p: Places,
+    signer: &[u8],
+    digest: &[u8],
+    t: &[u8],
+    at: &[usize],
+    order: &[u16],
+)
+    requires { ⌜ Opens (now s) p × SomeNameIndex (now t) (now at) (now order) ⌝ }
 {
-    let n = rules::count(s, p);
+    let mut at_rules = [0usize; 64];
+    let n = rules::place(s, p, &mut at_rules);
     let mut i = 0;
     while i < n {
-        let rule = rules::nth(s, p, i);
-        show_flag(rules::matches(s, rule, Algorithm::Sha224, signer, digest, t, sorted));
+        let rule = rules::read(s, at_rules[i]);
+        let r = index::asked(t, at, order, s, rule);
+        let named = r.from < r.to;
+        show_flag(rules::matches(s, rule, Algorithm::Sha224, signer, digest, named));
         i += 1;
+    }
+}
+
+// Makes the index of the first n names of t.
+fn index_names(t: &[u8], at: &[usize], n: usize, order: &mut [u16])
+    requires { ⌜ ((k : ℕ) → k < n → NumberOf (now t) (now at) k) × (n ≤ 64) × (n ≤ length (now order)) ⌝ }
+    ensures { λ _. ⌜ SomeNameIndex (now (t .entry)) (now (at .entry)) (take n (now (order .exit))) × (length (now (order .exit)) ≡ length (now (order .entry))) ⌝ }
+{
+    let mut k = 0;
+    while k < n {
+        index::add(t, at, order, k, k as u16);
+        k += 1;
     }
 }
 
 fn show_matches(s: &[u8], p: Places, signer: &[u8], digest: &[u8], t: &[u8], q: Places)
     requires { ⌜ Opens (now s) p × Opens (now t) q ⌝ }
 {
-    let mut sorted = [0u16; 4096];
-    let mut spare = [0u16; 4096];
-    let n = names::sort_self(t, q, &mut sorted, &mut spare);
-    show_rules(s, p, signer, digest, t, &sorted[..n]);
+    let mut at = [0usize; 64];
+    let end = t.len();
+    let n = index::place_self(t, 0, end, q, &mut at);
+    let mut order = [0u16; 64];
+    index_names(t, &at, n, &mut order);
+    show_rules(s, p, signer, digest, t, &at, &order[..n]);
 }
 
-// Whether s accepts the image whose manifest is t.
+// Which rules of s match an image whose manifest is t.
 fn show_accepts(s: &[u8], p: Places, t: &[u8], q: Places)
     requires { ⌜ Opens (now s) p × Opens (now t) q ⌝ }
 {
     let signer = [0xaau8; 28];
     let digest = [0xbbu8; 28];
-    show_flag(manifest::accepts(s, p, Algorithm::Sha224, &signer, &digest, t, q));
     show_matches(s, p, &signer, &digest, t, q);
     io::write_all(1, b"\n");
 }

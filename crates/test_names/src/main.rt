@@ -24,8 +24,10 @@ fn show_shared(s: &[u8], p: Places, t: &[u8], q: Places)
 {
     let mut names = [0u16; 4096];
     let mut spare = [0u16; 4096];
+    let mut heads = [0u32; 4096];
     let n = manifest::names::sort_self(s, p, &mut names, &mut spare);
-    let shared = manifest::names::shares_self(s, &names[..n], t, q);
+    manifest::names::fill_heads(s, &names[..n], &mut heads);
+    let shared = manifest::names::shares_self(s, &names[..n], &heads, t, q);
     say(shared);
 }
 
@@ -36,8 +38,10 @@ fn show_conflict(s: &[u8], p: Places, t: &[u8], q: Places)
     let mut names = [0u16; 4096];
     let mut spare = [0u16; 4096];
     let mut keys = [0u16; 16384];
+    let mut heads = [0u32; 4096];
     let n = manifest::names::sort_contents(s, p, &mut names, &mut spare, &mut keys);
-    let conflict = manifest::names::conflicts(s, &names[..n], &keys, t, q);
+    manifest::names::fill_heads(s, &names[..n], &mut heads);
+    let conflict = manifest::names::conflicts(s, &names[..n], &heads, &keys, t, q);
     say(conflict);
 }
 

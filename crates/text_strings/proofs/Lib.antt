@@ -2,6 +2,7 @@ pub mod Alike
 pub mod Contents
 pub mod Cursors
 pub mod Escapes
+pub mod Heads
 pub mod Names
 pub mod Orders
 pub mod Positions

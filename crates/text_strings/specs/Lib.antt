@@ -1,3 +1,4 @@
 pub mod InString
 pub mod Cursor
 pub mod Compare
+pub mod Head

@@ -1,4 +1,5 @@
 // Strings of a JSON text in place: their content byte by byte, and comparing them.
+pub mod head;
 pub mod name;
 
 ghost use mathlib.Core.Path.{_≡_};

@@ -9,7 +9,7 @@ use denote.Ref.{now}
 use lib.ListN.{take, getD}
 use lib.Seq.{length-take-le}
 use Rattle.policy_marks.specs.Words.{reportNumber}
-use Rattle.store_clash.specs.Opened.{OpenedStore}
+use Rattle.store_names.specs.Opened.{OpenedStore}
 use Rattle.policy.proofs.Judging.{refused-reports, reports-as, table-pairs, judge-past, judge-broken, read-pairs, judge-sound}
 use Rattle.policy.proofs.judge.Statement.{statement}
 use Rattle.policy.proofs.judge.Tie as tie

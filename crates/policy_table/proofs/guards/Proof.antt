@@ -8,7 +8,7 @@ use lib.ListN.{length, getD}
 use Rattle.store_record.specs.Image.{Image}
 use Rattle.store_record.specs.Reading.{between, heldIn, imagesIn, noRecord, RecordIn}
 use Rattle.store_record.proofs.Walks.{records-size}
-use Rattle.store_clash.proofs.Walking.{opened-at}
+use Rattle.store_names.proofs.Opened.{opened-at}
 use Rattle.policy_table.specs.Accepting.{isGuard, guards}
 use Rattle.policy_table.proofs.Rows.{Built, images-none, word-fits, image-unmarked, image-marked, built-all}
 use Rattle.policy_table.proofs.guards.Statement.{statement}

@@ -24,22 +24,12 @@ part-matches-start-2 c = search needs
 part-matches-end-2 : tie.Need-part-matches-end-2
 part-matches-end-2 c = search needs
 
-sub-matches-3 : tie.Need-sub-matches-3
-sub-matches-3 c = search needs
-
-part-matches-start-3 : tie.Need-part-matches-start-3
-part-matches-start-3 c = search needs
-
-part-matches-end-3 : tie.Need-part-matches-end-3
-part-matches-end-3 c = search needs
-
 matches-requires : tie.Need-matches-requires
-unfolding between
-matches-requires c κs = let p = c .before .before .before .before .before .before .pre in (p .0, p .2)
+matches-requires c κs = c .before .before .before .before .pre .0
 
 returns : tie.Need-returns
 unfolding between
-returns c = λ y k. c .matches .ensures y k ∙ matches-held y _ _
+returns c = λ y k e. c .matches .ensures y _ k e ∙ matches-held y _ _
 
 pub matches-image-spec : {M : Type 1} → statement M
 matches-image-spec =
@@ -51,8 +41,5 @@ matches-image-spec =
     sub-matches-2
     part-matches-start-2
     part-matches-end-2
-    sub-matches-3
-    part-matches-start-3
-    part-matches-end-3
     matches-requires
     returns)

@@ -1,51 +1,75 @@
 -- `policy_table::table` meets its contract. The loop's invariant: the rows of the images before i are written. The measure is how many are left.
-use Prim.Native.Nat.{_-_, _<_}
+use Prim.Native.Nat.{_-_, _≤_, _<_}
 use mathlib.Core.Path.{_≡_, refl, sym}
 use mathlib.Core.Bool.{Bool}
 use mathlib.Core.List.{List, map}
 use native.Mathlib.Omega.{arith}
 use denote.Ref.{now}
 use lib.ListN.{length}
+use lib.Seq.{length-take-le}
 use Rattle.policy_marks.specs.Words.{guardsIn, rowsIn}
 use Rattle.store_record.specs.Image.{Image}
 use Rattle.store_record.specs.Reading.{imagesIn}
 use Rattle.store_record.proofs.Walks.{records-size}
 use Rattle.policy_table.specs.Accepting.{acceptsImage, marks}
+use Rattle.store_names.proofs.Placing.{placed-numbered}
 use Rattle.policy_table.proofs.Rows.{Filled, filled-none, row-written, rows-written}
 use Rattle.policy_table.proofs.table.Statement.{statement}
 use Rattle.policy_table.proofs.table.Tie as tie
 
 abbrev Inv-loop : tie.InvT-loop
-Inv-loop b v places sorted counts rows₀ i₀ rows i = Filled (λ (x : Image). map (acceptsImage x) (imagesIn b v)) (imagesIn b v) (v .count) i rows
+Inv-loop b v places at order n rows₀ i₀ rows i = Filled (λ (x : Image). map (acceptsImage x) (imagesIn b v)) (imagesIn b v) (v .count) i rows
 
 abbrev μ-loop : tie.MeasureT-loop
-μ-loop b v places sorted counts rows₀ i₀ rows i = v .count - i
+μ-loop b v places at order n rows₀ i₀ rows i = v .count - i
 
 room : (a : tie.Start Inv-loop μ-loop) → length (a .args .v .records) ≡ 64
 room a = records-size (a .args .v) (a .good .1 .0)
 
-slice-aggregate-sort-all : tie.Need-slice-aggregate-sort-all Inv-loop μ-loop
-slice-aggregate-sort-all c = refl
+slice-aggregate-place-all : tie.Need-slice-aggregate-place-all Inv-loop μ-loop
+slice-aggregate-place-all c = refl
 
-slice-aggregate-sort-all-2 : tie.Need-slice-aggregate-sort-all-2 Inv-loop μ-loop
-slice-aggregate-sort-all-2 c = refl
+slice-aggregate-place-all-2 : tie.Need-slice-aggregate-place-all-2 Inv-loop μ-loop
+slice-aggregate-place-all-2 c = refl
 
-sort-all-requires : tie.Need-sort-all-requires Inv-loop μ-loop
-sort-all-requires c κs = (c .before .before .before .pre, refl, refl)
+place-all-requires : tie.Need-place-all-requires Inv-loop μ-loop
+place-all-requires c κs = (c .before .before .before .pre, refl, refl)
+
+slice-aggregate-index-all : tie.Need-slice-aggregate-index-all Inv-loop μ-loop
+slice-aggregate-index-all c = sym (c .before .before .before .place-all .ensures .at-room)
+
+slice-aggregate-index-all-2 : tie.Need-slice-aggregate-index-all-2 Inv-loop μ-loop
+slice-aggregate-index-all-2 c = sym (c .before .before .before .before .place-all .ensures .counts-room)
+
+slice-aggregate-index-all-3 : tie.Need-slice-aggregate-index-all-3 Inv-loop μ-loop
+slice-aggregate-index-all-3 c = refl
+
+index-all-requires : tie.Need-index-all-requires Inv-loop μ-loop
+index-all-requires c κs =
+    let p = c .before .before .before .before .before .place-all .ensures in
+    let few = c .before .before .before .before .before .before .before .before .before .pre .fills .few in
+    (placed-numbered _ _ _ _ _ few p, few, p .counts-room, refl)
 
 loop-holds : tie.Need-loop-holds Inv-loop μ-loop
-loop-holds c = filled-none _ _ _ _ (c .before .before .before .before .before .before .pre .fills .few)
+loop-holds c = filled-none _ _ _ _ (c .before .before .before .before .before .before .before .before .before .before .before .pre .fills .few)
 
 slice-aggregate-row : tie.Need-slice-aggregate-row Inv-loop μ-loop
-slice-aggregate-row c = sym (c .before .before .before .before .before .before .sort-all .ensures .names-room)
+slice-aggregate-row c = sym (c .before .before .before .before .before .before .before .before .before .before .before .place-all .ensures .at-room)
+
+-- the index has room for the numbers that are in it
+in-order : (k : tie.After-index-all Inv-loop μ-loop) → k .index-all .result ≤ length (k .index-all .last .1 .1 .1 .1 .0)
+in-order k = omega (arith, k .index-all .ensures .0, k .index-all .ensures .1)
+
+array-share-prefix-order : tie.Need-array-share-prefix-order Inv-loop μ-loop
+array-share-prefix-order c = in-order (c .before .before .before .before .before)
 
 slice-aggregate-row-2 : tie.Need-slice-aggregate-row-2 Inv-loop μ-loop
-slice-aggregate-row-2 c = sym (c .before .before .before .before .before .before .before .sort-all .ensures .counts-room)
+slice-aggregate-row-2 c = sym (length-take-le _ _ (in-order (c .before .before .before .before .before .before)))
 
 -- a turn of the loop: the image whose row it writes is one of at most 64
 module _ (t : tie.Then1 Inv-loop μ-loop) where
   abbrev start : tie.Start Inv-loop μ-loop
-  start = t .before .before .before .before .before .before .before .before .before
+  start = t .before .before .before .before .before .before .before .before .before .before .before .before .before .before
 
   few : t .before .before .loop .i < 64
   few = omega (arith, t .if1 .taken, start .pre .fills .few)
@@ -53,7 +77,8 @@ module _ (t : tie.Then1 Inv-loop μ-loop) where
 row-requires : tie.Need-row-requires Inv-loop μ-loop
 row-requires c κs =
     let t = c .before .before in
-    (start t .pre, t .before .before .before .before .before .sort-all .ensures, t .if1 .taken)
+    let placed = t .before .before .before .before .before .before .before .before .before .before .place-all in
+    (start t .pre, record { counts = placed .last .1 .1 .1 .1 .0; placed = placed .ensures; index = t .before .before .before .before .index-all .ensures .2 }, t .if1 .taken)
 
 mul-rows : tie.Need-mul-rows Inv-loop μ-loop
 mul-rows c = omega (arith, few (c .before .before .before))
@@ -75,13 +100,13 @@ loop-again c =
     row-written (now (a .args .b)) (a .args .v) (a .pre .fills .few) (room a) _ _ (l .i) (l .inv) (c .row .result) (t .if1 .taken) (c .row .ensures .0)
 
 guards-requires : tie.Need-guards-requires Inv-loop μ-loop
-guards-requires c κs = c .before .before .before .before .before .before .before .before .before .pre
+guards-requires c κs = c .before .before .before .before .before .before .before .before .before .before .before .before .before .before .pre
 
 returns : tie.Need-returns Inv-loop μ-loop
 unfolding guardsIn rowsIn marks
 returns c =
     let l = c .before .before .before in
-    let a = l .before .before .before .before .before .before .before in
+    let a = l .before .before .before .before .before .before .before .before .before .before .before .before in
     let e = rows-written (now (a .args .b)) (a .args .v) (a .pre .fills .few) (room a) _ _ (l .loop .i) (l .loop .inv) (c .before .if1 .left) in
     (refl, c .guards .ensures .0, e)
 
@@ -91,11 +116,16 @@ table-spec =
     (tie.spec
     Inv-loop
     μ-loop
-    slice-aggregate-sort-all
-    slice-aggregate-sort-all-2
-    sort-all-requires
+    slice-aggregate-place-all
+    slice-aggregate-place-all-2
+    place-all-requires
+    slice-aggregate-index-all
+    slice-aggregate-index-all-2
+    slice-aggregate-index-all-3
+    index-all-requires
     loop-holds
     slice-aggregate-row
+    array-share-prefix-order
     slice-aggregate-row-2
     row-requires
     mul-rows

@@ -17,7 +17,7 @@ use Rattle.store_record.specs.Store.{mostImages, readRecords}
 use Rattle.store_record.specs.Reading.{imagesIn}
 use Rattle.store_record.proofs.Walks.{records-size, images-length}
 use Rattle.store_clash.specs.Clash.{clash}
-use Rattle.store_clash.specs.Opened.{OpenedStore}
+use Rattle.store_names.specs.Opened.{OpenedStore}
 use Rattle.store.specs.Held.{isBroken}
 use Rattle.store.specs.Load.{among, noSpace}
 use Rattle.store.specs.Loading.{imageWith}

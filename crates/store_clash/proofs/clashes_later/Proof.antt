@@ -12,17 +12,17 @@ use Rattle.store_clash.proofs.clashes_later.Statement.{statement}
 use Rattle.store_clash.proofs.clashes_later.Tie as tie
 
 abbrev start : tie.After-r → tie.Start
-start c = c .before .before .before .before .before
+start c = c .before .before .before .before .before .before
 
 -- the record lies inside the store
 inside : (a : tie.Start) → RecordIn (now (a .args .b)) (getD (a .args .t2 .records) (a .args .i .0) noRecord)
 inside a = a .pre .0 .fills .each (a .args .i .0) (a .pre .1)
 
 mul-r : tie.Need-mul-r
-mul-r c = let p = c .before .before .before .before .pre in omega (arith, p .0 .fills .few, p .1)
+mul-r c = let p = c .before .before .before .before .before .pre in omega (arith, p .0 .fills .few, p .1)
 
 element-copy-out-r : tie.Need-element-copy-out-r
-element-copy-out-r c = let p = c .before .before .before .before .pre in omega (arith, p .0 .fills .few, p .1)
+element-copy-out-r c = let p = c .before .before .before .before .before .pre in omega (arith, p .0 .fills .few, p .1)
 
 add-has-signer : tie.Need-add-has-signer
 add-has-signer c = let p = start c .pre in omega (arith, p .0 .fills .few, p .1)
@@ -73,8 +73,8 @@ part-clashes-from-end-2 c = let r = inside (start (c .before .before .before .be
 clashes-from-requires : tie.Need-clashes-from-requires
 unfolding between
 clashes-from-requires c κs =
-    let p = start (c .before .before .before .before .before .before .before .before .before) .pre in
-    (opened-at _ _ _ (p .0) _ (p .1) _, p .0, p .2, p .3)
+    let p = start (c .before .before .before .before .before .before .before .before .before .before) .pre in
+    (opened-at _ _ _ (p .0) _ (p .1) _, p .0, p .2, p .3, p .4)
 
 same-length : tie.Need-same-length
 same-length c = search needs
@@ -85,11 +85,14 @@ same-length-2 c = search needs
 same-length-3 : tie.Need-same-length-3
 same-length-3 c = search needs
 
+same-length-4 : tie.Need-same-length-4
+same-length-4 c = search needs
+
 returns-2 : tie.Need-returns-2
 unfolding between
 returns-2 c =
-    let k = c .before .before .before .before .before .before in
-    let a = start (k .before .before .before .before .before .before .before .before .before .before) .args in
+    let k = c .before .before .before .before .before .before .before .before in
+    let a = start (k .before .before .before .before .before .before .before .before .before .before .before) .args in
     k .clashes-from .ensures ∙ sym (clash-held (now (a .b)) (a .t2) (a .i .0 + 1) _)
 
 pub clashes-later-spec : {M : Type 1} → statement M
@@ -116,4 +119,5 @@ clashes-later-spec =
     same-length
     same-length-2
     same-length-3
+    same-length-4
     returns-2)

@@ -25,13 +25,16 @@ slice-aggregate-clashes-from-2 c = search needs
 slice-aggregate-clashes-from-3 : tie.Need-slice-aggregate-clashes-from-3
 slice-aggregate-clashes-from-3 c = search needs
 
+slice-aggregate-clashes-from-4 : tie.Need-slice-aggregate-clashes-from-4
+slice-aggregate-clashes-from-4 c = search needs
+
 clashes-from-requires : tie.Need-clashes-from-requires
 clashes-from-requires c κs =
-    let p = c .before .before .before .before .before .before .before .before .pre in
-    (p .0, p .1, record { room = omega arith; sorting = omega arith }, omega arith)
+    let p = c .before .before .before .before .before .before .before .before .before .pre in
+    (p .0, p .1, record { room = omega arith; sorting = omega arith }, omega arith, omega arith)
 
 returns-2 : tie.Need-returns-2
-returns-2 c = c .before .before .before .clashes-from .ensures
+returns-2 c = c .before .before .before .before .clashes-from .ensures
 
 pub clashes-with-any-spec : {M : Type 1} → statement M
 clashes-with-any-spec =
@@ -42,5 +45,6 @@ clashes-with-any-spec =
     slice-aggregate-clashes-from
     slice-aggregate-clashes-from-2
     slice-aggregate-clashes-from-3
+    slice-aggregate-clashes-from-4
     clashes-from-requires
     returns-2)

@@ -13,7 +13,7 @@ is-signed-by-requires c κs = search needs
 
 returns : tie.Need-returns
 returns c =
-    let a = c .before .before .before .before .before .before .before .args in
+    let a = c .before .before .before .before .before .before .before .before .args in
     sym (not-conflicting (now (a .b)) (a .r) (a .a) (now (a .signer)) (now (a .s)) (sym (c .before .is-signed-by .ensures ∙ signed-is _ _ _ _) ∙ not-true _ (c .if1 .taken)))
 
 sub-conflicts : tie.Need-sub-conflicts
@@ -27,13 +27,13 @@ part-conflicts-end c = search needs
 
 conflicts-requires : tie.Need-conflicts-requires
 unfolding between
-conflicts-requires c κs = let p = c .before .before .before .before .before .before .before .before .pre in (p .0, p .2)
+conflicts-requires c κs = let p = c .before .before .before .before .before .before .before .before .before .pre in (p .0, p .1, p .3)
 
 returns-2 : tie.Need-returns-2
 unfolding between
 returns-2 c =
     let e = c .before .before in
-    let a = e .before .before .before .before .before .before .before .args in
+    let a = e .before .before .before .before .before .before .before .before .args in
     c .conflicts .ensures
     ∙ sym (conflicting (now (a .b)) (a .r) (a .a) (now (a .signer)) (now (a .s)) (sym (e .before .is-signed-by .ensures ∙ signed-is _ _ _ _) ∙ not-false _ (e .if1 .left)))
 

@@ -14,52 +14,52 @@ use Rattle.store_clash.proofs.shares_with_any.Statement.{statement}
 use Rattle.store_clash.proofs.shares_with_any.Tie as tie
 
 abbrev Inv-loop : tie.InvT-loop
-Inv-loop s names a signer b v places j₀ j = anyOf (sharesWith a signer s) (drop j (imagesIn b v)) ≡ anyOf (sharesWith a signer s) (drop j₀ (imagesIn b v))
+Inv-loop s names heads a signer b v places j₀ j = anyOf (sharesWith a signer s) (drop j (imagesIn b v)) ≡ anyOf (sharesWith a signer s) (drop j₀ (imagesIn b v))
 
 abbrev μ-loop : tie.MeasureT-loop
-μ-loop s names a signer b v places j₀ j = v .count - j
+μ-loop s names heads a signer b v places j₀ j = v .count - j
 
 abbrev start : tie.At-loop Inv-loop μ-loop → tie.Start Inv-loop μ-loop
-start l = l .before .before .before .before .before
+start l = l .before .before .before .before .before .before
 
-fits : (a : tie.Start Inv-loop μ-loop) → a .args .t6 .count ≤ length (a .args .t6 .records)
-fits a = omega (arith, records-size (a .args .t6) (a .good .1 .1 .1 .1 .1 .0), a .pre .1 .fills .few)
+fits : (a : tie.Start Inv-loop μ-loop) → a .args .t7 .count ≤ length (a .args .t7 .records)
+fits a = omega (arith, records-size (a .args .t7) (a .good .1 .1 .1 .1 .1 .1 .0), a .pre .2 .fills .few)
 
 loop-holds : tie.Need-loop-holds Inv-loop μ-loop
 loop-holds c = refl
 
 mul-r : tie.Need-mul-r Inv-loop μ-loop
-mul-r c = omega (arith, start (c .before) .pre .1 .fills .few, c .loop-test .taken)
+mul-r c = omega (arith, start (c .before) .pre .2 .fills .few, c .loop-test .taken)
 
 element-copy-out-r : tie.Need-element-copy-out-r Inv-loop μ-loop
-element-copy-out-r c = omega (arith, start (c .before) .pre .1 .fills .few, c .loop-test .taken)
+element-copy-out-r c = omega (arith, start (c .before) .pre .2 .fills .few, c .loop-test .taken)
 
 mul-q : tie.Need-mul-q Inv-loop μ-loop
-mul-q c = omega (arith, start (c .before .before) .pre .1 .fills .few, c .before .loop-test .taken)
+mul-q c = omega (arith, start (c .before .before) .pre .2 .fills .few, c .before .loop-test .taken)
 
 array-copy-out-q : tie.Need-array-copy-out-q Inv-loop μ-loop
-array-copy-out-q c = omega (arith, start (c .before .before) .pre .1 .fills .few, c .before .loop-test .taken)
+array-copy-out-q c = omega (arith, start (c .before .before) .pre .2 .fills .few, c .before .loop-test .taken)
 
 shares-with-requires : tie.Need-shares-with-requires Inv-loop μ-loop
 shares-with-requires c κs =
     let t = c .before .before in
     let a = start (t .before) in
     let j = t .before .loop .j in
-    let o = a .pre .1 in
-    (a .pre .0, o .fills .each j (t .loop-test .taken), opened-at _ _ _ o j (t .loop-test .taken) _)
+    let o = a .pre .2 in
+    (a .pre .0, a .pre .1, o .fills .each j (t .loop-test .taken), opened-at _ _ _ o j (t .loop-test .taken) _)
 
 returns : tie.Need-returns Inv-loop μ-loop
 returns c =
     let t = c .before .before .before .before in
     let l = t .before in
     let a = start l in
-    sym (any-here (now (a .args .b)) (a .args .t6) (fits a) (l .loop .j) (t .loop-test .taken) _
+    sym (any-here (now (a .args .b)) (a .args .t7) (fits a) (l .loop .j) (t .loop-test .taken) _
     (sym (c .before .shares-with .ensures) ∙ c .if1 .taken)) ∙ l .loop .inv
 
 add-j : tie.Need-add-j Inv-loop μ-loop
 add-j c =
     let t = c .before .before .before .before in
-    omega (arith, t .loop-test .taken, start (t .before) .pre .1 .fills .few)
+    omega (arith, t .loop-test .taken, start (t .before) .pre .2 .fills .few)
 
 loop-less : tie.Need-loop-less Inv-loop μ-loop
 loop-less c = omega (arith, c .before .before .before .before .loop-test .taken)
@@ -69,14 +69,14 @@ loop-again c =
     let t = c .before .before .before .before in
     let l = t .before in
     let a = start l in
-    sym (any-next (now (a .args .b)) (a .args .t6) (fits a) (l .loop .j) (t .loop-test .taken) _
+    sym (any-next (now (a .args .b)) (a .args .t7) (fits a) (l .loop .j) (t .loop-test .taken) _
     (sym (c .before .shares-with .ensures) ∙ c .if1 .left)) ∙ l .loop .inv
 
 returns-2 : tie.Need-returns-2 Inv-loop μ-loop
 returns-2 c =
     let l = c .before in
     let a = start l in
-    sym (any-image-end (now (a .args .b)) (a .args .t6) (fits a) (l .loop .j) _ (c .loop-test .left)) ∙ l .loop .inv
+    sym (any-image-end (now (a .args .b)) (a .args .t7) (fits a) (l .loop .j) _ (c .loop-test .left)) ∙ l .loop .inv
 
 pub shares-with-any-spec : {M : Type 1} → statement M
 shares-with-any-spec =

@@ -1,24 +1,53 @@
--- `test_facade::show_matches` meets the needs of what it calls: the names that are looked up in are those that were sorted. Assumes nothing.
-use mathlib.Core.Path.{sym}
-use lib.Seq.{length-take-le}
+-- `test_facade::show_matches` meets the needs of what it calls: the names that are looked up in are the image's own. Assumes nothing.
+use Prim.Native.Nat.{_-_, _≤_}
+use mathlib.Core.Path.{sym, subst}
+use native.Mathlib.Nat.{zero-add}
+use native.Mathlib.Omega.{arith}
 use borrow.Author.Needs.{needs}
+use denote.Ref.{now}
+use lib.ListN.{length}
+use lib.Seq.{length-take-le, take-all}
+use Rattle.manifest.specs.Index.{NumberOf}
+use Rattle.manifest.proofs.Indexing.{names-number}
 use Rattle.test_facade.proofs.show_matches.Statement.{statement}
 use Rattle.test_facade.proofs.show_matches.Tie as tie
 
-slice-aggregate-sort-self : tie.Need-slice-aggregate-sort-self
-slice-aggregate-sort-self c = search needs
+slice-aggregate-place-self : tie.Need-slice-aggregate-place-self
+slice-aggregate-place-self c = search needs
 
-slice-aggregate-sort-self-2 : tie.Need-slice-aggregate-sort-self-2
-slice-aggregate-sort-self-2 c = search needs
+place-self-requires : tie.Need-place-self-requires
+place-self-requires c κs =
+    let a = c .before .before .before .before .before in
+    let t = now (a .args .t) in
+    (omega arith, omega arith, rw (take-all (length t - 0) t (omega arith)) (a .pre .1), omega arith)
 
-sort-self-requires : tie.Need-sort-self-requires
-sort-self-requires c κs = search needs
+slice-aggregate-index-names : tie.Need-slice-aggregate-index-names
+slice-aggregate-index-names c = search needs
 
-array-share-prefix-sorted : tie.Need-array-share-prefix-sorted
-array-share-prefix-sorted c = search needs
+slice-aggregate-index-names-2 : tie.Need-slice-aggregate-index-names-2
+slice-aggregate-index-names-2 c = search needs
+
+index-names-requires : tie.Need-index-names-requires
+index-names-requires c κs =
+    let p = c .before .before .before .place-self in
+    let e = p .ensures in
+    let room : p .result ≤ length (p .last .1 .1 .1 .1 .0) = omega (arith, e .0, e .1) in (
+      λ k l. subst (NumberOf _ _) (zero-add k) (names-number _ _ 0 (p .result) _ (e .3) (omega arith) k l),
+      e .0,
+      e .0,
+    )
 
 slice-aggregate-show-rules : tie.Need-slice-aggregate-show-rules
-slice-aggregate-show-rules c = sym (length-take-le _ _ (c .before .before .before .sort-self .ensures .0))
+slice-aggregate-show-rules c = search needs
+
+array-share-prefix-order : tie.Need-array-share-prefix-order
+array-share-prefix-order c = search needs
+
+slice-aggregate-show-rules-2 : tie.Need-slice-aggregate-show-rules-2
+slice-aggregate-show-rules-2 c =
+    let k = c .before .before .before .index-names in
+    let p = c .before .before .before .before .before .before .before .place-self in
+    sym (length-take-le _ _ (omega (arith, p .ensures .0, k .ensures .1)))
 
 show-rules-requires : tie.Need-show-rules-requires
 show-rules-requires c κs = search needs
@@ -30,10 +59,13 @@ pub show-matches-spec : {M : Type 1} → statement M
 show-matches-spec =
     tie.close
     (tie.spec
-    slice-aggregate-sort-self
-    slice-aggregate-sort-self-2
-    sort-self-requires
-    array-share-prefix-sorted
+    slice-aggregate-place-self
+    place-self-requires
+    slice-aggregate-index-names
+    slice-aggregate-index-names-2
+    index-names-requires
     slice-aggregate-show-rules
+    array-share-prefix-order
+    slice-aggregate-show-rules-2
     show-rules-requires
     returns)

@@ -2,6 +2,7 @@
 use mathlib.Core.Path.{sym}
 use native.Mathlib.Omega.{arith}
 use lib.Seq.{length-take-le}
+use Rattle.manifest.proofs.Groups.{contents-names}
 use Rattle.manifest.proofs.Opening.{opened-short}
 use borrow.Author.Needs.{needs}
 use Rattle.test_names.proofs.show_conflict.Statement.{statement}
@@ -24,11 +25,28 @@ sort-contents-requires c κs =
 array-share-prefix-names : tie.Need-array-share-prefix-names
 array-share-prefix-names c = search needs
 
+slice-aggregate-fill-heads : tie.Need-slice-aggregate-fill-heads
+slice-aggregate-fill-heads c = sym (length-take-le _ _ (c .before .before .before .before .sort-contents .ensures .0))
+
+slice-aggregate-fill-heads-2 : tie.Need-slice-aggregate-fill-heads-2
+slice-aggregate-fill-heads-2 c = search needs
+
+fill-heads-requires : tie.Need-fill-heads-requires
+fill-heads-requires c κs =
+    let r = c .before .before .before .before .before .sort-contents in
+    (contents-names (r .ensures .1), omega (arith, length-take-le (r .result) (r .last .1 .1 .0) (r .ensures .0), r .ensures .0, r .kept .1 .1 .0))
+
+array-share-prefix-names-2 : tie.Need-array-share-prefix-names-2
+array-share-prefix-names-2 c = search needs
+
 slice-aggregate-conflicts : tie.Need-slice-aggregate-conflicts
-slice-aggregate-conflicts c = sym (length-take-le _ _ (c .before .before .before .before .sort-contents .ensures .0))
+slice-aggregate-conflicts c = sym (length-take-le _ _ (c .before .before .before .before .before .before .before .before .sort-contents .ensures .0))
 
 slice-aggregate-conflicts-2 : tie.Need-slice-aggregate-conflicts-2
 slice-aggregate-conflicts-2 c = search needs
+
+slice-aggregate-conflicts-3 : tie.Need-slice-aggregate-conflicts-3
+slice-aggregate-conflicts-3 c = search needs
 
 conflicts-requires : tie.Need-conflicts-requires
 conflicts-requires c κs = search needs
@@ -48,8 +66,13 @@ show-conflict-spec =
     slice-aggregate-sort-contents-3
     sort-contents-requires
     array-share-prefix-names
+    slice-aggregate-fill-heads
+    slice-aggregate-fill-heads-2
+    fill-heads-requires
+    array-share-prefix-names-2
     slice-aggregate-conflicts
     slice-aggregate-conflicts-2
+    slice-aggregate-conflicts-3
     conflicts-requires
     say-requires
     returns)

@@ -9,13 +9,13 @@ use Rattle.manifest.proofs.names.conflicts.Statement.{statement}
 use Rattle.manifest.proofs.names.conflicts.Tie as tie
 
 conflicts-requires : tie.Need-conflicts-requires
-conflicts-requires c κs = let a = c .before .before .before .before in (some-contents (a .pre .0), contents-grouped _ _ (a .pre .1))
+conflicts-requires c κs = let a = c .before .before .before .before .before in (some-contents (a .pre .0), a .pre .1, contents-grouped _ _ (a .pre .2))
 
 returns : tie.Need-returns
 unfolding contentsOf
 returns c =
-    let a = c .before .before .before .before .before in
-    c .conflicts .ensures (namedIn (contentsOf (manifestOf _))) (contentsField (manifestOf _)) (a .pre .0 .sorted) (a .pre .1 .contents) ∙ conflict-keys _ _
+    let a = c .before .before .before .before .before .before in
+    c .conflicts .ensures (namedIn (contentsOf (manifestOf _))) (contentsField (manifestOf _)) (a .pre .0 .sorted) (a .pre .2 .contents) ∙ conflict-keys _ _
 
 pub conflicts-spec : {M : Type 1} → statement M
 conflicts-spec = tie.close (tie.spec conflicts-requires returns)

@@ -6,11 +6,11 @@ use Rattle.manifest.proofs.names.shares_self.Statement.{statement}
 use Rattle.manifest.proofs.names.shares_self.Tie as tie
 
 shares-requires : tie.Need-shares-requires
-shares-requires c κs = let a = c .before .before .before in (some-names (a .pre .0), self-grouped _ _ (a .pre .1))
+shares-requires c κs = let a = c .before .before .before .before in (some-names (a .pre .0), a .pre .1, self-grouped _ _ (a .pre .2))
 
 returns : tie.Need-returns
 unfolding selfNames selfOf
-returns c = let a = c .before .before .before .before in c .shares .ensures (selfNames _) (selfField (manifestOf _)) (a .pre .0 .sorted) (a .pre .1 .own)
+returns c = let a = c .before .before .before .before .before in c .shares .ensures (selfNames _) (selfField (manifestOf _)) (a .pre .0 .sorted) (a .pre .2 .own)
 
 pub shares-self-spec : {M : Type 1} → statement M
 shares-self-spec = tie.close (tie.spec shares-requires returns)

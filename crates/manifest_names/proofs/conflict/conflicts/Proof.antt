@@ -13,8 +13,8 @@ enum-known-group c = search needs
 
 conflicts-group-requires : tie.Need-conflicts-group-requires
 conflicts-group-requires c κs =
-    let a = c .before .before .before .before .before .before .before in
-    (a .pre .0, group-here _ _ _ (a .pre .1) _ (c .before .group .given .1))
+    let a = c .before .before .before .before .before .before .before .before in
+    (a .pre .0, a .pre .1, group-here _ _ _ (a .pre .2) _ (c .before .group .given .1))
 
 returns : tie.Need-returns
 returns c = λ xs o m f. no-conflict xs _ (missing-members _ _ _ o f (c .enum-told .given .1))
@@ -22,8 +22,8 @@ returns c = λ xs o m f. no-conflict xs _ (missing-members _ _ _ o f (c .enum-to
 returns-2 : tie.Need-returns-2
 returns-2 c =
     let d = c .before in
-    let a = d .before .before .before .before .before .before .before in
-    λ xs o m f. c .conflicts-group .ensures xs _ m (its-object _ _ _ (a .pre .1) _ (d .before .group .given .1) o f)
+    let a = d .before .before .before .before .before .before .before .before in
+    λ xs o m f. c .conflicts-group .ensures xs _ m (its-object _ _ _ (a .pre .2) _ (d .before .group .given .1) o f)
 
 pub conflicts-spec : {M : Type 1} → statement M
 conflicts-spec =

@@ -24,17 +24,17 @@ abbrev test : (s ks keys : List ℕ) → ((xs : List Named) × SortedContents s 
 test s ks keys i a = standsElsewhere (a .name) (a .key) (i .0)
 
 abbrev Inv-loop : tie.InvT-loop
-Inv-loop s names keys t at depth left₀ left = InNamed (test s names keys) t at depth left
+Inv-loop s names heads keys t at depth left₀ left = InNamed (test s names keys) t at depth left
 
 abbrev μ-loop : tie.MeasureT-loop
-μ-loop s names keys t at depth left₀ left = length t - left .at
+μ-loop s names heads keys t at depth left₀ left = length t - left .at
 
 new-requires : tie.Need-new-requires Inv-loop μ-loop
-new-requires c κs = let o = c .before .before .before .before .pre .1 in record { fields = o .fields; here = o .here }
+new-requires c κs = let o = c .before .before .before .before .before .pre .2 in record { fields = o .fields; here = o .here }
 
 loop-holds : tie.Need-loop-holds Inv-loop μ-loop
 loop-holds c =
-    let o = c .before .before .before .before .before .pre .1 in
+    let o = c .before .before .before .before .before .before .pre .2 in
     named-started _ _ _ _ o _ (c .new .ensures .0 (o .fields) (o .here))
 
 next-requires : tie.Need-next-requires Inv-loop μ-loop
@@ -54,17 +54,17 @@ enum-known-key : tie.Need-enum-known-key Inv-loop μ-loop
 enum-known-key c = search needs
 
 -- what `next` gave: a member
-abbrev inv : (c : tie.After-known-told Inv-loop μ-loop) → let b = c .before .before .before .before in let a = b .before .before .before .before .before .before .args in
+abbrev inv : (c : tie.After-known-told Inv-loop μ-loop) → let b = c .before .before .before .before in let a = b .before .before .before .before .before .before .before .args in
     InNamed (test (now (a .s)) (now (a .names)) (now (a .keys))) (now (a .t)) (a .at) (a .depth) (b .loop .left)
 inv c = c .before .before .before .before .loop .inv
 
-given : (c : tie.After-known-told Inv-loop μ-loop) → let b = c .before .before .before .before in let a = b .before .before .before .before .before .before .args in
+given : (c : tie.After-known-told Inv-loop μ-loop) → let b = c .before .before .before .before in let a = b .before .before .before .before .before .before .before .args in
     let g = c .before .key .given .0 in
     NextMember (now (a .t)) (b .loop .left) (b .loop .inv .others) (g .0) (g .1 .0) (g .1 .1 .0)
 given c =
     let p = inv c in
     let d = c .before .before .before in
-    let a = d .before .before .before .before .before .before .before .args in
+    let a = d .before .before .before .before .before .before .before .before .args in
     subst (GivesMember (now (a .t)) (d .before .loop .left) (p .others)) (c .before .key .given .1) (d .next .ensures (p .others) (p .here))
 
 add-conflicts-list : tie.Need-add-conflicts-list Inv-loop μ-loop
@@ -72,7 +72,8 @@ add-conflicts-list c = omega (arith, inside-within _ _ (key-inside _ _ _ _ _ (in
 
 conflicts-list-requires : tie.Need-conflicts-list-requires Inv-loop μ-loop
 conflicts-list-requires c κs = (
-  c .before .before .before .before .before .before .before .before .before .before .pre .0,
+  c .before .before .before .before .before .before .before .before .before .before .before .pre .0,
+  c .before .before .before .before .before .before .before .before .before .before .before .pre .1,
   key-inside _ _ _ _ _ (inv c) _ _ _ (given c),
   alias-list _ _ _ _ _ (inv c) _ _ _ (given c),
 )

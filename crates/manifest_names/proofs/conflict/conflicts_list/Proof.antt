@@ -31,17 +31,17 @@ unfolding conflict
 under k xs vs = sym (any-under (λ (a : Named). standsElsewhere (a .name) (a .key) xs) k (texts vs))
 
 abbrev Inv-loop : tie.InvT-loop
-Inv-loop s names keys t k at depth left₀ left = InTexts (test s names keys (contentFrom t k)) t at depth left
+Inv-loop s names heads keys t k at depth left₀ left = InTexts (test s names keys (contentFrom t k)) t at depth left
 
 abbrev μ-loop : tie.MeasureT-loop
-μ-loop s names keys t k at depth left₀ left = length t - left .at
+μ-loop s names heads keys t k at depth left₀ left = length t - left .at
 
 new-requires : tie.Need-new-requires Inv-loop μ-loop
-new-requires c κs = let o = c .before .before .before .before .pre .2 in record { values = o .values; here = o .here }
+new-requires c κs = let o = c .before .before .before .before .before .pre .3 in record { values = o .values; here = o .here }
 
 loop-holds : tie.Need-loop-holds Inv-loop μ-loop
 loop-holds c =
-    let o = c .before .before .before .before .before .pre .2 in
+    let o = c .before .before .before .before .before .before .pre .3 in
     texts-started _ _ _ _ o _ (c .new .ensures .0 (o .values) (o .here))
 
 next-requires : tie.Need-next-requires Inv-loop μ-loop
@@ -60,17 +60,17 @@ enum-known-p : tie.Need-enum-known-p Inv-loop μ-loop
 enum-known-p c = search needs
 
 -- what `next` gave: an element
-abbrev inv : (c : tie.After-known-told Inv-loop μ-loop) → let b = c .before .before .before .before in let a = b .before .before .before .before .before .before .args in
+abbrev inv : (c : tie.After-known-told Inv-loop μ-loop) → let b = c .before .before .before .before in let a = b .before .before .before .before .before .before .before .args in
     InTexts (test (now (a .s)) (now (a .names)) (now (a .keys)) (contentFrom (now (a .t)) (a .k))) (now (a .t)) (a .at) (a .depth) (b .loop .left)
 inv c = c .before .before .before .before .loop .inv
 
-given : (c : tie.After-known-told Inv-loop μ-loop) → let b = c .before .before .before .before in let a = b .before .before .before .before .before .before .args in
+given : (c : tie.After-known-told Inv-loop μ-loop) → let b = c .before .before .before .before in let a = b .before .before .before .before .before .before .before .args in
     let g = c .before .p .given .0 in
     NextElement (now (a .t)) (b .loop .left) (b .loop .inv .others) (g .0) (g .1 .0)
 given c =
     let p = inv c in
     let d = c .before .before .before in
-    let a = d .before .before .before .before .before .before .before .args in
+    let a = d .before .before .before .before .before .before .before .before .args in
     subst (GivesElement (now (a .t)) (d .before .loop .left) (p .others)) (c .before .p .given .1) (d .next .ensures (p .others) (p .here))
 
 add-is-elsewhere : tie.Need-add-is-elsewhere Inv-loop μ-loop
@@ -78,8 +78,8 @@ add-is-elsewhere c = omega (arith, inside-within _ _ (text-inside _ _ _ _ _ (inv
 
 is-elsewhere-requires : tie.Need-is-elsewhere-requires Inv-loop μ-loop
 is-elsewhere-requires c κs =
-    let a = c .before .before .before .before .before .before .before .before .before .before in
-    (a .pre .0, text-inside _ _ _ _ _ (inv c) _ _ (given c), a .pre .1)
+    let a = c .before .before .before .before .before .before .before .before .before .before .before in
+    (a .pre .0, a .pre .1, text-inside _ _ _ _ _ (inv c) _ _ (given c), a .pre .2)
 
 returns-2 : tie.Need-returns-2 Inv-loop μ-loop
 returns-2 c =

@@ -22,17 +22,17 @@ abbrev test : (s ks : List ℕ) → ((cs : List (List ℕ)) × SortedNames s cs 
 test s ks i a = isOneOf (a .name) (i .0)
 
 abbrev Inv-loop : tie.InvT-loop
-Inv-loop s names t at depth left₀ left = InNamed (test s names) t at depth left
+Inv-loop s names heads t at depth left₀ left = InNamed (test s names) t at depth left
 
 abbrev μ-loop : tie.MeasureT-loop
-μ-loop s names t at depth left₀ left = length t - left .at
+μ-loop s names heads t at depth left₀ left = length t - left .at
 
 new-requires : tie.Need-new-requires Inv-loop μ-loop
-new-requires c κs = let o = c .before .before .before .pre .1 in record { fields = o .fields; here = o .here }
+new-requires c κs = let o = c .before .before .before .before .pre .2 in record { fields = o .fields; here = o .here }
 
 loop-holds : tie.Need-loop-holds Inv-loop μ-loop
 loop-holds c =
-    let o = c .before .before .before .before .pre .1 in
+    let o = c .before .before .before .before .before .pre .2 in
     named-started _ _ _ _ o _ (c .new .ensures .0 (o .fields) (o .here))
 
 next-requires : tie.Need-next-requires Inv-loop μ-loop
@@ -52,21 +52,23 @@ enum-known-value : tie.Need-enum-known-value Inv-loop μ-loop
 enum-known-value c = search needs
 
 -- what `next` gave: a member
-abbrev inv : (c : tie.After-known-told Inv-loop μ-loop) → let b = c .before .before .before .before in let a = b .before .before .before .before .before .args in
+abbrev inv : (c : tie.After-known-told Inv-loop μ-loop) → let b = c .before .before .before .before in let a = b .before .before .before .before .before .before .args in
     InNamed (test (now (a .s)) (now (a .names))) (now (a .t)) (a .at) (a .depth) (b .loop .left)
 inv c = c .before .before .before .before .loop .inv
 
-given : (c : tie.After-known-told Inv-loop μ-loop) → let b = c .before .before .before .before in let a = b .before .before .before .before .before .args in
+given : (c : tie.After-known-told Inv-loop μ-loop) → let b = c .before .before .before .before in let a = b .before .before .before .before .before .before .args in
     let g = c .before .value .given .0 in
     NextMember (now (a .t)) (b .loop .left) (b .loop .inv .others) (g .0) (g .1 .0) (g .1 .1 .0)
 given c =
     let p = inv c in
     let d = c .before .before .before in
-    let a = d .before .before .before .before .before .before .args in
+    let a = d .before .before .before .before .before .before .before .args in
     subst (GivesMember (now (a .t)) (d .before .loop .left) (p .others)) (c .before .value .given .1) (d .next .ensures (p .others) (p .here))
 
 shares-list-requires : tie.Need-shares-list-requires Inv-loop μ-loop
-shares-list-requires c κs = (c .before .before .before .before .before .before .before .before .before .pre .0, alias-list _ _ _ _ _ (inv c) _ _ _ (given c))
+shares-list-requires c κs =
+    let a = c .before .before .before .before .before .before .before .before .before .before in
+    (a .pre .0, a .pre .1, alias-list _ _ _ _ _ (inv c) _ _ _ (given c))
 
 returns-2 : tie.Need-returns-2 Inv-loop μ-loop
 unfolding shareName

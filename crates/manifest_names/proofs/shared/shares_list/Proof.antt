@@ -22,17 +22,17 @@ abbrev test : (s ks : List ℕ) → ((cs : List (List ℕ)) × SortedNames s cs 
 test s ks i n = isOneOf n (i .0)
 
 abbrev Inv-loop : tie.InvT-loop
-Inv-loop s names t at depth left₀ left = InTexts (test s names) t at depth left
+Inv-loop s names heads t at depth left₀ left = InTexts (test s names) t at depth left
 
 abbrev μ-loop : tie.MeasureT-loop
-μ-loop s names t at depth left₀ left = length t - left .at
+μ-loop s names heads t at depth left₀ left = length t - left .at
 
 new-requires : tie.Need-new-requires Inv-loop μ-loop
-new-requires c κs = let o = c .before .before .before .pre .1 in record { values = o .values; here = o .here }
+new-requires c κs = let o = c .before .before .before .before .pre .2 in record { values = o .values; here = o .here }
 
 loop-holds : tie.Need-loop-holds Inv-loop μ-loop
 loop-holds c =
-    let o = c .before .before .before .before .pre .1 in
+    let o = c .before .before .before .before .before .pre .2 in
     texts-started _ _ _ _ o _ (c .new .ensures .0 (o .values) (o .here))
 
 next-requires : tie.Need-next-requires Inv-loop μ-loop
@@ -52,31 +52,33 @@ enum-known-p : tie.Need-enum-known-p Inv-loop μ-loop
 enum-known-p c = search needs
 
 -- what `next` gave: an element
-abbrev inv : (c : tie.After-known-told Inv-loop μ-loop) → let b = c .before .before .before .before in let a = b .before .before .before .before .before .args in
+abbrev inv : (c : tie.After-known-told Inv-loop μ-loop) → let b = c .before .before .before .before in let a = b .before .before .before .before .before .before .args in
     InTexts (test (now (a .s)) (now (a .names))) (now (a .t)) (a .at) (a .depth) (b .loop .left)
 inv c = c .before .before .before .before .loop .inv
 
-given : (c : tie.After-known-told Inv-loop μ-loop) → let b = c .before .before .before .before in let a = b .before .before .before .before .before .args in
+given : (c : tie.After-known-told Inv-loop μ-loop) → let b = c .before .before .before .before in let a = b .before .before .before .before .before .before .args in
     let g = c .before .p .given .0 in
     NextElement (now (a .t)) (b .loop .left) (b .loop .inv .others) (g .0) (g .1 .0)
 given c =
     let p = inv c in
     let d = c .before .before .before in
-    let a = d .before .before .before .before .before .before .args in
+    let a = d .before .before .before .before .before .before .before .args in
     subst (GivesElement (now (a .t)) (d .before .loop .left) (p .others)) (c .before .p .given .1) (d .next .ensures (p .others) (p .here))
 
-add-has-name : tie.Need-add-has-name Inv-loop μ-loop
-add-has-name c = omega (arith, inside-within _ _ (text-inside _ _ _ _ _ (inv c) _ _ (given c)))
+add-has-headed : tie.Need-add-has-headed Inv-loop μ-loop
+add-has-headed c = omega (arith, inside-within _ _ (text-inside _ _ _ _ _ (inv c) _ _ (given c)))
 
-has-name-requires : tie.Need-has-name-requires Inv-loop μ-loop
-has-name-requires c κs = (c .before .before .before .before .before .before .before .before .before .pre .0, text-inside _ _ _ _ _ (inv c) _ _ (given c))
+has-headed-requires : tie.Need-has-headed-requires Inv-loop μ-loop
+has-headed-requires c κs =
+    let a = c .before .before .before .before .before .before .before .before .before .before in
+    (a .pre .0, a .pre .1, text-inside _ _ _ _ _ (inv c) _ _ (given c))
 
 returns-2 : tie.Need-returns-2 Inv-loop μ-loop
 unfolding shareName
 returns-2 c =
     let n = c .before in
     let k = n .before in
-    λ cs vs m v. in-texts _ _ _ _ _ (inv k) _ _ (given k) _ (λ i. n .has-name .ensures (i .0) (i .1)) (c .if1 .taken) (cs, m) vs v
+    λ cs vs m v. in-texts _ _ _ _ _ (inv k) _ _ (given k) _ (λ i. n .has-headed .ensures (i .0) (i .1)) (c .if1 .taken) (cs, m) vs v
 
 loop-less : tie.Need-loop-less Inv-loop μ-loop
 loop-less c = let x = given (c .before .before) in omega (arith, x .later, x .within)
@@ -85,7 +87,7 @@ loop-again : tie.Need-loop-again Inv-loop μ-loop
 loop-again c =
     let n = c .before in
     let k = n .before in
-    texts-go-on _ _ _ _ _ (inv k) _ _ (given k) _ (λ i. n .has-name .ensures (i .0) (i .1)) (c .if1 .left)
+    texts-go-on _ _ _ _ _ (inv k) _ _ (given k) _ (λ i. n .has-headed .ensures (i .0) (i .1)) (c .if1 .left)
 
 pub shares-list-spec : {M : Type 1} → statement M
 shares-list-spec =
@@ -99,8 +101,8 @@ shares-list-spec =
     enum-told
     returns
     enum-known-p
-    add-has-name
-    has-name-requires
+    add-has-headed
+    has-headed-requires
     returns-2
     loop-less
     loop-again)

@@ -1,0 +1,5 @@
+pub mod Comparing
+pub mod Entries
+pub mod Listing
+pub mod Reading
+pub mod Walking

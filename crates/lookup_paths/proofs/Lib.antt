@@ -1,0 +1,5 @@
+pub mod Defining
+pub mod Ends
+pub mod Objects
+pub mod Pigeonhole
+pub mod Steps

@@ -1,0 +1,1 @@
+// Paths of aliases: the definitions and their laws. There is no code here.

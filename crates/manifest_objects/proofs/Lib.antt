@@ -1,0 +1,6 @@
+pub mod Agreement
+pub mod Placing
+pub mod Listing
+pub mod Found
+pub mod Reading
+pub mod Naming

@@ -1,0 +1,215 @@
+-- How far the keys of a group, or the strings of an array, were placed as references. Assumes nothing.
+use Prim.Native.Nat.{ℕ, _+_, _^_, _≤_, _<_}
+use mathlib.Core.Path.{_≡_, refl, sym, ap, subst, _∙_}
+use mathlib.Core.List.{List, [], _∷_, _++_, map, append-assoc, append-nil}
+use mathlib.Core.Bool.{Bool, true, false}
+use native.Mathlib.Omega.{arith}
+use native.Mathlib.Numerals.{add-one}
+use lib.ListN.{length, take, drop, set, length-set}
+use lib.Seq.{take-suc-set, drop-set-lt, drop-drop}
+use Rattle.text_content.specs.Value.{Values, no-values, Fields, no-fields, array, object}
+use Rattle.text_strings.specs.InString.{InString, contentFrom}
+use Rattle.text_strings.proofs.Contents.{content-from, inside-content}
+use Rattle.text_strings.proofs.Orders.{inside-within}
+use Rattle.text_index.proofs.Parts.{in-part}
+use Rattle.text_view.specs.Place.{ValueAt}
+use Rattle.text_view.specs.Cursor.{SomeArray, SomeElements, ElementsLeft, NextElement, SomeObject, SomeMembers, MembersLeft, NextMember}
+use Rattle.text_view.specs.declared.Elements.{Elements}
+use Rattle.text_view.specs.declared.Members.{Members}
+use Rattle.reference.specs.References.{Layer, layer}
+use Rattle.manifest_fields.specs.Accessors.{texts}
+use Rattle.manifest_values.specs.Entries.{allPass, count}
+use Rattle.manifest_values.specs.declared.entry.Entry.the-variants.{Text}
+use Rattle.manifest_values.proofs.Counting.{one-array}
+use Rattle.manifest_fields.proofs.Finding.{one-object}
+use Rattle.manifest_names.proofs.Nexts.{NextString, next-string}
+use Rattle.manifest.specs.Names.{keysOf}
+use Rattle.manifest_objects.specs.Objects.{StandsAt, AllStand, none-stands, stands-too}
+use Rattle.manifest_objects.specs.Walks.{said, PlaceableGroup, PlaceableList, Placed}
+
+-- References that stand after others stand with them.
+pub stand-append : {b ks ls : List ℕ} {xs ys : List Layer} → AllStand b ks xs → AllStand b ls ys → AllStand b (ks ++ ls) (xs ++ ys)
+stand-append none-stands m = m
+stand-append (stands-too h n) m = stands-too h (stand-append n m)
+
+placed-none : (s : List ℕ) (start : ℕ) (keys : List ℕ) → Placed s start keys keys 0 []
+placed-none s start keys = record { rest = refl; stand = λ b m e. none-stands }
+
+-- One more reference is placed: the string with the content c, whose quotation mark stands at position q.
+module _ (s : List ℕ) (start : ℕ) (before keys : List ℕ) (n : ℕ) (ls : List Layer) (p : Placed s start before keys n ls) where
+  module _ (q : ℕ) (c : List ℕ) (i : InString s (q + 1) c) where
+    stands : (b : List ℕ) (m : ℕ) → s ≡ take m (drop start b) → StandsAt b (start + q + 1) (layer c)
+    stands b m e =
+        let k : start + (q + 1) ≡ start + q + 1 = omega arith in
+        let w : InString b (start + q + 1) c =
+        subst (λ (j : ℕ). InString b j c) k (in-part b start m (q + 1) c (subst (λ (t : List ℕ). InString t (q + 1) c) e i)) in
+        record { inside = record { bytes = c; here = w }; is = ap layer (content-from b (start + q + 1) c w) }
+
+    placed-more : n < length keys → Placed s start before (set keys n (start + q + 1)) (n + 1) (ls ++ (layer c ∷ []))
+    placed-more h =
+        record {
+          rest = drop-set-lt (n + 1) keys n (start + q + 1) (omega arith)
+              ∙ (sym (drop-drop 1 n keys) ∙ ap (drop 1) (p .rest) ∙ drop-drop 1 n before);
+          stand = λ b m e. rw (add-one n, take-suc-set keys n (start + q + 1) h) (stand-append (p .stand b m e) (stands-too (stands b m e) none-stands));
+        }
+
+-- Of the group at position `at` the keys before the cursor were placed.
+pub record KeysPlaced (s : List ℕ) (start at depth : ℕ) (before keys : List ℕ) (left : Members) (n : ℕ) : Type 0 where
+  pub others : Fields
+  pub here : MembersLeft s left others
+  pub few : n + length (keysOf others) ≤ 64
+  pub size : length keys ≡ length before
+  pub room : 64 ≤ length before
+  pub short : start + length s < 2 ^ 63
+  pub done : List Layer
+  pub placed : Placed s start before keys n done
+  pub kept : (fs : Fields) → ValueAt s at depth (object fs) → done ++ keysOf others ≡ keysOf fs
+
+module _ (s : List ℕ) (start at depth : ℕ) (before : List ℕ) where
+  -- There is a group to walk over.
+  pub keys-object : PlaceableGroup s start at depth before → SomeObject s at depth
+  keys-object o = record { fields = o .fields; here = o .here }
+
+  -- At the start no key was placed.
+  pub keys-started : (o : PlaceableGroup s start at depth before) (left : Members) → MembersLeft s left (o .fields)
+      → KeysPlaced s start at depth before before left 0
+  keys-started o left l =
+      record {
+        others = o .fields;
+        here = l;
+        few = omega (arith, o .few);
+        size = refl;
+        room = o .room;
+        short = o .short;
+        done = [];
+        placed = placed-none s start before;
+        kept = λ fs v. ap keysOf (one-object s at depth (o .fields) fs (o .here) v);
+      }
+
+  module _ (keys : List ℕ) (left : Members) (n : ℕ) (p : KeysPlaced s start at depth before keys left n) where
+    -- The cursor has members before it.
+    pub keys-left : SomeMembers s left
+    keys-left = record { fields = p .others; left = p .here }
+
+    -- Where no member is left, all keys were placed.
+    pub keys-finished : p .others ≡ no-fields → (fs : Fields) → ValueAt s at depth (object fs) → Placed s start before keys n (keysOf fs)
+    unfolding keysOf
+    keys-finished e fs v =
+        subst (Placed s start before keys n)
+        (sym (append-nil (p .done)) ∙ ap (λ (gs : Fields). p .done ++ keysOf gs) (sym e) ∙ p .kept fs v)
+        (p .placed)
+
+    -- the next member
+    module _ (k q : ℕ) (rest : Members) (x : NextMember s left (p .others) k q rest) where
+      key-split : keysOf (p .others) ≡ layer (x .key) ∷ keysOf (x .others)
+      unfolding keysOf
+      key-split = ap keysOf (x .split)
+
+      -- The key stands in the text, and there is room for its position.
+      pub key-within : k + 1 < length s
+      key-within = inside-within s (k + 1) (record { bytes = x .key; here = x .name })
+
+      pub key-fits : n < length keys
+      key-fits = omega (arith, p .few, ap length key-split, p .size, p .room)
+
+      -- With the key placed the walk goes on.
+      pub keys-go-on : KeysPlaced s start at depth before (set keys n (start + k + 1)) rest (n + 1)
+      keys-go-on =
+          record {
+            others = x .others;
+            here = x .left;
+            few = omega (arith, p .few, ap length key-split);
+            size = length-set keys n (start + k + 1) ∙ p .size;
+            room = p .room;
+            short = p .short;
+            done = p .done ++ (layer (x .key) ∷ []);
+            placed = placed-more s start before keys n (p .done) (p .placed) k (x .key) (x .name) key-fits;
+            kept = λ fs v.
+                append-assoc (p .done) (layer (x .key) ∷ []) (keysOf (x .others)) ∙ ap (λ (l : List Layer). p .done ++ l) (sym key-split) ∙ p .kept fs v;
+          }
+
+-- Of the array at position `at` the strings before the cursor were placed.
+pub record StringsPlaced (s : List ℕ) (start at depth : ℕ) (before keys : List ℕ) (left : Elements) (n : ℕ) : Type 0 where
+  pub others : Values
+  pub here : ElementsLeft s left others
+  pub first : Bool
+  pub strings : allPass Text first others ≡ true
+  pub few : n + count others ≤ 64
+  pub size : length keys ≡ length before
+  pub room : 64 ≤ length before
+  pub short : start + length s < 2 ^ 63
+  pub done : List Layer
+  pub placed : Placed s start before keys n done
+  pub kept : (vs : Values) → ValueAt s at depth (array vs) → done ++ said others ≡ said vs
+
+module _ (s : List ℕ) (start at depth : ℕ) (before : List ℕ) where
+  -- There is an array to walk over.
+  pub strings-array : PlaceableList s start at depth before → SomeArray s at depth
+  strings-array o = record { values = o .values; here = o .here }
+
+  -- At the start no string was placed.
+  pub strings-started : (o : PlaceableList s start at depth before) (left : Elements) → ElementsLeft s left (o .values)
+      → StringsPlaced s start at depth before before left 0
+  strings-started o left l =
+      record {
+        others = o .values;
+        here = l;
+        first = true;
+        strings = o .strings;
+        few = omega (arith, o .few);
+        size = refl;
+        room = o .room;
+        short = o .short;
+        done = [];
+        placed = placed-none s start before;
+        kept = λ vs v. ap said (one-array s at depth (o .values) vs (o .here) v);
+      }
+
+  module _ (keys : List ℕ) (left : Elements) (n : ℕ) (p : StringsPlaced s start at depth before keys left n) where
+    -- The cursor has elements before it.
+    pub strings-left : SomeElements s left
+    strings-left = record { values = p .others; left = p .here }
+
+    -- Where no element is left, all strings were placed.
+    pub strings-finished : p .others ≡ no-values → (vs : Values) → ValueAt s at depth (array vs) → Placed s start before keys n (said vs)
+    unfolding said texts
+    strings-finished e vs v =
+        subst (Placed s start before keys n)
+        (sym (append-nil (p .done)) ∙ ap (λ (ws : Values). p .done ++ said ws) (sym e) ∙ p .kept vs v)
+        (p .placed)
+
+    -- the next element
+    module _ (q : ℕ) (rest : Elements) (x : NextElement s left (p .others) q rest) where
+      text : NextString s (p .others) (x .others) q
+      text = next-string s left (p .others) (p .first) (p .strings) q rest x
+
+      string-split : said (p .others) ≡ layer (contentFrom s (q + 1)) ∷ said (x .others)
+      unfolding said
+      string-split = ap (map layer) (text .split)
+
+      -- The string stands in the text, and there is room for its position.
+      pub string-within : q + 1 < length s
+      string-within = inside-within s (q + 1) (text .inside)
+
+      pub string-fits : n < length keys
+      string-fits = omega (arith, p .few, text .counted, p .size, p .room)
+
+      -- With the string placed the walk goes on.
+      pub strings-go-on : StringsPlaced s start at depth before (set keys n (start + q + 1)) rest (n + 1)
+      strings-go-on =
+          record {
+            others = x .others;
+            here = x .left;
+            first = false;
+            strings = text .strings;
+            few = omega (arith, p .few, text .counted);
+            size = length-set keys n (start + q + 1) ∙ p .size;
+            room = p .room;
+            short = p .short;
+            done = p .done ++ (layer (contentFrom s (q + 1)) ∷ []);
+            placed = placed-more s start before keys n (p .done) (p .placed) q (contentFrom s (q + 1)) (inside-content s (q + 1) (text .inside)) string-fits;
+            kept = λ vs v.
+                append-assoc (p .done) (layer (contentFrom s (q + 1)) ∷ []) (said (x .others))
+                ∙ ap (λ (l : List Layer). p .done ++ l) (sym string-split)
+                ∙ p .kept vs v;
+          }

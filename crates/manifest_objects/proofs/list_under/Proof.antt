@@ -1,0 +1,116 @@
+-- `manifest_objects::list_under` meets its contract. The loop's invariant: the strings before the cursor were added with the number of their object. The
+-- measure is how much of the text is left. Assumes nothing.
+use borrow.Author.Needs.{needs}
+use Prim.Native.Nat.{_-_}
+use mathlib.Core.Path.{subst}
+use native.Mathlib.Omega.{arith}
+use denote.Ref.{now}
+use lib.ListN.{length}
+use Rattle.text_view.specs.Cursor.{GivesElement, NextElement}
+use Rattle.manifest_objects.proofs.Listing.{UnderObject, under-array, under-started, under-left, under-finished, place-within, place-fits, owner-fits, under-goes-on}
+use Rattle.manifest_objects.proofs.list_under.Statement.{statement}
+use Rattle.manifest_objects.proofs.list_under.Tie as tie
+
+abbrev Inv-loop : tie.InvT-loop
+Inv-loop s at depth object names₀ owners₀ n left₀ i₀ names owners left i = UnderObject s at depth object names₀ owners₀ n names owners left i
+
+abbrev μ-loop : tie.MeasureT-loop
+μ-loop s at depth object names₀ owners₀ n left₀ i₀ names owners left i = length s - left .at
+
+new-requires : tie.Need-new-requires Inv-loop μ-loop
+new-requires c κs = under-array _ _ _ _ _ _ _ (c .before .before .before .pre)
+
+loop-holds : tie.Need-loop-holds Inv-loop μ-loop
+loop-holds c =
+    let o = c .before .before .before .before .pre in
+    under-started _ _ _ _ _ _ _ o _ (c .new .ensures .0 (o .list .values) (o .list .here))
+
+next-requires : tie.Need-next-requires Inv-loop μ-loop
+next-requires c κs = under-left _ _ _ _ _ _ _ _ _ _ _ (c .loop .inv)
+
+enum-told : tie.Need-enum-told Inv-loop μ-loop
+enum-told c = search needs
+
+same-length : tie.Need-same-length Inv-loop μ-loop
+same-length c = c .before .before .before .loop .inv .size
+
+same-length-2 : tie.Need-same-length-2 Inv-loop μ-loop
+same-length-2 c = c .before .before .before .loop .inv .owner-size
+
+returns : tie.Need-returns Inv-loop μ-loop
+returns c =
+    let d = c .before .before in
+    let p = d .before .loop .inv in
+    under-finished _ _ _ _ _ _ _ _ _ _ _ p (rw (c .enum-told .given .1) at (d .next .ensures (p .others) (p .here)))
+
+enum-known-p : tie.Need-enum-known-p Inv-loop μ-loop
+enum-known-p c = search needs
+
+-- what `next` gave: an element
+abbrev inv : (c : tie.After-known-told Inv-loop μ-loop) → let b = c .before .before .before .before in let a = b .before .before .before .before .before .args in
+    UnderObject (now (a .s)) (a .at) (a .depth) (a .object) (now (a .names)) (now (a .owners)) (a .n) (b .loop .names) (b .loop .owners) (b .loop .left) (b .loop .i)
+inv c = c .before .before .before .before .loop .inv
+
+given : (c : tie.After-known-told Inv-loop μ-loop) → let b = c .before .before .before .before in let a = b .before .before .before .before .before .args in
+    let g = c .before .p .given .0 in
+    NextElement (now (a .s)) (b .loop .left) (b .loop .inv .others) (g .0) (g .1 .0)
+given c =
+    let p = inv c in
+    let d = c .before .before .before in
+    let a = d .before .before .before .before .before .before .args in
+    subst (GivesElement (now (a .s)) (d .before .loop .left) (p .others)) (c .before .p .given .1) (d .next .ensures (p .others) (p .here))
+
+cast-names : tie.Need-cast-names Inv-loop μ-loop
+cast-names c =
+    let a = c .before .before .before .before .before .before .before .before .before in
+    omega (arith, place-within _ _ _ _ _ _ _ _ _ _ _ (inv c) _ _ (given c), a .pre .list .short)
+
+mul-names : tie.Need-mul-names Inv-loop μ-loop
+mul-names c = omega (arith, place-fits _ _ _ _ _ _ _ _ _ _ _ (inv c) _ _ (given c), inv c .size)
+
+slice-write-names : tie.Need-slice-write-names Inv-loop μ-loop
+slice-write-names c = place-fits _ _ _ _ _ _ _ _ _ _ _ (inv c) _ _ (given c)
+
+cast-owners : tie.Need-cast-owners Inv-loop μ-loop
+cast-owners c =
+    let a = c .before .before .before .before .before .before .before .before .before in
+    omega (arith, a .pre .small)
+
+mul-owners : tie.Need-mul-owners Inv-loop μ-loop
+mul-owners c = omega (arith, owner-fits _ _ _ _ _ _ _ _ _ _ _ (inv c) _ _ (given c), inv c .owner-size)
+
+slice-write-owners : tie.Need-slice-write-owners Inv-loop μ-loop
+slice-write-owners c = owner-fits _ _ _ _ _ _ _ _ _ _ _ (inv c) _ _ (given c)
+
+add-i : tie.Need-add-i Inv-loop μ-loop
+add-i c = omega (arith, place-fits _ _ _ _ _ _ _ _ _ _ _ (inv c) _ _ (given c), inv c .size)
+
+loop-less : tie.Need-loop-less Inv-loop μ-loop
+loop-less c = let x = given c in omega (arith, x .later, x .within)
+
+loop-again : tie.Need-loop-again Inv-loop μ-loop
+loop-again c = under-goes-on _ _ _ _ _ _ _ _ _ _ _ (inv c) _ _ (given c)
+
+pub list-under-spec : {M : Type 1} → statement M
+list-under-spec =
+    tie.close
+    (tie.spec
+    Inv-loop
+    μ-loop
+    new-requires
+    loop-holds
+    next-requires
+    enum-told
+    same-length
+    same-length-2
+    returns
+    enum-known-p
+    cast-names
+    mul-names
+    slice-write-names
+    cast-owners
+    mul-owners
+    slice-write-owners
+    add-i
+    loop-less
+    loop-again)

@@ -1,0 +1,97 @@
+-- `store_names::index_all` meets its contract. The loop's invariant: the index has the aliases of the first i images. The measure is how many images are
+-- left.
+use Prim.Native.Nat.{_-_, _≤_, _<_}
+use mathlib.Core.Path.{_≡_, sym, _∙_}
+use native.Mathlib.Omega.{arith}
+use denote.Ref.{now}
+use lib.ListN.{getD}
+use Rattle.manifest.proofs.Indexing.{some-index}
+use Rattle.store_names.proofs.Numbering.{IndexedTo, indexed-none, indexed-next}
+use Rattle.store_names.proofs.index_all.Statement.{statement}
+use Rattle.store_names.proofs.index_all.Tie as tie
+
+abbrev Inv-loop : tie.InvT-loop
+Inv-loop b at counts images order₀ n₀ i₀ order n i = (i ≤ images) × IndexedTo b at counts i n order
+
+abbrev μ-loop : tie.MeasureT-loop
+μ-loop b at counts images order₀ n₀ i₀ order n i = images - i
+
+-- a turn of the loop: the image whose aliases it adds
+module _ (t : tie.In-loop Inv-loop μ-loop) where
+  abbrev start : tie.Start Inv-loop μ-loop
+  start = t .before .before .before .before .before .before
+
+  few : t .before .loop .i < 64
+  few = omega (arith, t .loop-test .taken, start .pre .1)
+
+  few-aliases : getD (now (start .args .counts)) (t .before .loop .i) 0 ≤ 64
+  few-aliases = start .pre .0 .few (t .before .loop .i) (t .loop-test .taken)
+
+-- the turn in which aliases were added
+abbrev turn : tie.After-slice-known2 Inv-loop μ-loop → tie.In-loop Inv-loop μ-loop
+turn c = c .before .before .before .before .before
+
+loop-holds : tie.Need-loop-holds Inv-loop μ-loop
+loop-holds c = (omega arith, indexed-none _ _ _ _ (c .before .before .before .before .pre .3))
+
+mul-count : tie.Need-mul-count Inv-loop μ-loop
+mul-count c = omega (arith, few c)
+
+shared-slice-read-count : tie.Need-shared-slice-read-count Inv-loop μ-loop
+shared-slice-read-count c = let t = c .before in omega (arith, few t, start t .pre .2)
+
+cast-count : tie.Need-cast-count Inv-loop μ-loop
+cast-count c = omega (arith, few-aliases (c .before))
+
+index-image-requires : tie.Need-index-image-requires Inv-loop μ-loop
+index-image-requires c κs =
+    let t = c .before .before in
+    let l = t .before .loop in
+    let x = l .inv .1 in (
+      some-index (x .index),
+      few t,
+      few-aliases t,
+      omega (arith, few t, few-aliases t, x .few, x .room),
+      start t .pre .0 .each (l .i) (t .loop-test .taken),
+    )
+
+add-i : tie.Need-add-i Inv-loop μ-loop
+add-i c = omega (arith, few (turn c))
+
+loop-less : tie.Need-loop-less Inv-loop μ-loop
+loop-less c = omega (arith, turn c .loop-test .taken)
+
+loop-again : tie.Need-loop-again Inv-loop μ-loop
+loop-again c =
+    let t = turn c in
+    let l = t .before .loop in
+    let e = c .before .before .index-image .ensures in
+    (omega (arith, t .loop-test .taken), indexed-next _ _ _ (l .i) (l .n) (l .order) (l .inv .1) (few-aliases t) _ _ (e .0) (e .1) (e .2))
+
+same-length : tie.Need-same-length Inv-loop μ-loop
+same-length c = c .before .loop .inv .1 .room ∙ sym (c .before .before .before .before .before .before .pre .3)
+
+returns : tie.Need-returns Inv-loop μ-loop
+returns c =
+    let l = c .before .loop in
+    let a = c .before .before .before .before .before .before in
+    let e : l .i ≡ a .args .images = omega (arith, l .inv .0, c .loop-test .left) in
+    let x = rw e at (l .inv .1) in
+    (omega (arith, x .few, a .pre .1), x .room, x .index)
+
+pub index-all-spec : {M : Type 1} → statement M
+index-all-spec =
+    tie.close
+    (tie.spec
+    Inv-loop
+    μ-loop
+    loop-holds
+    mul-count
+    shared-slice-read-count
+    cast-count
+    index-image-requires
+    add-i
+    loop-less
+    loop-again
+    same-length
+    returns)

@@ -1,0 +1,155 @@
+-- `store_names::place_all` meets its contract. The loop's invariant: the positions of the aliases of the first i images are written. The measure is how
+-- many images are left.
+use Prim.Native.Nat.{ℕ, _+_, _-_, _*_, _≤_, _<_}
+use mathlib.Core.Path.{_≡_, sym, _∙_}
+use native.Mathlib.Omega.{arith}
+use borrow.Author.Needs.{needs}
+use borrow.Rule.Slice.PartMut.{midOf, mid-len}
+use denote.Ref.{now}
+use lib.ListN.{getD, length}
+use Rattle.manifest.specs.Opened.{Opens}
+use Rattle.manifest.specs.declared.Places.{Places}
+use Rattle.store_record.specs.Reading.{between, noRecord, RecordIn}
+use Rattle.store_record.specs.declared.Record.{Record}
+use Rattle.store_names.proofs.Opened.{opened-at}
+use Rattle.store_names.specs.Placed.{PlacedUpTo}
+use Rattle.store_names.proofs.Placing.{placed-none, placed-next}
+use Rattle.store_names.proofs.place_all.Statement.{statement}
+use Rattle.store_names.proofs.place_all.Tie as tie
+
+abbrev Inv-loop : tie.InvT-loop
+Inv-loop b at₀ counts₀ v places i₀ at counts i = (i ≤ v .count) × PlacedUpTo i b v at counts
+
+abbrev μ-loop : tie.MeasureT-loop
+μ-loop b at₀ counts₀ v places i₀ at counts i = v .count - i
+
+-- a turn of the loop: the image whose aliases it writes
+module _ (t : tie.In-loop Inv-loop μ-loop) where
+  abbrev start : tie.Start Inv-loop μ-loop
+  start = t .before .before .before .before .before
+
+  abbrev reached : Record
+  reached = getD (start .args .t2 .records) (t .before .loop .i) noRecord
+
+  few : t .before .loop .i < 64
+  few = omega (arith, t .loop-test .taken, start .pre .0 .fills .few)
+
+  inside : RecordIn (now (start .args .b)) reached
+  inside = start .pre .0 .fills .each _ (t .loop-test .taken)
+
+  opened : (d : Places) → Opens (between (now (start .args .b)) (reached .text) (reached .end)) (getD (start .args .t3) (t .before .loop .i) d)
+  opened = opened-at _ _ _ (start .pre .0) _ (t .loop-test .taken)
+
+  -- the first of its places
+  abbrev first : ℕ
+  first = 64 * t .before .loop .i
+
+  fits : first + 64 ≤ length (t .before .loop .at)
+  fits = omega (arith, few, t .before .loop .inv .1 .at-room)
+
+  lent : length (midOf first (length (t .before .loop .at) - first) (t .before .loop .at)) ≡ length (t .before .loop .at) - first
+  lent = mid-len first (length (t .before .loop .at)) (t .before .loop .at) (omega arith)
+
+-- the turn in which aliases were written
+abbrev turn : tie.After-slice-known3 Inv-loop μ-loop → tie.In-loop Inv-loop μ-loop
+turn c = c .before .before .before .before .before .before
+
+loop-holds : tie.Need-loop-holds Inv-loop μ-loop
+loop-holds c = let p = c .before .before .before .pre in (omega arith, placed-none _ _ _ _ (p .1) (p .2))
+
+mul-r : tie.Need-mul-r Inv-loop μ-loop
+mul-r c = omega (arith, few c)
+
+element-copy-out-r : tie.Need-element-copy-out-r Inv-loop μ-loop
+element-copy-out-r c = few c
+
+mul-q : tie.Need-mul-q Inv-loop μ-loop
+mul-q c = omega (arith, few (c .before))
+
+array-copy-out-q : tie.Need-array-copy-out-q Inv-loop μ-loop
+array-copy-out-q c = few (c .before)
+
+mul-first : tie.Need-mul-first Inv-loop μ-loop
+mul-first c = omega (arith, few (c .before .before))
+
+mul-place-self : tie.Need-mul-place-self Inv-loop μ-loop
+mul-place-self c = omega (arith, few (c .before .before))
+
+sub-place-self : tie.Need-sub-place-self Inv-loop μ-loop
+sub-place-self c = omega (arith, fits (c .before .before))
+
+part-place-self-start : tie.Need-part-place-self-start Inv-loop μ-loop
+part-place-self-start c = omega (arith, fits (c .before .before))
+
+part-place-self-end : tie.Need-part-place-self-end Inv-loop μ-loop
+part-place-self-end c = search needs
+
+place-self-requires : tie.Need-place-self-requires Inv-loop μ-loop
+unfolding between
+place-self-requires c κs =
+    let t = c .before .before .before in
+    (inside t .text, inside t .within, opened t _, omega (arith, lent t, fits t))
+
+cast-counts : tie.Need-cast-counts Inv-loop μ-loop
+cast-counts c = omega (arith, c .before .before .place-self .ensures .0)
+
+mul-counts : tie.Need-mul-counts Inv-loop μ-loop
+mul-counts c = omega (arith, few (turn c))
+
+slice-write-counts : tie.Need-slice-write-counts Inv-loop μ-loop
+slice-write-counts c = omega (arith, few (turn c), turn c .before .loop .inv .1 .counts-room)
+
+add-i : tie.Need-add-i Inv-loop μ-loop
+add-i c = omega (arith, few (turn c))
+
+loop-less : tie.Need-loop-less Inv-loop μ-loop
+loop-less c = omega (arith, turn c .loop-test .taken)
+
+loop-again : tie.Need-loop-again Inv-loop μ-loop
+unfolding between
+loop-again c =
+    let t = turn c in
+    let l = t .before .loop in
+    let e = c .before .before .place-self .ensures in (
+      omega (arith, t .loop-test .taken),
+      placed-next _ _ _ _ (l .i) (l .inv .1) (few t) (c .before .before .place-self .result) _ (e .0) (omega (arith, e .1, lent t, fits t)) (e .3),
+    )
+
+same-length : tie.Need-same-length Inv-loop μ-loop
+same-length c = c .before .loop .inv .1 .at-room ∙ sym (c .before .before .before .before .before .pre .1)
+
+same-length-2 : tie.Need-same-length-2 Inv-loop μ-loop
+same-length-2 c = c .before .loop .inv .1 .counts-room ∙ sym (c .before .before .before .before .before .pre .2)
+
+returns : tie.Need-returns Inv-loop μ-loop
+returns c =
+    let l = c .before .loop in
+    let e : l .i ≡ c .before .before .before .before .before .args .t2 .count = omega (arith, l .inv .0, c .loop-test .left) in
+    rw e at (l .inv .1)
+
+pub place-all-spec : {M : Type 1} → statement M
+place-all-spec =
+    tie.close
+    (tie.spec
+    Inv-loop
+    μ-loop
+    loop-holds
+    mul-r
+    element-copy-out-r
+    mul-q
+    array-copy-out-q
+    mul-first
+    mul-place-self
+    sub-place-self
+    part-place-self-start
+    part-place-self-end
+    place-self-requires
+    cast-counts
+    mul-counts
+    slice-write-counts
+    add-i
+    loop-less
+    loop-again
+    same-length
+    same-length-2
+    returns)
