@@ -1,7 +1,7 @@
 # make report      an evening's images, loaded one after the other, and who shuts out whom
 # make canonical   the canonical form of an example manifest, through a C host
 # make test        the gate: proofs, must-fail edits, tests
-# make bench       the library beside serde_json, Python's json and a host's own loading and judging, and checking beside canonical
+# make bench       the library beside serde_json, Python's json and a host's own loading, judging and resolving, and checking beside canonical
 #
 # ACON_LIB=FILE uses another archive than the one that rt makes (not in `make test`).
 

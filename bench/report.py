@@ -95,7 +95,7 @@ def asked(what, value, most, name=None):
 
 
 def store_rows(folder, call, samples, sample_time, made):
-    """Microseconds of the library and of the host's own code, and the library's stack, for each store."""
+    """Microseconds of the library and of the host's own code, and what else is timed, and the library's stack, for each store."""
     paths = [case.path for case in made]
     speed = lines(os.path.join(folder, "compare"), call, str(samples), str(sample_time), *paths)
     stack = lines(os.path.join(folder, "stack"), call, *paths)
@@ -145,6 +145,24 @@ def report_judges(folder):
     asked("Most stack of acon_judge, in KB", max(used for _, _, _, used in rows + worst) / 1024, 192)
 
 
+def report_resolves(folder):
+    """A job's layers, and what resolving layers in the worst stores costs beside checking these."""
+    to = os.path.join(folder, "resolved")
+    rows = store_rows(folder, "resolve", SAMPLES, SAMPLE_TIME, stores.write_resolved(to, stores.resolved_plain()))
+    worst = store_rows(folder, "resolve", LARGE_SAMPLES, LARGE_SAMPLE_TIME, stores.write_resolved(to, stores.resolved_worst()))
+    print()
+    print("Resolving the layers of an image: microseconds for one call, median of %d samples (all but the first: %d)" % (SAMPLES, LARGE_SAMPLES))
+    print("%-28s %8s %11s %10s %10s %10s %9s %13s" % ("store", "bytes", "acon", "host", "acon/host", "check", "/check", "acon's stack"))
+    for case, acon, host, check, used in rows + worst:
+        print("%-28s %8d %11.2f %10.2f %10.2f %10.2f %9.2f %13d" % (case.name, case.store, acon, host, acon / host, check, acon / check, used))
+    print()
+    asked("The library over the host's own code, a job's layers", *max((acon / host, 1, case.name) for case, acon, host, _, _ in rows))
+    webs = [(acon / check, 10, case.name) for case, acon, _, check, _ in worst]
+    asked("Worst web over checking its store", *max(row for row in webs if row[2].startswith("web")))
+    print("Worst of all stores over checking it: %.2f (%s)" % max((ratio, name) for ratio, _, name in webs))
+    print("Most stack of acon_resolve, in KB: %.2f" % (max(row[-1] for row in rows + worst) / 1024))
+
+
 def main():
     folder = sys.argv[1]
     made = inputs.write_all(os.path.join(folder, "inputs"))
@@ -189,6 +207,7 @@ def main():
     report_checks(folder)
     report_loads(folder)
     report_judges(folder)
+    report_resolves(folder)
 
 
 main()

@@ -1,5 +1,6 @@
-"""Stores, each with the image that is loaded into it: write_plain(FOLDER), write_worst(FOLDER); and stores that are judged:
-write_judged(FOLDER, judged_plain()), write_judged(FOLDER, judged_worst())."""
+"""Stores, each with the image that is loaded into it: write_plain(FOLDER), write_worst(FOLDER); stores that are judged:
+write_judged(FOLDER, judged_plain()), write_judged(FOLDER, judged_worst()); and stores with an image whose layers are resolved:
+write_resolved(FOLDER, resolved_plain()), write_resolved(FOLDER, resolved_worst())."""
 
 import bisect
 import collections
@@ -156,6 +157,91 @@ def judged_worst():
     yield "64 rules, escaped names", rules_store(lambda i: QUOTES + escaped(i) + inputs.word(i // 4096, 1), False)
 
 
+# ---- Stores with an image whose layers are resolved
+
+
+def alias(image, name):
+    """The layer reference of a name that an image defines."""
+    return "signer/%s/%s/%s" % (image.algorithm, image.signer, name)
+
+
+def layers_manifest(contents, layers):
+    return inputs.canonical({"aconSpecVersion": [1, 0], "aliases": {"contents": contents}, "layers": layers})
+
+
+def job_store():
+    """40 images, the last a job of five layers: two by their digests, three by names that other images define, one of these by way of
+    another name. The image before it defines that name; two have a layer that nobody defines, and one that never ends."""
+    r = random.Random(7)
+    images, _ = worked_store(36)
+    plates = json.loads(inputs.worked_manifest())["layers"][0].split("/")  # signer, algorithm, signer's digest, name
+    library = Image(plates[1], plates[2], inputs.digest(r, plates[1]), "")
+    library = library._replace(manifest=layers_manifest({"sha384/" + inputs.digest(r, "sha384"): [plates[3], "plates:1"]}, []))
+    spare = Image("sha224", inputs.digest(r, "sha224"), inputs.digest(r, "sha224"), "")
+    layers = ["sha256/" + inputs.digest(r, "sha256"), "sha384/" + inputs.digest(r, "sha384"), alias(images[0], "SharedLayerA:1"),
+              alias(images[20], "SharedLayerC:2"), alias(images[35], "SharedLayerB:0")]
+    images += [spare._replace(manifest=layers_manifest({}, [layers[0], alias(spare, "nobody")])),
+               spare._replace(digest=inputs.digest(r, "sha224"), manifest=layers_manifest({alias(spare, "loop"): ["loop"]}, [alias(spare, "loop")])),
+               library, spare._replace(digest=inputs.digest(r, "sha224"), manifest=layers_manifest({}, layers))]
+    return images, len(images) - 1
+
+
+def web_store(name):
+    """64 images of one signer with 64 objects each. Every object but one is the name of the next one, in no order, so that the path of each
+    of the 64 layers of the last image runs through all 4,096. `name` gives the one with a number, of so many bytes at most as a text."""
+    r = random.Random(8)
+    by = Image("sha224", inputs.digest(r, "sha224"), "", "")
+    # the last image's names are short and come first, since its manifest has 64 layers as well
+    short, names = [name(k, 8) for k in range(63 * 64, 64 * 64)], [name(k, 86) for k in range(63 * 64)]
+    path = r.sample(short, len(short)) + r.sample(names, len(names))
+    after = dict(zip(path, path[1:]))
+    last = "sha224/" + inputs.digest(r, "sha224")
+    images = []
+    for own in [names[64 * i:64 * i + 64] for i in range(63)] + [short]:
+        contents = {alias(by, after[n]) if n in after else last: [n] for n in own}
+        layers = [alias(by, path[0])] * 64 if own is short else []
+        images.append(by._replace(digest=inputs.digest(r, "sha224"), manifest=layers_manifest(contents, layers)))
+    return images, 63
+
+
+def names_web(name, same):
+    """The stores with as many names as fit, which are all looked for."""
+    images, loaded = names_store(name, same)
+    layers = sorted(json.loads(images[0].manifest)["aliases"]["contents"])
+    return images + [loaded._replace(manifest=layers_manifest({}, layers))], IMAGES
+
+
+def one_name_store():
+    """64 images of 64 signers, all with one name: for their own digest, and in up to 63 other objects for what signers define who are not
+    there. Every image's name is looked for among all references, which have that name."""
+    r = random.Random(9)
+    name = "a" * 100
+    images = [Image("sha224", inputs.digest(r, "sha224"), inputs.digest(r, "sha224"), "") for _ in range(64)]
+    held = []
+    for i, image in enumerate(images):
+        strangers = [alias(image._replace(signer=inputs.digest(r, "sha224")), name) for _ in range(63)]
+        contents = {**{reference: [] for reference in strangers}, "sha224/" + inputs.digest(r, "sha224"): [name]}
+        layers = [alias(by, name) for by in images[:20]] if i == 63 else []
+        if i == 63:
+            contents = dict(list(contents.items())[-20:])
+        held.append(image._replace(manifest=layers_manifest(contents, layers)))
+    return held, 63
+
+
+def resolved_plain():
+    """Name, images, and the place of the one whose layers are resolved."""
+    yield ("5 layers, 40 images", *job_store())
+
+
+def resolved_worst():
+    yield ("web, short names", *web_store(lambda k, most: inputs.word(k, 3)))
+    yield ("web, long names", *web_store(lambda k, most: "a" * (most - 4) + "%04d" % k))
+    yield ("web, escaped names", *web_store(lambda k, most: QUOTES[: (most - 4) // 2] + "%04d" % k))
+    yield ("short names, all different", *names_web(lambda i: inputs.word(i, 3), False))
+    yield ("short names, the same", *names_web(lambda i: inputs.word(i, 2), True))
+    yield ("one name, 4,000 signers", *one_name_store())
+
+
 # ---- Files
 
 Made = collections.namedtuple("Made", "name store manifest path")  # the lengths of both; the path without its ending
@@ -193,3 +279,26 @@ def write_judged(folder, cases):
     """Writes the store of each case."""
     stores = [(name, b"".join(map(record, images))) for name, images in cases]
     return [Made(name, len(store), 0, write_files(folder, name, store=store)) for name, store in stores]
+
+
+def entry(layer):
+    """The entry of a layer list for a layer by its digest."""
+    algorithm, digest = layer.split("/")
+    return bytes([ALGORITHMS[algorithm]]) + bytes.fromhex(digest)
+
+
+def layer_list(images):
+    """The layers by digests of all images, each once: those in their lists, and those that names stand for."""
+    manifests = [json.loads(image.manifest) for image in images]
+    named = {layer for m in manifests for layer in [*m.get("layers", []), *m.get("aliases", {}).get("contents", {})]}
+    return b"".join(map(entry, sorted(layer for layer in named if not layer.startswith("signer/"))))
+
+
+def write_resolved(folder, cases):
+    """Writes for each case the store, the layer list and the place of the image."""
+    made = []
+    for name, images, place in cases:
+        store = b"".join(map(record, images))
+        path = write_files(folder, name, store=store, layers=layer_list(images), place=b"%d" % place)
+        made.append(Made(name, len(store), 0, path))
+    return made

@@ -45,6 +45,11 @@ enum {
     ACON_CLASH = 13,     /* the image clashes with one of the store */
     ACON_FULL = 14,      /* the store holds 64 images, or the record is longer than what
                             is left of the buffer */
+    ACON_BAD_LIST = 15,  /* the layer list has a bad algorithm byte or a cut entry */
+    ACON_NO_IMAGE = 16,  /* no image of the store has that place */
+    ACON_NO_ALIAS = 17,  /* an alias on a layer's path is defined by no image */
+    ACON_ENDLESS = 18,   /* a layer's path never meets a digest */
+    ACON_ABSENT = 19,    /* the digest that a layer meets is not in the layer list */
     ACON_NO_SPACE = 20   /* the output is longer than the buffer */
 };
 
@@ -52,8 +57,9 @@ enum {
  * outermost counting 1. */
 enum { ACON_TEXT_MAX = 16384, ACON_NESTING_MAX = 8 };
 
-/* Most images of a store, and most bytes of a report. */
-enum { ACON_IMAGES_MAX = 64, ACON_REPORT_MAX = 2 * 64 * 63 };
+/* Most images of a store, and most bytes of a report and of what acon_resolve
+ * writes: 64 layers of 49 bytes. */
+enum { ACON_IMAGES_MAX = 64, ACON_REPORT_MAX = 2 * 64 * 63, ACON_OUTPUT_MAX = 64 * 49 };
 
 /* The number of an answer. */
 static inline unsigned acon_number(uint64_t answer)
@@ -123,6 +129,35 @@ uint64_t acon_load(const uint8_t *id, size_t id_len, const uint8_t *manifest, si
  */
 uint64_t acon_judge(const uint8_t *store, size_t store_len, size_t used, uint8_t *report,
                     size_t report_len);
+
+/* Finds the layers of one image of a store, and writes their digests.
+ *
+ * The store is the first used bytes of a buffer, as for acon_load, and image is
+ * the place of the image: the index of its record in the store, from 0. layers
+ * lists the layers that the host has, in any order; repeats are harmless. An
+ * entry of the list is a byte for the algorithm (1 sha224, 2 sha256, 3 sha384)
+ * and the digest, of 28, 32 or 48 bytes. No bytes are the empty list.
+ *
+ * Each entry of layers in the image's manifest is a digest, or an alias of the
+ * form signer/HASH/SIGNER/ALIAS. An alias is followed to its object, and from
+ * there on until a digest is met. It is defined by every image of the store,
+ * this one too, whose ID has that HASH and SIGNER and whose aliases list ALIAS
+ * in contents; its object is the reference under which it stands there. A name
+ * counts with all its bytes, and names in self are none of layers. The digest
+ * that is met has to be in the layer list, under the same algorithm. The output
+ * has the same form as the list: an entry for each layer, in the order of the
+ * manifest, twice for a layer that stands there twice.
+ *
+ * Number: 0, 11 or 15 to 20. Of 17, 18 and 19 the first layer that fails decides,
+ * also where a later one has a lower number. It is 20 where no layer fails and
+ * the output is longer than the buffer; ACON_OUTPUT_MAX bytes are always enough.
+ * First value: the length of the output in bytes; in 17, 18 and 19 the index of
+ * that layer in the manifest, from 0. Second value: 0.
+ * On success the bytes of out past the output stay as they were. The store and
+ * the list are only read.
+ */
+uint64_t acon_resolve(const uint8_t *store, size_t store_len, size_t used, const uint8_t *layers,
+                      size_t layers_len, size_t image, uint8_t *out, size_t out_len);
 
 #ifdef __cplusplus
 }

@@ -1,5 +1,5 @@
-"""Histories of loads and judges for store_driver.c: the commands, what the implementation in reference/ answers to each, stores that are
-made by hand or damaged on the way, and comparing."""
+"""Histories of loads, judges and resolves for store_driver.c: the commands, what the implementation in reference/ answers to each, stores
+that are made by hand or damaged on the way, and comparing."""
 
 import collections
 import os
@@ -8,6 +8,7 @@ import subprocess
 import sys
 
 sys.path.insert(0, os.path.join(os.path.dirname(os.path.abspath(__file__)), "reference"))
+from lookup import resolve  # noqa: E402
 from policy import judge  # noqa: E402
 from store import Image, load, number_bytes, read_records, record  # noqa: E402
 from store_inputs import (BAD, DAMAGED, OWN_NAMES, PLAIN, SHARED, SIZES, SPELLED, Style, below, one_in, one_of, rand,  # noqa: E402
@@ -20,7 +21,7 @@ BATCH = 2000  # histories for one run of the program
 
 
 class History:
-    """Commands for the program, and what it has to answer to each load and to each judge. `loads` are the numbers of the loads."""
+    """Commands for the program, and what it has to answer to each load, judge and resolve. `loads` are the numbers of the loads."""
 
     def __init__(self, number):
         rand.seed(number * 2654435761 + 1)
@@ -57,6 +58,13 @@ class History:
         number, pairs, written = judge(self.buffer, self.used, len(report))
         self.expect("judge", number, pairs, report[: len(written)], written, 0)
         return number, pairs, written
+
+    def resolve(self, layer_list, place, out):
+        """Resolves the image at a place, with that layer list and an output buffer of these bytes."""
+        self.commands.append(b"R" + struct.pack("<QQII", self.used, place, len(layer_list), len(out)) + layer_list + out)
+        number, value, written = resolve(self.buffer, self.used, layer_list, place, len(out))
+        self.expect("resolve", number, value, out[: len(written)], written, 0)
+        return number, value, written
 
     def expect(self, call, number, value, before, after, at):
         """The answer to a call that changes these bytes, which stand at a place of a buffer, into those."""

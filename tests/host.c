@@ -1,7 +1,7 @@
-/* A C host that calls acon_canonical, and acon_judge on stores that it loads,
- * on single cases, each written out with what must come back. Every case is run
- * with a buffer that is longer than the output, one that fits exactly and, where
- * there is an output, one that is a byte short. */
+/* A C host that calls acon_canonical, and acon_judge and acon_resolve on stores
+ * that it loads, on single cases, each written out with what must come back.
+ * Every case is run with a buffer that is longer than the output, one that fits
+ * exactly and, where there is an output, one that is a byte short. */
 #include "acon.h"
 
 #include <stdio.h>
@@ -457,18 +457,25 @@ static void judge(const char *what, size_t used, size_t size, unsigned number, c
     checks++;
 }
 
+/* Loads the images up to one with no ID; gives the used count. */
+static size_t load_all(const struct image *images)
+{
+    size_t used = 0;
+    for (const struct image *i = images; i->id; i++) {
+        uint64_t answer = acon_load((const uint8_t *)i->id, strlen(i->id), (const uint8_t *)i->manifest,
+                                    strlen(i->manifest), store, sizeof store, used);
+        if (acon_number(answer) != 0)
+            fail("not loaded", (const uint8_t *)i->manifest, strlen(i->manifest), answer);
+        used = acon_first(answer);
+    }
+    return used;
+}
+
 static void judge_all(void)
 {
     for (size_t k = 0; k < sizeof judgeds / sizeof judgeds[0]; k++) {
         const struct judged *j = &judgeds[k];
-        size_t used = 0;
-        for (const struct image *i = j->images; i->id; i++) {
-            uint64_t answer = acon_load((const uint8_t *)i->id, strlen(i->id), (const uint8_t *)i->manifest,
-                                        strlen(i->manifest), store, sizeof store, used);
-            if (acon_number(answer) != 0)
-                fail("judge: not loaded", (const uint8_t *)i->manifest, strlen(i->manifest), answer);
-            used = acon_first(answer);
-        }
+        size_t used = load_all(j->images);
         size_t n = 2 * j->pairs;
         judge(j->what, used, ACON_REPORT_MAX, 0, j->report, j->pairs);
         judge(j->what, used, n, 0, j->report, j->pairs);
@@ -486,6 +493,120 @@ static void judge_all(void)
     }
 }
 
+/* ---- Resolve */
+
+#define ONES "11111111111111111111111111111111111111111111111111111111"
+#define TWOS "2222222222222222222222222222222222222222222222222222222222222222"
+#define ONE "sha224/" ONES
+#define TWO "sha256/" TWOS
+#define ALIAS(name) "signer/" SIGNER name
+#define OTHER "signer/sha224/" DIGITS "0b/ink"
+#define LAYERS(layers) "{\"aconSpecVersion\":[1,0],\"layers\":[" layers "]}"
+#define DEFINES(contents, layers) \
+    "{\"aconSpecVersion\":[1,0],\"aliases\":{\"contents\":{" contents "}},\"layers\":[" layers "]}"
+#define FOR(object, name) "\"" object "\":[\"" name "\"]"
+#define Q(layer) "\"" layer "\""
+/* The entries of a layer list, and entries that lack the last byte, have another
+ * last byte, or an algorithm that there is not. */
+#define ENTRY_1 "\x01\x11\x11\x11\x11\x11\x11\x11\x11\x11\x11\x11\x11\x11\x11" \
+                "\x11\x11\x11\x11\x11\x11\x11\x11\x11\x11\x11\x11\x11\x11"
+#define ENTRY_2 "\x02\x22\x22\x22\x22\x22\x22\x22\x22\x22\x22\x22\x22\x22\x22\x22\x22" \
+                "\x22\x22\x22\x22\x22\x22\x22\x22\x22\x22\x22\x22\x22\x22\x22\x22"
+#define CUT_2 "\x02\x22\x22\x22\x22\x22\x22\x22\x22\x22\x22\x22\x22\x22\x22\x22\x22" \
+              "\x22\x22\x22\x22\x22\x22\x22\x22\x22\x22\x22\x22\x22\x22\x22"
+#define NEAR_1 "\x01\x11\x11\x11\x11\x11\x11\x11\x11\x11\x11\x11\x11\x11\x11" \
+               "\x11\x11\x11\x11\x11\x11\x11\x11\x11\x11\x11\x11\x11\x10"
+#define UNDER_2 "\x02\x11\x11\x11\x11\x11\x11\x11\x11\x11\x11\x11\x11\x11\x11\x11\x11" \
+                "\x11\x11\x11\x11\x11\x11\x11\x11\x11\x11\x11\x11\x11\x11\x11\x11"
+
+struct resolved {
+    const char *what;
+    struct image images[4]; /* up to one with no ID */
+    size_t place;
+    const char *layers;
+    size_t layers_len;
+    unsigned number, value;
+    const char *output;
+};
+
+/* A string with its length. */
+#define BYTES(s) s, sizeof s - 1
+
+static const struct resolved resolveds[] = {
+    {"the empty store", {{0}}, 0, BYTES(""), 16, 0, ""},
+    {"no layers", {{A, PLAIN}}, 0, BYTES(""), 0, 0, ""},
+    {"an empty list of layers", {{A, LAYERS("")}}, 0, BYTES(ENTRY_1), 0, 0, ""},
+    {"a digest", {{A, LAYERS(Q(ONE))}}, 0, BYTES(ENTRY_1), 0, 29, ENTRY_1},
+    {"two digests, in the order of layers", {{A, LAYERS(Q(TWO) "," Q(ONE))}}, 0, BYTES(ENTRY_1 ENTRY_2), 0, 62, ENTRY_2 ENTRY_1},
+    {"a layer twice", {{A, LAYERS(Q(ONE) "," Q(ONE))}}, 0, BYTES(ENTRY_2 ENTRY_1 ENTRY_1), 0, 58, ENTRY_1 ENTRY_1},
+    {"an alias of the image itself", {{A, DEFINES(FOR(ONE, "ink"), Q(ALIAS("ink")))}}, 0, BYTES(ENTRY_1), 0, 29, ENTRY_1},
+    {"an alias of another image", {{A, LAYERS(Q(ALIAS("ink")))}, {B, DEFINES(FOR(TWO, "ink"), "")}}, 0, BYTES(ENTRY_2), 0, 33, ENTRY_2},
+    {"an alias for an alias",
+     {{A, DEFINES(FOR(ONE, "ink"), "")}, {B, DEFINES(FOR(ALIAS("ink"), "well"), "")}, {C, LAYERS(Q(ALIAS("well")))}},
+     2, BYTES(ENTRY_1), 0, 29, ENTRY_1},
+    {"names with all their bytes",
+     {{A, DEFINES(FOR(ONE, "Job:1") "," FOR(TWO, "Job:10"), Q(ALIAS("Job:10")))}}, 0, BYTES(ENTRY_1 ENTRY_2), 0, 33, ENTRY_2},
+    {"a bad algorithm byte", {{A, LAYERS(Q(ONE))}}, 0, BYTES(ENTRY_1 "\x04"), 15, 0, ""},
+    {"a cut entry", {{A, LAYERS(Q(ONE))}}, 0, BYTES(ENTRY_1 CUT_2), 15, 0, ""},
+    {"a bad list, and no such place", {{A, LAYERS(Q(ONE))}}, 1, BYTES("\0"), 15, 0, ""},
+    {"no such place", {{A, LAYERS(Q(ONE))}}, 1, BYTES(ENTRY_1), 16, 0, ""},
+    {"the last place of all", {{A, LAYERS(Q(ONE))}}, SIZE_MAX, BYTES(ENTRY_1), 16, 0, ""},
+    {"an alias that nobody defines", {{A, LAYERS(Q(ALIAS("ink")))}}, 0, BYTES(ENTRY_1), 17, 0, ""},
+    {"a name for the image itself", {{A, LAYERS(Q(ALIAS("ink")))}, {B, NAMED("ink")}}, 0, BYTES(ENTRY_1), 17, 0, ""},
+    {"another signer's alias", {{A, DEFINES(FOR(ONE, "ink"), Q(ONE) "," Q(OTHER))}}, 0, BYTES(ENTRY_1), 17, 1, ""},
+    {"an alias whose object is its own key", {{A, DEFINES(FOR(ALIAS("x"), "x"), Q(ALIAS("x")))}}, 0, BYTES(ENTRY_1), 18, 0, ""},
+    {"a loop of two images",
+     {{A, DEFINES(FOR(ALIAS("y"), "x"), Q(ONE) "," Q(ALIAS("y")))}, {B, DEFINES(FOR(ALIAS("x"), "y"), "")}}, 0, BYTES(ENTRY_1), 18, 1, ""},
+    {"a layer that is not there", {{A, LAYERS(Q(ONE) "," Q(TWO))}}, 0, BYTES(ENTRY_1), 19, 1, ""},
+    {"a digest with another last byte", {{A, LAYERS(Q(ONE))}}, 0, BYTES(NEAR_1), 19, 0, ""},
+    {"a digest under another algorithm", {{A, LAYERS(Q(ONE))}}, 0, BYTES(UNDER_2), 19, 0, ""},
+    {"the first layer that fails, 19 before 17", {{A, LAYERS(Q(TWO) "," Q(ALIAS("x")))}}, 0, BYTES(ENTRY_1), 19, 0, ""},
+    {"the first layer that fails, 17 before 19", {{A, LAYERS(Q(ONE) "," Q(ALIAS("x")) "," Q(TWO))}}, 0, BYTES(ENTRY_1), 17, 1, ""},
+};
+
+/* One call with an output buffer of `size` bytes: the packed answer, the output
+ * and every byte around it. */
+static void resolve(const struct resolved *r, size_t used, size_t size, unsigned number, unsigned value,
+                    size_t output_len)
+{
+    const uint8_t *name = (const uint8_t *)r->what;
+    size_t n = strlen(r->what);
+    for (size_t i = 0; i < sizeof buffer; i++)
+        buffer[i] = pattern(i);
+    uint64_t answer = acon_resolve(store, sizeof store, used, (const uint8_t *)r->layers, r->layers_len,
+                                   r->place, buffer, size);
+    if (answer != ((uint64_t)value << 8 | number))
+        fail("resolve: wrong answer", name, n, answer);
+    if (memcmp(buffer, r->output, output_len) != 0)
+        fail("resolve: wrong output", name, n, answer);
+    for (size_t i = output_len; i < sizeof buffer; i++)
+        if (buffer[i] != pattern(i))
+            fail("resolve: a byte past the output changed", name, n, answer);
+    checks++;
+}
+
+static void resolve_all(void)
+{
+    for (size_t k = 0; k < sizeof resolveds / sizeof resolveds[0]; k++) {
+        const struct resolved *r = &resolveds[k];
+        size_t used = load_all(r->images);
+        size_t n = r->number ? 0 : r->value;
+        resolve(r, used, ACON_OUTPUT_MAX, r->number, r->value, n);
+        resolve(r, used, n, r->number, r->value, n);
+        resolve(r, used, n + 1, r->number, r->value, n);
+        if (n > 0) {
+            resolve(r, used, n - 1, ACON_NO_SPACE, 0, 0);
+            resolve(r, used, 0, ACON_NO_SPACE, 0, 0);
+        }
+        /* more than the buffer has, and a record that is cut */
+        resolve(r, sizeof store + 1, ACON_OUTPUT_MAX, ACON_BAD_STORE, 0, 0);
+        if (used > 0) {
+            resolve(r, used - 1, ACON_OUTPUT_MAX, ACON_BAD_STORE, 0, 0);
+            resolve(r, used - 1, 0, ACON_BAD_STORE, 0, 0);
+        }
+    }
+}
+
 int main(void)
 {
     for (size_t i = 0; i < sizeof goods / sizeof goods[0]; i++)
@@ -496,6 +617,7 @@ int main(void)
                 bads[i].number);
     long_texts();
     judge_all();
+    resolve_all();
     printf("host: %lu calls answered as written down\n", checks);
     return 0;
 }

@@ -1,15 +1,19 @@
-/* Loads images and judges stores for histories.py. Input: commands, each a
- * letter and what follows it; numbers are so many bytes long, lowest first.
+/* Loads images, judges stores and resolves layers for histories.py. Input:
+ * commands, each a letter and what follows it; numbers are so many bytes long,
+ * lowest first.
  *
  *   N length(4) bytes                            a new buffer with these bytes
  *   P offset(4) length(4) bytes                  other bytes in the buffer
  *   L used(8) length(4) length(4) ID manifest    a load
  *   J used(8) length(4) bytes                    a judge, with a report buffer of these bytes
+ *   R used(8) place(8) length(4) length(4) layers bytes
+ *                                                a resolve of the image at that place, with a layer list, and an
+ *                                                output buffer of these bytes
  *
- * Output for each load and each judge: the packed answer (8), the place of the
- * first byte of the buffer or the report buffer that changed (4), how many there
- * are from it to the last one that changed (4), and these. Where none changed
- * both numbers are 0. No other byte that is lent may change.
+ * Output for each load, judge and resolve: the packed answer (8), the place of
+ * the first byte that changed of the buffer, or of the report or output buffer
+ * (4), how many there are from it to the last one that changed (4), and these.
+ * Where none changed both numbers are 0. No other byte that is lent may change.
  *
  * What is lent lies between pages that must not be touched, and touches one of
  * them: by turns its first byte and its last. */
@@ -50,7 +54,7 @@ struct lent {
     uint8_t known[SPACE]; /* the bytes that have to stand there */
 };
 
-static struct lent ids, manifests, stores, reports;
+static struct lent ids, manifests, stores, reports, layers, outputs;
 
 static void prepare(struct lent *l)
 {
@@ -141,6 +145,19 @@ static void judge(void)
     changes(&reports);
 }
 
+static void resolve(void)
+{
+    uint64_t used = number(8), place = number(8);
+    size_t layers_len = number(4), output_len = number(4);
+    take(&layers, layers_len);
+    take(&outputs, output_len);
+    fflush(stdout);
+    answer(acon_resolve(stores.at, stores.n, used, layers.at, layers.n, place, outputs.at, outputs.n), 8);
+    unchanged(&stores, "a resolve changed the store");
+    unchanged(&layers, "a resolve changed the layer list");
+    changes(&outputs);
+}
+
 int main(void)
 {
     signal(SIGSEGV, outside);
@@ -149,6 +166,8 @@ int main(void)
     prepare(&manifests);
     prepare(&stores);
     prepare(&reports);
+    prepare(&layers);
+    prepare(&outputs);
     stores.at = stores.pages;
     for (int c; (c = getchar()) != EOF;) {
         if (c == 'N')
@@ -159,6 +178,8 @@ int main(void)
             load();
         else if (c == 'J')
             judge();
+        else if (c == 'R')
+            resolve();
         else
             fail("bad input");
     }

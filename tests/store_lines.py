@@ -5,181 +5,38 @@
 
 The number that each load gets, and the number and the pairs of each judge, are written out here beside it, from document 01's words."""
 
-import json
-import os
-import sys
+import lines
+from lines import DIGITS, KA, KHA, V, Refused, decimal, layer, made, name, text
+from policy import judge
+from store import number_bytes
 
-HERE = os.path.dirname(os.path.abspath(__file__))
-sys.path.insert(0, os.path.join(HERE, "reference"))
-from policy import judge  # noqa: E402
-from store import Image, load, number_bytes, read_id, record  # noqa: E402
-
-FOLDER = os.path.join(HERE, "..", "crates", "test_store")
-INPUT = 131072  # bytes that the program takes
-BUFFER = 32768  # the longest buffer
 REPORT = 8192  # the longest report buffer
 ROOMY = 2 * 64 * 63  # long enough for any report
-FILL = 0xEE
-DIGITS = {"sha224": 56, "sha256": 64, "sha384": 96}
 
 
-# ---- What the program prints
-
-
-class Refused(Exception):
-    """A line that the program calls bad."""
-
-
-class Bench:
-    """A buffer and its used count, worked on line by line."""
-
+class Bench(lines.Bench):
     def __init__(self):
-        self.buffer, self.used, self.numbers, self.reports = bytearray(), 0, [], []
-
-    def new(self, words):
-        size = decimal(words)
-        if size > BUFFER:
-            raise Refused
-        self.buffer, self.used = bytearray([FILL]) * size, 0
-        return []
-
-    def load(self, words):
-        given_id, text = split(words)
-        number, used, written = load(given_id, text, self.buffer, self.used)
-        self.numbers.append(number)
-        if number == 0:
-            self.buffer[self.used : used] = written
-            self.used = used
-        return [b"%d %d" % (number, used)]
-
-    def put(self, words):
-        at, digits = split(words)
-        at = decimal(at)
-        if set(digits) - set(b"0123456789abcdef") or len(digits) % 2:
-            raise Refused
-        data = bytes.fromhex(digits.decode())
-        if at + len(data) > len(self.buffer):
-            raise Refused
-        self.buffer[at : at + len(data)] = data
-        return []
-
-    def set_used(self, words):
-        self.used = decimal(words)
-        return []
-
-    def show(self):
-        if self.used > len(self.buffer):
-            raise Refused
-        after = self.buffer[self.used :]
-        return [self.buffer[: self.used].hex().encode(), b"%d" % (len(after) - after.count(FILL))]
+        super().__init__()
+        self.works.append((b"judge ", self.judge))
 
     def judge(self, words):
         size = decimal(words)
         if size > REPORT:
             raise Refused
         number, pairs, written = judge(self.buffer, self.used, size)
-        self.reports.append((number, written))
+        self.calls.append((number, written))
         return [b"%d %d" % (number, pairs), written.hex().encode(), b"0"]
 
-    def answer(self, line):
-        """What the program prints for a line."""
-        works = ((b"new ", self.new), (b"load ", self.load), (b"put ", self.put), (b"used ", self.set_used), (b"judge ", self.judge))
-        try:
-            for word, work in works:
-                if line.startswith(word):
-                    return work(line[len(word) :])
-            if line == b"show":
-                return self.show()
-            raise Refused
-        except Refused:
-            return [b"bad"]
 
-
-def decimal(words):
-    """The program reads a number only as long as ten times what it has read, and a digit, cannot leave 64 bits."""
-    if not words or set(words) - set(b"0123456789") or int(words[:-1] or b"0") > (2**64 - 10) // 10:
-        raise Refused
-    return int(words)
-
-
-def split(words):
-    if b" " not in words:
-        raise Refused
-    return words.split(b" ", 1)
-
-
-# ---- The lines
-
-
-V = b'{"aconSpecVersion":[1,0]}'
-KA, KHA = "\u0915", "\u0916"
-
-
-def name(signer, digest, algorithm="sha224"):
-    """An Image ID, each digest from one digit or from two in turn."""
-    return "/".join([algorithm] + [(d * DIGITS[algorithm])[: DIGITS[algorithm]] for d in (signer, digest)]).encode()
-
-
-def layer(digit, algorithm="sha224"):
-    return algorithm + "/" + digit * DIGITS[algorithm]
-
-
-def text(contents=None, own=None, accepts=None, guard=None):
-    """A canonical manifest with aliases, `own` for `self`, and a policy."""
-    aliases = {"contents": contents, "self": own and {".": own}}
-    policy = {"accepts": accepts, "rejectUnaccepted": guard}
-    value = {"aconSpecVersion": [1, 0]}
-    for field, members in (("aliases", aliases), ("policy", policy)):
-        members = {key: member for key, member in members.items() if member is not None}
-        if members:
-            value[field] = members
-    return json.dumps(value, sort_keys=True, ensure_ascii=False, separators=(",", ":")).encode()
-
-
-def made(given_id, manifest):
-    """The record of any bytes as a manifest."""
-    return record(Image(*read_id(given_id), manifest))
-
-
-class Lines:
-    """The lines, the number that each load among them has to get, and the number and the report of each judge."""
-
-    def __init__(self):
-        self.lines, self.numbers, self.reports = [], [], []
-
-    def line(self, line):
-        self.lines.append(line)
-
-    def new(self, size):
-        self.line(b"new %d" % size)
-
-    def load(self, number, given_id, manifest=V):
-        self.line(b"load " + given_id + b" " + manifest)
-        self.numbers.append(number)
-
+class Lines(lines.Lines):
     def judge(self, *pairs, size=None):
         """With a report buffer that fits, or of that size."""
         self.line(b"judge %d" % (2 * len(pairs) if size is None else size))
-        self.reports.append((0, b"".join(map(bytes, pairs))))
+        self.calls.append((0, b"".join(map(bytes, pairs))))
 
     def unjudged(self, number, size):
         self.line(b"judge %d" % size)
-        self.reports.append((number, b""))
-
-    def put(self, at, data):
-        self.line(b"put %d %s" % (at, data.hex().encode()))
-
-    def used(self, used):
-        self.line(b"used %d" % used)
-
-    def show(self):
-        self.line(b"show")
-
-    def store(self, *records):
-        """A store put in by hand."""
-        data = b"".join(records)
-        self.put(0, data)
-        self.used(len(data))
+        self.calls.append((number, b""))
 
 
 def lengths(b):
@@ -549,37 +406,11 @@ def bad_lines(b):
     b.show()
 
 
-def lines():
+def all_lines():
     b = Lines()
     for part in (lengths, numbers, canonical, clashes, order, damaged, unfit, together, full, chains, rules, spoiled, long_ring, bad_lines):
         part(b)
     return b
 
 
-def main():
-    made_here = lines()
-    given = b"".join(line + b"\n" for line in made_here.lines)
-    bench = Bench()
-    wanted = b"".join(a + b"\n" for line in given.split(b"\n")[:-1] for a in bench.answer(line))
-    if len(given) > INPUT:
-        sys.exit("store_lines: %d bytes are more than the program takes" % len(given))
-    if bench.numbers != made_here.numbers:
-        k = next(k for k, (x, y) in enumerate(zip(bench.numbers, made_here.numbers)) if x != y)
-        line = [line for line in made_here.lines if line.startswith(b"load ") and b" " in line[5:]][k]
-        sys.exit("store_lines: the reference gives %d and not %d: %r" % (bench.numbers[k], made_here.numbers[k], line[:400]))
-    if bench.reports != made_here.reports:
-        k = next(k for k, (x, y) in enumerate(zip(bench.reports, made_here.reports)) if x != y)
-        sys.exit("store_lines: judge %d: the reference gives %r and not %r" % (k, bench.reports[k], made_here.reports[k]))
-    for kind, data in (("stdin", given), ("stdout", wanted)):
-        path = os.path.join(FOLDER, kind)
-        if sys.argv[1:] == ["--write"]:
-            with open(path, "wb") as f:
-                f.write(data)
-        with open(path, "rb") as f:
-            if f.read() != data:
-                sys.exit("store_lines: crates/test_store/%s is not what store_lines.py makes" % kind)
-    print("store_lines: %d lines of test_store, %d of them loads and %d judges, are those made here"
-          % (len(made_here.lines), len(bench.numbers), len(bench.reports)))
-
-
-main()
+lines.main("store_lines", "test_store", Bench(), all_lines(), "judge")

@@ -20,8 +20,11 @@ extern "C" {
 /// Longer than any record.
 const SPACE: usize = 16_600;
 
+/// The shortest manifest.
+pub const PLAIN: &[u8] = b"{\"aconSpecVersion\":[1,0]}";
+
 /// The new count, or the number of the refusal.
-fn acon(id: &[u8], text: &[u8], buffer: &mut [u8], used: usize) -> Result<usize, u8> {
+pub fn acon(id: &[u8], text: &[u8], buffer: &mut [u8], used: usize) -> Result<usize, u8> {
     let answer = unsafe {
         acon_load(
             id.as_ptr(),
@@ -47,7 +50,7 @@ fn is_number(refused: Refused, number: u8) -> bool {
         Refused::SameId => number == 12,
         Refused::Clash => number == 13,
         Refused::Full => number == 14,
-        Refused::NoSpace => false,
+        _ => false,
     }
 }
 

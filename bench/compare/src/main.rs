@@ -1,12 +1,13 @@
 //! compare WHAT SAMPLES MICROSECONDS FILE...: times the library and what a host would
 //! use instead on each file, and prints the median of either in nanoseconds. WHAT is
-//! `canonical`, with texts, or `load` or `judge`, with stores (see load.rs, judge.rs).
-//! A sample takes MICROSECONDS at least.
+//! `canonical`, with texts, or `load`, `judge` or `resolve`, with stores (see load.rs,
+//! judge.rs, resolve.rs). A sample takes MICROSECONDS at least.
 
 mod canonical;
 mod host;
 mod judge;
 mod load;
+mod resolve;
 mod timing;
 
 use std::time::Duration;
@@ -24,6 +25,7 @@ fn main() {
         "canonical" => canonical::run(plan, paths),
         "load" => load::run(plan, paths),
         "judge" => judge::run(plan, paths),
-        _ => panic!("canonical, load or judge"),
+        "resolve" => resolve::run(plan, paths),
+        _ => panic!("canonical, load, judge or resolve"),
     }
 }

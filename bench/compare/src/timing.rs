@@ -39,7 +39,7 @@ fn time(calls: u32, call: &mut dyn FnMut()) -> Duration {
     now() - start
 }
 
-/// One of the two sides on one file.
+/// One of the sides on one file.
 pub struct Series<'a> {
     call: Box<dyn FnMut() + 'a>,
     calls: u32, // in a sample
@@ -67,13 +67,14 @@ impl<'a> Series<'a> {
     }
 }
 
-/// Prints the medians of both sides for each path. Each round takes one sample of
+/// Prints the medians of all sides for each path. Each round takes one sample of
 /// all, so that a busy moment of the machine falls on all alike.
-pub fn print(plan: Plan, mut rows: Vec<(&str, [Series; 2])>) {
+pub fn print<const N: usize>(plan: Plan, mut rows: Vec<(&str, [Series; N])>) {
     for _ in 0..plan.samples {
-        rows.iter_mut().for_each(|(_, both)| both.iter_mut().for_each(Series::sample));
+        rows.iter_mut().for_each(|(_, sides)| sides.iter_mut().for_each(Series::sample));
     }
-    for (path, both) in &mut rows {
-        println!("{path}\t{}\t{}", both[0].median(), both[1].median());
+    for (path, sides) in &mut rows {
+        let medians: Vec<String> = sides.iter_mut().map(|side| side.median().to_string()).collect();
+        println!("{path}\t{}", medians.join("\t"));
     }
 }

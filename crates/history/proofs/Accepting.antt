@@ -19,7 +19,7 @@ use Rattle.store_record.specs.Record.{recordOf}
 use Rattle.store_record.specs.Store.{mostImages, storeOf, AllShaped}
 use Rattle.store_record.proofs.Sharing.{share-id-sym}
 use Rattle.store_record.proofs.Stores.{store-both}
-use Rattle.store_clash.specs.Clash.{clash, anyClash}
+use Rattle.store_keys.specs.Clash.{clash, anyClash}
 use Rattle.store.specs.Held.{isUnfit, areUnsound, isBroken}
 use Rattle.store.specs.Load.{isNoId, among, noSpace, storeQuestions, imageQuestions, loadQuestions}
 use Rattle.store.proofs.Images.{shaped-image, shaped-single}

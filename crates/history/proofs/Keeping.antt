@@ -9,7 +9,7 @@ use Rattle.laws.specs.Any.{anyOf, anyPair}
 use Rattle.store_record.specs.Image.{Image}
 use Rattle.store_record.specs.Ids.{idTwice}
 use Rattle.store_record.specs.Store.{storeOf, none-shaped}
-use Rattle.store_clash.specs.Clash.{anyClash}
+use Rattle.store_keys.specs.Clash.{anyClash}
 use Rattle.store.specs.Held.{held, isBroken, wellFormed}
 use Rattle.store.proofs.Accepting.{parts-sound}
 use Rattle.store.proofs.Loading.{used-is}

@@ -9,8 +9,8 @@ use lib.ListN.{length, getD}
 use Rattle.reference_digests.specs.declared.algorithm.Algorithm.{Algorithm}
 use Rattle.reference.specs.References.{Layer, layer-digest, layer-alias, no-layer}
 use Rattle.store_record.specs.Image.{Image}
-use Rattle.store_clash.specs.Keys.{Key, LayerKey}
-use Rattle.store_clash.specs.Clash.{anyClash}
+use Rattle.store_keys.specs.Keys.{Key, LayerKey}
+use Rattle.store_keys.specs.Clash.{anyClash}
 use Rattle.lookup_paths.specs.Follow.{keysIn, objectIn, objectOf, met, undefined, endless, follow, objectCount, endOf}
 use Rattle.lookup_paths.proofs.Objects.{key-defines, object-exactly}
 use Rattle.lookup_paths.proofs.Steps.{digest-met, bad-undefined, follow-on, follow-none, alias-endless, end-on}

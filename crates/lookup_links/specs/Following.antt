@@ -5,7 +5,7 @@ use mathlib.Core.List.{List}
 use lib.ListN.{length, getD}
 use Rattle.reference.specs.References.{Layer, layer-digest, no-layer}
 use Rattle.reference_digests.specs.declared.algorithm.Algorithm.{Algorithm}
-use Rattle.store_clash.specs.Keys.{LayerKey}
+use Rattle.store_keys.specs.Keys.{LayerKey}
 use Rattle.lookup_paths.specs.Follow.{End, met, undefined, endless}
 use Rattle.lookup_links.specs.Links.{Links}
 use Rattle.lookup_links.specs.declared.PathEnd.{PathEnd}

@@ -7,8 +7,8 @@ use mathlib.Core.Bool.{true}
 use mathlib.Core.Option.{none}
 use lib.ListN.{length, getD}
 use Rattle.reference.specs.References.{Layer, layer-digest, layer-alias, no-layer}
-use Rattle.store_clash.specs.Keys.{Key, LayerKey}
-use Rattle.store_clash.specs.Clash.{sameKey}
+use Rattle.store_keys.specs.Keys.{Key, LayerKey}
+use Rattle.store_keys.specs.Clash.{sameKey}
 use Rattle.lookup_paths.specs.Follow.{objectIn}
 
 -- what stands for a number: the reference is a digest itself, it is an alias that nothing defines so far, or it is no reference

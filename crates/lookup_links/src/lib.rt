@@ -7,7 +7,7 @@ ghost use Prim.Native.Nat.{_<_};
 ghost use lib.ListN.{length, getD};
 ghost use Rattle.reference.specs.References.{Layer, no-layer};
 ghost use Rattle.store_record.specs.Image.{Image};
-ghost use Rattle.store_clash.specs.Clash.{anyClash};
+ghost use Rattle.store_keys.specs.Clash.{anyClash};
 ghost use Rattle.lookup_paths.specs.Follow.{keysIn, objectCount, endOf};
 ghost use Rattle.lookup_links.specs.Links.{Links};
 ghost use Rattle.lookup_links.specs.Following.{Followable, Ends};

@@ -18,8 +18,8 @@ use Rattle.manifest.specs.Manifest.{Alias, contents}
 use Rattle.manifest.specs.Names.{differ, conflict}
 use Rattle.manifest_objects.proofs.Agreement.{none-passes, passed-by-none, one-object, agreed}
 use Rattle.store_record.specs.Image.{Image}
-use Rattle.store_clash.specs.Keys.{Key, LayerKey, imageKeys, layerKeysUnder, layerKeysOf, layerKeys}
-use Rattle.store_clash.specs.Clash.{sameKey, disagree, clash, anyClash}
+use Rattle.store_keys.specs.Keys.{Key, LayerKey, imageKeys, layerKeysUnder, layerKeysOf, layerKeys}
+use Rattle.store_keys.specs.Clash.{sameKey, disagree, clash, anyClash}
 use Rattle.lookup_paths.specs.Path.{aliasOf, Defines, by-image}
 
 -- the layer key of an alias under an algorithm and a signer

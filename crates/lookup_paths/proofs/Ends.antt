@@ -8,7 +8,7 @@ use native.Mathlib.Omega.{arith}
 use Rattle.reference_digests.specs.declared.algorithm.Algorithm.{Algorithm}
 use Rattle.reference.specs.References.{Layer, layer-digest, layer-alias, no-layer}
 use Rattle.store_record.specs.Image.{Image}
-use Rattle.store_clash.specs.Clash.{anyClash}
+use Rattle.store_keys.specs.Clash.{anyClash}
 use Rattle.lookup_paths.specs.Path.{Defines, Meets, here, onward, Lost, lost-onward, undefined as no-object}
 use Rattle.lookup_paths.specs.Follow.{objectOf, End, met, undefined, endless, follow, objectCount, endOf}
 use Rattle.lookup_paths.proofs.Objects.{by-option, object-defined, object-undefined, object-exactly, no-object-exactly}

@@ -18,8 +18,8 @@ use Rattle.reference.specs.References.{Layer, layer-digest, layer-alias, no-lay
 use Rattle.manifest.specs.Names.{objects}
 use Rattle.manifest_objects.proofs.Agreement.{object-listed}
 use Rattle.store_record.specs.Image.{Image}
-use Rattle.store_clash.specs.Keys.{Key, LayerKey, layerKeys}
-use Rattle.store_clash.specs.Clash.{sameKey, anyClash}
+use Rattle.store_keys.specs.Keys.{Key, LayerKey, layerKeys}
+use Rattle.store_keys.specs.Clash.{sameKey, anyClash}
 use Rattle.lookup_paths.specs.Path.{aliasOf, Defines, by-image}
 use Rattle.lookup_paths.specs.Follow.{keysIn, objectIn, objectOf, objectsOf, objectCount}
 use Rattle.lookup_paths.proofs.Defining.{defines-exactly, one-object-defined}

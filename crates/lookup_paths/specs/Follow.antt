@@ -8,8 +8,8 @@ use Rattle.reference.specs.References.{Layer, layer-digest, layer-alias, no-lay
 use Rattle.reference_digests.specs.declared.algorithm.Algorithm.{Algorithm}
 use Rattle.manifest.specs.Names.{objects}
 use Rattle.store_record.specs.Image.{Image}
-use Rattle.store_clash.specs.Keys.{Key, LayerKey, layerKeys}
-use Rattle.store_clash.specs.Clash.{sameKey}
+use Rattle.store_keys.specs.Keys.{Key, LayerKey, layerKeys}
+use Rattle.store_keys.specs.Clash.{sameKey}
 
 -- the layer keys that the images of a room define
 unfoldable pub keysIn : List Image → List LayerKey

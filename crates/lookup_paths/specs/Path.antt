@@ -5,7 +5,7 @@ use mathlib.Core.List.{List, List·Memᴰ as In}
 use Rattle.reference.specs.References.{Layer, layer-digest, layer-alias}
 use Rattle.reference_digests.specs.declared.algorithm.Algorithm.{Algorithm}
 use Rattle.store_record.specs.Image.{Image}
-use Rattle.store_clash.specs.Keys.{Key, LayerKey, layerKeys}
+use Rattle.store_keys.specs.Keys.{Key, LayerKey, layerKeys}
 
 -- a layer key as a reference
 abbrev pub aliasOf : Key → Layer

@@ -13,7 +13,7 @@ use Rattle.manifest.specs.Names.{objects}
 use Rattle.manifest_objects.specs.Objects.{AliasAt, Listed, none-listed, listed-too}
 use Rattle.store_record.specs.Reading.{between, heldIn}
 use Rattle.store_record.specs.declared.Record.{Record}
-use Rattle.store_clash.specs.Keys.{LayerKey, layerKeysUnder, layerKeysOf, layerKeys}
+use Rattle.store_keys.specs.Keys.{LayerKey, layerKeysUnder, layerKeysOf, layerKeys}
 use Rattle.lookup_links.specs.Links.{Links}
 use Rattle.lookup_table.specs.Linking.{layerKey, ObjectsFrom}
 

@@ -14,7 +14,7 @@ use Rattle.reference.specs.References.{Layer, layer-digest, layer-alias, no-lay
 use Rattle.manifest.specs.Index.{NumberOf, NameIndex, SomeNameIndex}
 use Rattle.manifest.proofs.Indexing.{no-names, some-index, index-any}
 use Rattle.manifest_objects.specs.Objects.{AllStand}
-use Rattle.store_clash.specs.Keys.{Key}
+use Rattle.store_keys.specs.Keys.{Key}
 use Rattle.lookup_links.specs.Links.{undefinedMark, AliasLink, undefined, linked, Link, Links}
 use Rattle.lookup_table.specs.Table.{isAlias, NamedAt, AllNamed, undefinedIn, Table}
 

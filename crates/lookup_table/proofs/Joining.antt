@@ -10,8 +10,8 @@ use Rattle.manifest.specs.declared.Places.{Places}
 use Rattle.store_record.specs.Image.{Image}
 use Rattle.store_record.specs.Reading.{between, heldIn, imagesIn, noRecord}
 use Rattle.store_record.specs.declared.Survey.{Survey}
-use Rattle.store_clash.specs.Keys.{LayerKey, layerKeys}
-use Rattle.store_clash.proofs.Walking.{opened-at}
+use Rattle.store_keys.specs.Keys.{LayerKey, layerKeys}
+use Rattle.store_names.proofs.Opened.{opened-at}
 use Rattle.lookup_paths.specs.Follow.{keysIn, objectsOf}
 use Rattle.lookup_links.specs.Links.{Links}
 use Rattle.lookup_table.specs.Table.{Table}
@@ -48,18 +48,18 @@ module _ (b : List ℕ) (v : Survey) (keys at order before : List ℕ) where
       its-objects ls = subst (λ (n : ℕ). ObjectsFrom (objectsOf (imagesIn b v) ++ ls) n (objects text)) (sym (x .number)) (image-objects b v fits j h ls)
 
       -- The next image can be linked.
-      pub linkable : (places : List Places) (counts : List ℕ) (d : Places) (names owners : List ℕ) → LinkableStore b v places counts keys at order before
-          → length names ≡ 4096 → length owners ≡ 4096
+      pub linkable : (places : List Places) (counts : List ℕ) (d : Places) (names₀ owners₀ names owners : List ℕ)
+          → LinkableStore b v places counts keys at order before names₀ owners₀ → length names ≡ length names₀ → length owners ≡ length owners₀
           → LinkableImage b (getD (v .records) j noRecord) (getD places j d) first keys at order next names owners
-      linkable places counts d names owners s m o =
+      linkable places counts d names₀ owners₀ names owners s m o =
           record {
             table = record { refs = objectsOf (imagesIn b v) ++ s .layers; table = s .table };
             is-in = s .opened .fills .each j h;
             opens = opened-at b v places (s .opened) j h d;
             within = omega (arith, its-objects (s .layers) .within, stand-length (s .table .stand));
             room = omega (arith, s .room, x .size);
-            names-room = omega arith;
-            owners-room = omega arith;
+            names-room = omega (arith, s .names-room);
+            owners-room = omega (arith, s .owners-room);
           }
 
       -- It is linked.

@@ -21,8 +21,8 @@ use Rattle.manifest.specs.Index.{nameAt}
 use Rattle.manifest.specs.declared.index.Range.{Range}
 use Rattle.manifest_objects.specs.Objects.{isAliasOf, Named}
 use Rattle.manifest_objects.proofs.Naming.{named-any}
-use Rattle.store_clash.specs.Keys.{Key, LayerKey}
-use Rattle.store_clash.specs.Clash.{sameKey}
+use Rattle.store_keys.specs.Keys.{Key, LayerKey}
+use Rattle.store_keys.specs.Clash.{sameKey}
 use Rattle.lookup_paths.specs.Follow.{objectIn}
 use Rattle.lookup_paths.proofs.Objects.{none-some}
 use Rattle.lookup_links.specs.Links.{AliasLink, undefined, linked, Link, Links}

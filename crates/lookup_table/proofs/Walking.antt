@@ -12,7 +12,7 @@ use Rattle.store_record.specs.Image.{Image}
 use Rattle.store_record.specs.Reading.{between, heldIn, imagesIn, noRecord}
 use Rattle.store_record.specs.declared.Survey.{Survey}
 use Rattle.store_record.proofs.Walks.{images-length, image-at}
-use Rattle.store_clash.specs.Keys.{LayerKey, layerKeys}
+use Rattle.store_keys.specs.Keys.{LayerKey, layerKeys}
 use Rattle.lookup_paths.specs.Follow.{keysIn, objectsOf}
 use Rattle.lookup_table.specs.Linking.{ObjectsFrom}
 

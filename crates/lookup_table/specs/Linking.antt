@@ -15,7 +15,7 @@ use Rattle.manifest_objects.specs.Objects.{isAliasOf}
 use Rattle.store_record.specs.Reading.{between, imagesIn, RecordIn}
 use Rattle.store_record.specs.declared.Record.{Record}
 use Rattle.store_record.specs.declared.Survey.{Survey}
-use Rattle.store_clash.specs.Keys.{LayerKey}
+use Rattle.store_keys.specs.Keys.{LayerKey}
 use Rattle.store_names.specs.Opened.{OpenedStore}
 use Rattle.lookup_paths.specs.Follow.{objectsOf}
 use Rattle.lookup_table.specs.Table.{Table, SomeTable}
@@ -52,9 +52,11 @@ pub record LinkableImage (b : List ℕ) (r : Record) (q : Places) (first : ℕ) 
   pub owners-room : 4096 ≤ length owners
 
 -- the aliases of all images of a store can be linked: the table has their objects, and layers after them
-pub record LinkableStore (b : List ℕ) (v : Survey) (places : List Places) (counts keys at order next : List ℕ) : Type 0 where
+pub record LinkableStore (b : List ℕ) (v : Survey) (places : List Places) (counts keys at order next names owners : List ℕ) : Type 0 where
   pub opened : OpenedStore b v places
   pub counted : CountedTo (v .count) b v counts
   pub layers : List Layer
   pub table : Table b keys at order (objectsOf (imagesIn b v) ++ layers)
   pub room : length keys ≤ length next
+  pub names-room : 4096 ≤ length names
+  pub owners-room : 4096 ≤ length owners

@@ -20,7 +20,7 @@ ghost use Rattle.manifest.specs.Manifest.{layers};
 ghost use Rattle.manifest.specs.Names.{objects};
 ghost use Rattle.manifest_objects.specs.Objects.{StandsAt, SomeReference, AllStand, NameStands, SomeName};
 ghost use Rattle.store_record.specs.Reading.{between, heldIn, imagesIn, noRecord};
-ghost use Rattle.store_clash.specs.Keys.{LayerKey, layerKeys};
+ghost use Rattle.store_keys.specs.Keys.{LayerKey, layerKeys};
 ghost use Rattle.store_names.specs.Opened.{OpenedStore};
 ghost use Rattle.lookup_paths.specs.Follow.{keysIn, objectsOf, objectCount};
 ghost use Rattle.lookup_links.specs.Links.{Links};
@@ -191,7 +191,7 @@ fn link_image(
     }
 }
 
-// Links all aliases that the images define.
+// Links all aliases that the images define; `names` and `owners` are room for those of one image.
 pub fn link_all(
     b: &[u8],
     v: Survey,
@@ -201,31 +201,21 @@ pub fn link_all(
     at: &[usize],
     order: &[u16],
     next: &mut [u16],
+    names: &mut [u16],
+    owners: &mut [u16],
 )
-    requires { ⌜ LinkableStore (now b) v places (now counts) (now keys) (now at) (now order) (now next) ⌝ }
-    ensures { λ _. ⌜ ((ls : List LayerReference) → Table (now (b .entry)) (now (keys .entry)) (now (at .entry)) (now (order .entry)) (objectsOf (imagesIn (now (b .entry)) v) ++ ls)
+    requires { ⌜ LinkableStore (now b) v places (now counts) (now keys) (now at) (now order) (now next) (now names) (now owners) ⌝ }
+    ensures { λ _. ⌜ ((ls : List LayerReference)
+        → Table (now (b .entry)) (now (keys .entry)) (now (at .entry)) (now (order .entry)) (objectsOf (imagesIn (now (b .entry)) v) ++ ls)
         → Links [] (objectsOf (imagesIn (now (b .entry)) v) ++ ls) (now (next .entry))
         → Links (keysIn (imagesIn (now (b .entry)) v)) (objectsOf (imagesIn (now (b .entry)) v) ++ ls) (now (next .exit))) ⌝ }
 {
-    let mut names = [0u16; 4096];
-    let mut owners = [0u16; 4096];
     let mut first = 0;
     let mut j = 0;
     while j < v.count {
         let r = v.records[j];
         let q = places[j];
-        link_image(
-            b,
-            r,
-            q,
-            first,
-            keys,
-            at,
-            order,
-            next,
-            &mut names,
-            &mut owners,
-        );
+        link_image(b, r, q, first, keys, at, order, next, names, owners);
         first += counts[j] as usize;
         j += 1;
     }

@@ -3,6 +3,7 @@ pub mod Aliases
 pub mod Asking
 pub mod Canonical
 pub mod Checking
+pub mod Goods
 pub mod Groups
 pub mod Indexing
 pub mod Limits

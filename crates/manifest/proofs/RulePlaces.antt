@@ -23,7 +23,7 @@ use Rattle.manifest_fields.specs.Rules.{foundEntries}
 use Rattle.manifest_fields.specs.declared.member.Found.the-variants.{At, Missing}
 use Rattle.manifest_fields.proofs.Founds.{missing-entries, found-entries}
 use Rattle.manifest_fields.proofs.Ruling.{Here, is-here, Passed, array-of, its-entries}
-use Rattle.manifest_forms.proofs.Grouping.{few-entries}
+use Rattle.manifest_repeat.proofs.Grouping.{few-entries}
 use Rattle.manifest_names.proofs.Nexts.{NextString, next-string}
 use Rattle.manifest.specs.Manifest.{manifestOf, rules}
 use Rattle.manifest.specs.Opened.{Opens}

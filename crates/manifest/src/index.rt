@@ -9,7 +9,7 @@ ghost use mathlib.Core.List.{List, _∷_};
 ghost use Prim.Native.Nat.{ℕ, _+_, _-_, _≤_, _<_};
 ghost use lib.ListN.{length, take, drop};
 ghost use Rattle.reference.specs.References.{Rule as PolicyRule};
-ghost use Rattle.manifest_forms.specs.Names.{NamesAt};
+ghost use Rattle.manifest_repeat.specs.Names.{NamesAt};
 ghost use Rattle.laws.specs.Order.{same};
 ghost use Rattle.manifest.specs.Index.{nameAt, NamesIn, NumberOf, NameIndex, SomeNameIndex, Asked};
 ghost use Rattle.manifest.specs.Manifest.{selfNames};
@@ -29,19 +29,26 @@ fn collect_self(s: &[u8], q: Places, names: &mut [u16]) -> usize
     let own = q.own;
     match own {
         Found::Missing => 0,
-        Found::At(p) => manifest_forms::repeat::collect_group(s, p, 6, names),
+        Found::At(p) => manifest_repeat::collect_group(s, p, 6, names),
     }
 }
 
 // Writes the positions in b where the own aliases begin of the manifest that stands there from `start` to `end`, at the start of `at`, and answers how
-// many there are.
-pub fn place_self(b: &[u8], start: usize, end: usize, q: Places, at: &mut [usize]) -> usize
-    requires { ⌜ (start ≤ end) × (end ≤ length (now b)) × Opens (take (end - start) (drop start (now b))) q × (64 ≤ length (now at)) ⌝ }
+// many there are. What `own` holds is overwritten; it is lent, as many images need it one after the other.
+pub fn place_self(
+    b: &[u8],
+    start: usize,
+    end: usize,
+    q: Places,
+    own: &mut [u16],
+    at: &mut [usize],
+) -> usize
+    requires { ⌜ (start ≤ end) × (end ≤ length (now b)) × Opens (take (end - start) (drop start (now b))) q × (4096 ≤ length (now own)) × (64 ≤ length (now at)) ⌝ }
     ensures { λ r. ⌜ (r ≤ 64) × (length (now (at .exit)) ≡ length (now (at .entry))) × (drop r (now (at .exit)) ≡ drop r (now (at .entry)))
-        × NamesIn (now (b .entry)) (take r (now (at .exit))) (selfNames (take (end - start) (drop start (now (b .entry))))) ⌝ }
+        × NamesIn (now (b .entry)) (take r (now (at .exit))) (selfNames (take (end - start) (drop start (now (b .entry)))))
+        × (length (now (own .exit)) ≡ length (now (own .entry))) ⌝ }
 {
-    let mut own = [0u16; 4096];
-    let n = collect_self(&b[start..end], q, &mut own);
+    let n = collect_self(&b[start..end], q, own);
     let mut i = 0;
     while i < n {
         at[i] = start + own[i] as usize + 1;

@@ -14,8 +14,8 @@ use Rattle.text_strings.proofs.Orders.{inside-within}
 use Rattle.reference.specs.Matches.{isOneOf}
 use Rattle.manifest_fields.specs.Accessors.{texts, namesOf}
 use Rattle.manifest_values.specs.Values.{entries}
-use Rattle.manifest_forms.specs.Names.{NamesAt, no-names, name-at}
-use Rattle.manifest_forms.specs.Questions.{repeated}
+use Rattle.manifest_repeat.specs.Names.{NamesAt, no-names, name-at}
+use Rattle.manifest_repeat.specs.Repeated.{repeated}
 use Rattle.laws.specs.Any.{anyOf}
 use Rattle.manifest_names.specs.Contents.{Named, namedUnder, namedIn, isElsewhere, standsElsewhere, conflict}
 use Rattle.manifest_names.specs.Placed.{Placed, no-place, placed, KeyedAt, SortedNames, SomeNames, SortedContents, SomeContents}

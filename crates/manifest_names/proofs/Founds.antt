@@ -17,8 +17,8 @@ use Rattle.manifest_fields.specs.declared.member.Found.{Found}
 use Rattle.manifest_fields.specs.declared.member.Found.the-variants.{At}
 use Rattle.manifest_fields.proofs.Founds.{found-members}
 use Rattle.manifest_fields.proofs.Ruling.{is-here, its-members}
-use Rattle.manifest_forms.specs.Names.{GroupFound, NamesAt, no-names as no-names-at}
-use Rattle.manifest_forms.proofs.Groups.{object-of}
+use Rattle.manifest_repeat.specs.Names.{GroupFound, NamesAt, no-names as no-names-at}
+use Rattle.manifest_repeat.proofs.Groups.{object-of}
 use Rattle.laws.specs.Any.{anyOf}
 use Rattle.manifest_names.specs.Contents.{Named, namedIn, shareName, conflict}
 use Rattle.manifest_names.specs.Groups.{Grouped, AliasGroup}

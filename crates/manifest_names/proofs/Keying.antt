@@ -26,7 +26,7 @@ use Rattle.manifest_fields.specs.Rules.{countFields, everyMember, namesPass}
 use Rattle.manifest_values.specs.declared.entry.Entry.the-variants.{Text}
 use Rattle.manifest_values.proofs.Counting.{one-array}
 use Rattle.manifest_fields.proofs.Finding.{one-object}
-use Rattle.manifest_forms.specs.Names.{Collectable}
+use Rattle.manifest_repeat.specs.Names.{Collectable}
 use Rattle.laws.specs.Any.{anyOf}
 use Rattle.manifest_names.specs.Contents.{Named, namedUnder, namedIn, isElsewhere, standsElsewhere, conflict}
 use Rattle.manifest_names.specs.Keyed.{Keyable, AddsKeyed, KeyableGroup}

@@ -7,4 +7,3 @@ pub mod Founds
 pub mod Elsewhere
 pub mod Heading
 pub mod Keying
-pub mod Goods

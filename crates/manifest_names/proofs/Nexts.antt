@@ -17,8 +17,8 @@ use Rattle.manifest_values.specs.Values.{isArrayOf, entries}
 use Rattle.manifest_fields.specs.Rules.{countFields, everyMember, namesPass}
 use Rattle.manifest_values.specs.declared.entry.Entry.the-variants.{Text}
 use Rattle.manifest_fields.proofs.Ruling.{Passed, array-of, its-entries}
-use Rattle.manifest_forms.proofs.Collecting.{is-text, texts-more, count-more as element-counted, pass-both as element-passes}
-use Rattle.manifest_forms.proofs.Grouping.{few-entries, count-more as member-counted, pass-both as member-passes}
+use Rattle.manifest_repeat.proofs.Collecting.{is-text, texts-more, count-more as element-counted, pass-both as element-passes}
+use Rattle.manifest_repeat.proofs.Grouping.{few-entries, count-more as member-counted, pass-both as member-passes}
 use Rattle.manifest_names.specs.Contents.{namedUnder, namedIn}
 use Rattle.manifest_names.specs.Groups.{AliasList}
 

@@ -21,8 +21,8 @@ use Rattle.text_strings.proofs.Orders.{Ordered, is-less, is-equal, is-greater, 
 use Rattle.text_keys.specs.Keys.{KeysAt}
 use Rattle.text_keys.proofs.Keys.{keys-get, keys-sort, keys-order}
 use Rattle.reference.specs.Matches.{isOneOf}
-use Rattle.manifest_forms.specs.Names.{NamesAt, no-names, name-at}
-use Rattle.manifest_forms.proofs.Repeating.{names-keys}
+use Rattle.manifest_repeat.specs.Names.{NamesAt, no-names, name-at}
+use Rattle.manifest_repeat.proofs.Repeating.{names-keys}
 use Rattle.laws.specs.Any.{anyOf}
 use Rattle.manifest_names.specs.Placed.{Placed, no-place, placed, SortedNames, SomeNames}
 use Rattle.manifest_names.specs.Searches.{Stands, Looks}

@@ -12,8 +12,8 @@ use Rattle.manifest_values.specs.Entries.{count}
 use Rattle.manifest_fields.specs.Members.{Finds}
 use Rattle.manifest_fields.specs.Rules.{foundMembers}
 use Rattle.manifest_fields.specs.declared.member.Found.{Found}
-use Rattle.manifest_forms.specs.Names.{Collectable, GroupAt, GroupFound}
-use Rattle.manifest_forms.specs.Questions.{repeated}
+use Rattle.manifest_repeat.specs.Names.{Collectable, GroupAt, GroupFound}
+use Rattle.manifest_repeat.specs.Repeated.{repeated}
 use Rattle.manifest_names.specs.Contents.{Named, namedUnder, conflict}
 use Rattle.manifest_names.specs.Placed.{Placed, KeyedAt}
 

@@ -6,7 +6,7 @@ use mathlib.Core.Bool.{false}
 use lib.ListN.{length, getD}
 use Rattle.laws.specs.Sort.{sort}
 use Rattle.text_strings.specs.InString.{InString, keyLe}
-use Rattle.manifest_forms.specs.Names.{NamesAt}
+use Rattle.manifest_repeat.specs.Names.{NamesAt}
 use Rattle.manifest_names.specs.Contents.{Named, conflict}
 
 -- at each position stands what the other list says

@@ -17,9 +17,9 @@ use Rattle.manifest_fields.specs.declared.field.Field.the-variants.{Layers}
 use Rattle.manifest_fields.specs.declared.member.Found.the-variants.{At, Missing}
 use Rattle.manifest_fields.proofs.Founds.{missing-entries, missing-members, found-entries}
 use Rattle.manifest_fields.proofs.Ruling.{Here, is-here, Passed, array-of, its-entries}
-use Rattle.manifest_forms.specs.Names.{GroupFound}
-use Rattle.manifest_forms.proofs.Groups.{field-passes, group-at, same-members}
-use Rattle.manifest_forms.proofs.Grouping.{few-entries}
+use Rattle.manifest_repeat.specs.Names.{GroupFound}
+use Rattle.manifest_repeat.proofs.Groups.{field-passes, group-at, same-members}
+use Rattle.manifest_repeat.proofs.Grouping.{few-entries}
 use Rattle.manifest_names.proofs.Founds.{its-object}
 use Rattle.manifest.specs.Manifest.{manifestOf, aliasesOf, layers, contents}
 use Rattle.manifest.specs.Names.{keysOf, objects}

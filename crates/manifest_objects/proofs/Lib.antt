@@ -4,3 +4,4 @@ pub mod Listing
 pub mod Found
 pub mod Reading
 pub mod Naming
+pub mod Standing

@@ -10,7 +10,7 @@ use Rattle.reference.specs.References.{Layer, layer, no-layer}
 use Rattle.manifest_values.specs.Entries.{allPass, count}
 use Rattle.manifest_values.specs.declared.entry.Entry.the-variants.{Text}
 use Rattle.manifest_fields.specs.Accessors.{texts}
-use Rattle.manifest_forms.specs.Names.{Collectable, GroupAt}
+use Rattle.manifest_repeat.specs.Names.{Collectable, GroupAt}
 use Rattle.manifest.specs.Manifest.{Alias, aliasesTo}
 use Rattle.manifest.specs.Names.{keysOf, objects}
 use Rattle.manifest_objects.specs.Objects.{AllStand, Listed}

@@ -14,7 +14,7 @@ use Rattle.text.specs.Question.{lowest}
 use Rattle.manifest.proofs.Asking.{nothing-asked, asked-first, asked-next, asked-none}
 use Rattle.policy_marks.specs.Pairs.{Pair, pairsOf, noReportSpace, pairsAfter, reportAfter}
 use Rattle.policy_marks.specs.Words.{guardsIn, rowsIn, reportNumber, Reports}
-use Rattle.policy_marks.specs.declared.Report.{Report}
+use Rattle.answer.specs.declared.Answer.{Answer}
 use Rattle.policy_marks.specs.declared.Table.{Table}
 use Rattle.store_record.specs.Image.{Image}
 use Rattle.store_record.specs.Store.{mostImages, readRecords}
@@ -26,9 +26,9 @@ use Rattle.policy.specs.Pairs.{pairs}
 use Rattle.policy.specs.Judge.{judgeQuestions, judgeNumber, heldPairs}
 use Rattle.policy.proofs.Admitting.{held-pairs}
 
-module _ {ps : List Pair} {before : List ℕ} {r : Report} {after : List ℕ} {m n : ℕ} where
+module _ {ps : List Pair} {before : List ℕ} {r : Answer} {after : List ℕ} {m n : ℕ} where
   -- A refusal tells its number and no pairs, and leaves the buffer.
-  pub refused-reports : m ≡ n → (m ≡ 0 → ⊥) → (r .number ≡ m) × (r .pairs ≡ 0) → after ≡ before → Reports n ps before r after
+  pub refused-reports : m ≡ n → (m ≡ 0 → ⊥) → (r .number ≡ m) × (r .value ≡ 0) → after ≡ before → Reports n ps before r after
   unfolding pairsAfter reportAfter
   refused-reports e h k f =
       let q : eqb n 0 ≡ false = ne-eqb n 0 (λ z. h (e ∙ z)) in
@@ -40,7 +40,7 @@ unfolding pairs
 table-pairs t xs e f = ap₂ pairsOf e f
 
 -- An answer may be told of the same pairs in another way.
-pub reports-as : {m n : ℕ} {ps qs : List Pair} {before : List ℕ} {r : Report} {after : List ℕ} → m ≡ n → ps ≡ qs → Reports m ps before r after
+pub reports-as : {m n : ℕ} {ps qs : List Pair} {before : List ℕ} {r : Answer} {after : List ℕ} → m ≡ n → ps ≡ qs → Reports m ps before r after
     → Reports n qs before r after
 reports-as {before} {r} {after} e f k = subst₂ (λ (n : ℕ) (ps : List Pair). Reports n ps before r after) e f k
 

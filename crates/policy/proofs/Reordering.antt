@@ -17,7 +17,7 @@ use Rattle.store_record.specs.Record.{recordOf, Shaped}
 use Rattle.store_record.specs.Store.{mostImages, storeOf, AllShaped, shaped}
 use Rattle.store_record.proofs.Sharing.{share-id-sym}
 use Rattle.store_names.proofs.Pairs.{pair-permuted}
-use Rattle.store_clash.specs.Clash.{clash, anyClash}
+use Rattle.store_keys.specs.Clash.{clash, anyClash}
 use Rattle.store_clash.proofs.Clashing.{clash-sym}
 use Rattle.store.specs.Held.{isUnfit, tooMany, areUnsound}
 use Rattle.store.proofs.Images.{shaped-single}

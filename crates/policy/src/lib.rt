@@ -1,33 +1,34 @@
 // The launch policy of a store's images: the report on guards and the images that they do not reach by any chain.
-use policy_marks::Report;
+use answer::Answer;
 ghost use mathlib.Core.Path.{_≡_};
 ghost use lib.ListN.{length};
 ghost use Rattle.policy_marks.specs.Words.{Reports};
 ghost use Rattle.policy.specs.Judge.{judgeNumber, heldPairs};
 
-// A refusal: its number, and the buffer as it was.
-fn refused(report: &mut [u8], number: usize) -> Report
-    ensures { λ r. ⌜ (r .number ≡ number) × (r .pairs ≡ 0) ⌝ }
-    ensures { λ _. ⌜ now (report .exit) ≡ now (report .entry) ⌝ }
-{
-    Report { number, pairs: 0 }
-}
+// The number of a store that is not well-formed.
+const BROKEN: usize = 11;
 
 // Judges the images in the first `used` bytes of a store: writes the pairs of a guard and an image that it does not reach at the start of
-// `report`. A refusal changes no byte.
-pub fn judge(store: &[u8], used: usize, report: &mut [u8]) -> Report
+// `report`. A refusal changes no byte. The arrays that opening the store and making the table need are made here, once.
+pub fn judge(store: &[u8], used: usize, report: &mut [u8]) -> Answer
     ensures { λ r. ⌜ Reports (judgeNumber (now (store .entry)) used (length (now (report .entry)))) (heldPairs (now (store .entry)) used)
         (now (report .entry)) r (now (report .exit)) ⌝ }
 {
     if store.len() < used {
-        return refused(report, 11);
+        return answer::refused(report, BROKEN);
     }
     let b = &store[..used];
-    let opened = store::open(b);
+    let mut at = [0usize; 4096];
+    let mut sorted = [0u16; 4096];
+    let mut spare = [0u16; 4096];
+    let mut heads = [0u32; 4096];
+    let mut keys = [0u16; 16384];
+    let opened = store::open(b, &mut at, &mut sorted, &mut spare, &mut heads, &mut keys);
     if !opened.sound {
-        return refused(report, 11);
+        return answer::refused(report, BROKEN);
     }
     let survey = opened.survey;
     let places = opened.places;
-    policy_marks::judge_table(policy_table::table(b, survey, places), report)
+    let table = policy_table::table(b, survey, places, &mut at, &mut sorted, &mut spare);
+    policy_marks::judge_table(table, report)
 }

@@ -8,13 +8,13 @@ use Rattle.policy_marks.specs.Marks.{closed}
 use Rattle.policy_marks.specs.Pairs.{Pair, pairsIn, pairsOf, reportOf, noReportSpace, pairsAfter, reportAfter}
 use Rattle.policy_marks.specs.Words.{rowsOf, guardsIn, rowsIn, reportNumber, Reports}
 use Rattle.policy_marks.specs.declared.Table.{Table}
-use Rattle.policy_marks.specs.declared.Report.{Report}
+use Rattle.answer.specs.declared.Answer.{Answer}
 use Rattle.policy_marks.proofs.Pairs.{reported-few}
 use Rattle.policy_marks.proofs.Words.{row-length}
 
 -- no space
-abbrev pub refusal : Report
-refusal = record { number = 20; pairs = 0 }
+abbrev pub refusal : Answer
+refusal = record { number = 20; value = 0 }
 
 -- a table with other rows
 abbrev pub withRows : Table → List ℕ → Table
@@ -46,7 +46,7 @@ module _ (ps : List Pair) (before : List ℕ) where
   refused h = rw (number-refused h) (record { number = refl; pairs = refl; bytes = refl })
 
   -- The report is written, and the pairs are counted.
-  pub told : (r : Report) (after : List ℕ) → 2 * length ps ≤ length before → r .number ≡ 0 → r .pairs ≡ length ps
+  pub told : (r : Answer) (after : List ℕ) → 2 * length ps ≤ length before → r .number ≡ 0 → r .value ≡ length ps
       → after ≡ reportOf ps ++ drop (2 * length ps) before → Reports (reportNumber (length before) ps) ps before r after
   unfolding pairsAfter reportAfter
   told r after h e f g = rw (number-told h) (record { number = e; pairs = f; bytes = g })

@@ -7,7 +7,7 @@ use lib.Dec.{eqb}
 use lib.ListN.{take}
 use Rattle.policy_marks.specs.Pairs.{Pair, noReportSpace, pairsAfter, reportAfter}
 use Rattle.policy_marks.specs.declared.Table.{Table}
-use Rattle.policy_marks.specs.declared.Report.{Report}
+use Rattle.answer.specs.declared.Answer.{Answer}
 
 -- bit i of a word
 unfoldable pub bitAt : ℕ → ℕ → Bool
@@ -30,9 +30,9 @@ unfoldable pub rowsIn : Table → List (List Bool)
 rowsIn t = rowsOf (t .count) (t .rows)
 
 -- the answer r of number n for these pairs: their number, and the buffer from `before` to `after`
-pub record Reports (n : ℕ) (ps : List Pair) (before : List ℕ) (r : Report) (after : List ℕ) : Type 0 where
+pub record Reports (n : ℕ) (ps : List Pair) (before : List ℕ) (r : Answer) (after : List ℕ) : Type 0 where
   pub number : r .number ≡ n
-  pub pairs : r .pairs ≡ pairsAfter n ps
+  pub pairs : r .value ≡ pairsAfter n ps
   pub bytes : after ≡ reportAfter n ps before
 
 -- document 01's number for a report of these pairs in a buffer of that length

@@ -1,4 +1,5 @@
 // Who accepts whom, in words of 64 bits: the closure of such a table, and the report that is read off it.
+use answer::Answer;
 ghost use mathlib.Core.Path.{_≡_};
 ghost use mathlib.Core.Bool.{not, _&&_};
 ghost use mathlib.Core.List.{_++_};
@@ -132,14 +133,8 @@ fn write_pairs(t: Table, out: &mut [u8])
     }
 }
 
-// The number of document 01's table, and the number of pairs, which is 0 in a refusal.
-pub struct Report {
-    pub number: usize,
-    pub pairs: usize,
-}
-
 // The pairs of guards and others to which no chain of marks leads, written at the start of `out`; 20 where they do not fit.
-pub fn judge_table(t: Table, out: &mut [u8]) -> Report
+pub fn judge_table(t: Table, out: &mut [u8]) -> Answer
     requires { ⌜ t .count ≤ 64 ⌝ }
     ensures { λ r. ⌜ Reports (reportNumber (length (now (out .entry))) (pairsOf (guardsIn t) (rowsIn t))) (pairsOf (guardsIn t) (rowsIn t)) (now (out .entry)) r (now (out .exit)) ⌝ }
 {
@@ -153,11 +148,14 @@ pub fn judge_table(t: Table, out: &mut [u8]) -> Report
     };
     let pairs = count_pairs(closed);
     if out.len() < 2 * pairs {
-        return Report {
+        return Answer {
             number: 20,
-            pairs: 0,
+            value: 0,
         };
     }
     write_pairs(closed, out);
-    Report { number: 0, pairs }
+    Answer {
+        number: 0,
+        value: pairs,
+    }
 }

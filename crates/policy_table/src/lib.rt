@@ -11,7 +11,7 @@ use store_record::Survey;
 ghost use mathlib.Core.Path.{_≡_};
 ghost use mathlib.Core.Bool.{_&&_};
 ghost use mathlib.Core.List.{map};
-ghost use Prim.Native.Nat.{ℕ, _+_, _*_, _/_, _^_, _<_};
+ghost use Prim.Native.Nat.{ℕ, _+_, _*_, _/_, _^_, _≤_, _<_};
 ghost use lib.Dec.{eqb};
 ghost use lib.ListN.{length, getD};
 ghost use Rattle.laws.specs.Any.{anyOf};
@@ -132,20 +132,25 @@ fn guards(b: &[u8], v: Survey, places: [Places; 64]) -> u64
     word
 }
 
-// Who accepts whom in a store, and who is a guard.
-pub fn table(b: &[u8], v: Survey, places: [Places; 64]) -> Table
-    requires { ⌜ OpenedStore (now b) v places ⌝ }
+// Who accepts whom in a store, and who is a guard. The arrays are lent; what they hold is overwritten.
+pub fn table(
+    b: &[u8],
+    v: Survey,
+    places: [Places; 64],
+    at: &mut [usize],
+    order: &mut [u16],
+    own: &mut [u16],
+) -> Table
+    requires { ⌜ OpenedStore (now b) v places × (length (now at) ≡ 4096) × (4096 ≤ length (now order)) × (4096 ≤ length (now own)) ⌝ }
     ensures { λ r. ⌜ (r .count ≡ v .count) × (guardsIn r ≡ guardsOf (imagesIn (now (b .entry)) v)) × (rowsIn r ≡ marks (imagesIn (now (b .entry)) v)) ⌝ }
 {
-    let mut at = [0usize; 4096];
     let mut counts = [0u16; 64];
-    store_names::place_all(b, v, places, &mut at, &mut counts);
-    let mut order = [0u16; 4096];
-    let n = store_names::index_all(b, &at, &counts, v.count, &mut order);
+    store_names::place_all(b, v, places, own, at, &mut counts);
+    let n = store_names::index_all(b, at, &counts, v.count, order);
     let mut rows = [0u64; 64];
     let mut i = 0;
     while i < v.count {
-        rows[i] = row(b, v, places, &at, &order[..n], ImageIndex(i));
+        rows[i] = row(b, v, places, at, &order[..n], ImageIndex(i));
         i += 1;
     }
     Table {

@@ -1,20 +1,19 @@
 -- What a line is answered: by its length, and by the number of the load.
-use Prim.Native.Nat.{ℕ, suc, _+_, _-_, _≤_, _<_, min}
+use Prim.Native.Nat.{ℕ, _+_, _-_, _≤_, _<_}
 use mathlib.Core.Path.{_≡_, sym, ap, _∙_}
 use mathlib.Core.Bool.{true, false}
 use mathlib.Core.List.{List}
 use native.Mathlib.Omega.{arith}
-use native.Mathlib.Numerals.{add-one}
-use lib.Dec.{leb, ltb, eqb}
-use lib.ListN.{length, take, drop, length-take, length-drop, drop-of-length-le}
+use lib.Dec.{ltb, eqb}
+use lib.ListN.{length, drop, length-take, length-drop}
 use lib.Seq.{take-all}
 use borrow.Rule.Slice.PartMut.{midOf}
-use borrow.Author.Tests.{lt-ltb, le-ltb, ltb-true, ltb-false, leb-true, leb-false, eq-eqb, ne-eqb}
+use borrow.Author.Tests.{lt-ltb, le-ltb, ltb-true, ltb-false, eq-eqb, ne-eqb}
 use Rattle.laws.proofs.Order.{by-test}
 use Rattle.store.specs.Load.{loadNumber, loadUsed, loadBytes, bytesAfter}
-use Rattle.report_lines.specs.Lines.{before, mostLine, idPart, manifestPart, lineNumber, lineUsed, lineBytes}
-use Rattle.report_lines.specs.Parts.{cut}
-use Rattle.report_lines.proofs.Marks.{before-take, after-drop}
+use Rattle.report_text.specs.Lines.{mostLine, idPart, manifestPart}
+use Rattle.report_text.specs.Parts.{cut}
+use Rattle.report_lines.specs.Lines.{lineNumber, lineUsed, lineBytes}
 
 -- A line that is too long is answered 1, whatever it is.
 pub long-number : (line buffer : List ℕ) (used : ℕ) → mostLine < length line → lineNumber line buffer used ≡ 1
@@ -76,29 +75,6 @@ module _ (line buffer : List ℕ) (used : ℕ) where
         let r = refused-line line buffer used (λ k. z (e ∙ same-number ∙ k)) in
         (e ∙ same-number, (sym (r .0), b ∙ refused-load id manifest buffer used (λ k. z (e ∙ k)) ∙ sym (r .1)))
 
--- To drop more than a list has is to drop all of it.
-drop-least : (n p : ℕ) (l : List ℕ) → p ≡ min n (length l) → drop p l ≡ drop n l
-drop-least n p l e =
-    by-test (leb n (length l))
-    (λ t. let h : n ≤ length l = leb-true _ _ t in let g : p ≡ n = omega arith in ap (λ (k : ℕ). drop k l) g)
-    (λ t. let h : length l < n = leb-false _ _ t in drop-of-length-le l {i = p} (omega arith) ∙ sym (drop-of-length-le l {i = n} (omega arith)))
-
--- The parts of a line by the place of the first space, or the end.
-module _ (line : List ℕ) (r : ℕ) (e : r ≡ 0 + length (before 0x20 line)) where
-  found : r ≡ length (before 0x20 line)
-  found = omega arith
-
-  pub id-taken : take r line ≡ idPart line
-  unfolding idPart
-  id-taken = rw found (sym (before-take 0x20 line))
-
-  pub manifest-left : (p : ℕ) → p ≡ min (r + 1) (length line) → midOf p (length line - p) line ≡ manifestPart line
-  unfolding manifestPart
-  manifest-left p q =
-      let all : length (drop p line) ≤ length line - p = omega (arith, length-drop p line) in
-      take-all (length line - p) (drop p line) all ∙ drop-least (r + 1) p line q
-      ∙ ap (λ (k : ℕ). drop k line) (add-one r ∙ ap suc found) ∙ sym (after-drop 0x20 line)
-
 -- The first 16,601 bytes of a line are answered as the line is.
 pub cut-answer : (line buffer : List ℕ) (used : ℕ)
     → Answers line buffer used (lineNumber (cut line) buffer used) (lineUsed (cut line) buffer used) (lineBytes (cut line) buffer used)
@@ -114,3 +90,7 @@ cut-answer line buffer used =
     let h : length line ≤ mostLine = ltb-false _ _ t in
     let e : cut line ≡ line = take-all (mostLine + 1) line (omega arith) in
     (ap (λ (l : List ℕ). lineNumber l buffer used) e, (ap (λ (l : List ℕ). lineUsed l buffer used) e, ap (λ (l : List ℕ). lineBytes l buffer used) e)))
+
+-- What is left of a line from a place on, as a part that is lent.
+pub part-left : (line : List ℕ) (p : ℕ) → midOf p (length line - p) line ≡ drop p line
+part-left line p = take-all (length line - p) (drop p line) (omega (arith, length-drop p line))

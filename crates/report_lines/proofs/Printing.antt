@@ -3,8 +3,9 @@ use Prim.Native.Nat.{ℕ, _+_}
 use mathlib.Core.Path.{_≡_, refl, ap, _∙_}
 use mathlib.Core.List.{List, [], _∷_, _++_, map}
 use Rattle.report_lines.specs.Lines.{lineNumber, lineUsed, lineBytes}
-use Rattle.report_lines.specs.Output.{loadLine, loadLines, usedAfter, bytesAfter}
-use Rattle.report_lines.specs.Parts.{cut}
+use Rattle.report_text.specs.Output.{loadLine}
+use Rattle.report_text.specs.Parts.{cut}
+use Rattle.report_lines.specs.Output.{loadLines, usedAfter, bytesAfter}
 use Rattle.report_lines.proofs.Loading.{cut-answer}
 
 pub printed-cut : (i : ℕ) (ls : List (List ℕ)) (buffer : List ℕ) (used : ℕ) → loadLines i (map cut ls) buffer used ≡ loadLines i ls buffer used

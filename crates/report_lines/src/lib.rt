@@ -1,65 +1,14 @@
-// The lines of a report: those of its input, taken from the parts in which the input comes and each loaded into a store, and those that are printed.
-pub mod print;
-
-ghost use Prim.Native.Nat.{_+_, _≤_, min};
+// The lines of a report, each loaded into a store.
 ghost use mathlib.Core.Path.{_≡_};
-ghost use lib.ListN.{length, drop};
-ghost use lib.Seq.{paste};
-ghost use Rattle.report_lines.specs.Lines.{before, mostLine, lineNumber, lineUsed, lineBytes};
-ghost use Rattle.report_lines.specs.Parts.{Takes};
+ghost use Rattle.report_lines.specs.Lines.{lineNumber, lineUsed, lineBytes};
 
 // The most bytes that a line may have.
 pub const MOST_LINE: usize = 16600;
-
-// As many bytes are kept of a line: one more, so that a line that is too long is known by them.
-const KEPT: usize = 16601;
 
 // The number of a line, and the used count for the next one.
 pub struct Loaded {
     pub number: usize,
     pub used: usize,
-}
-
-// What was taken of a part: the place after it, how many bytes are kept of the line, and whether the line ended.
-pub struct Taken {
-    pub at: usize,
-    pub length: usize,
-    pub ended: bool,
-}
-
-// What is kept of a line: an array with space for one byte more than a line may have.
-pub fn line_buffer() -> [u8; KEPT]
-    ensures { λ r. ⌜ mostLine + 1 ≡ length r ⌝ }
-{
-    [0; KEPT]
-}
-
-// Where the first such byte is, from `at` on; the length where there is none.
-fn find(s: &[u8], at: usize, mark: u8) -> usize
-    requires { ⌜ at ≤ length (now s) ⌝ }
-    ensures { λ r. ⌜ (r ≡ at + length (before mark (drop at (now (s .entry))))) × (r ≤ length (now (s .entry))) ⌝ }
-{
-    let mut i = at;
-    while i < s.len() {
-        if s[i] == mark {
-            return i;
-        }
-        i += 1;
-    }
-    i
-}
-
-fn least(a: usize, b: usize) -> usize
-    ensures { λ r. ⌜ r ≡ min a b ⌝ }
-{
-    if a < b { a } else { b }
-}
-
-// The place after `at`, or the end where `at` is there.
-fn past(s: &[u8], at: usize) -> usize
-    ensures { λ r. ⌜ r ≡ min (at + 1) (length (now (s .entry))) ⌝ }
-{
-    if at < s.len() { at + 1 } else { s.len() }
 }
 
 // Loads the image of a line into the store. A line that is refused changes no byte and leaves the used count as it was.
@@ -71,47 +20,19 @@ pub fn load_line(line: &[u8], store: &mut [u8], used: usize) -> Loaded
     if MOST_LINE < line.len() {
         return Loaded { number: 1, used };
     }
-    let space = find(line, 0, b' ');
-    let start = past(line, space);
-    let answer = store::load(&line[..space], &line[start..], store, used);
+    let divided = report_text::divide(line);
+    let end = divided.end;
+    let start = divided.start;
+    let answer = store::load(&line[..end], &line[start..], store, used);
     if answer.number == 0 {
         Loaded {
             number: 0,
-            used: answer.used,
+            used: answer.value,
         }
     } else {
         Loaded {
             number: answer.number,
             used,
         }
-    }
-}
-
-// Copies n bytes of s, from `from` on, to the place `to` of d.
-fn copy(s: &[u8], from: usize, d: &mut [u8], to: usize, n: usize)
-    requires { ⌜ (from + n ≤ length (now s)) × (to + n ≤ length (now d)) ⌝ }
-    ensures { λ _. ⌜ now (d .exit) ≡ paste (now (d .entry)) to (drop from (now (s .entry))) n ⌝ }
-{
-    let mut i = 0;
-    while i < n {
-        d[to + i] = s[from + i];
-        i += 1;
-    }
-}
-
-// Takes the bytes of a part, from `at` on, up to the end of a line or of the part, and keeps them after the `size` bytes that are kept of
-// the line already, as far as there is space. The byte 0A that ends a line is taken and not kept.
-pub fn take_part(kept: &mut [u8], size: usize, part: &[u8], at: usize) -> Taken
-    requires { ⌜ (size ≤ length (now kept)) × (at ≤ length (now part)) ⌝ }
-    ensures { λ r. ⌜ Takes (now (kept .entry)) size (now (part .entry)) at r (now (kept .exit)) ⌝ }
-{
-    let end = find(part, at, b'\n');
-    let next = past(part, end);
-    let n = least(end - at, kept.len() - size);
-    copy(part, at, kept, size, n);
-    Taken {
-        at: next,
-        length: size + n,
-        ended: end < part.len(),
     }
 }

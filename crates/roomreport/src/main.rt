@@ -1,6 +1,6 @@
 // Loads the images that the lines of standard input give into a store of 32,768 bytes: an Image ID, a space and a manifest to a line. Prints the
 // index of each line and the number that it gets, and then the pairs of a guard and an image that it does not reach, by their places.
-use report_lines::print;
+use report_text::print;
 ghost use Prim.Native.Nat.{_+_, _*_, _≤_};
 ghost use mathlib.Core.Path.{_≡_};
 ghost use lib.ListN.{length};
@@ -62,7 +62,7 @@ fn feed(part: &[u8], kept: &mut [u8], store: &mut [u8], out: &mut [u8], t: State
     let mut t = t;
     let mut at = 0;
     while at < part.len() {
-        let taken = report_lines::take_part(kept, t.kept, part, at);
+        let taken = report_text::take_part(kept, t.kept, part, at);
         let length = taken.length;
         at = taken.at;
         if taken.ended {
@@ -137,7 +137,7 @@ fn report(store: &[u8], used: usize, out: &mut [u8], unprinted: usize)
 {
     let mut places = [0u8; 8064];
     let judged = policy::judge(store, used, &mut places);
-    let n = judged.pairs;
+    let n = judged.value;
     let place = place_for_line(out, unprinted);
     let first = print::pairs(n, out, place);
     let end = print_pairs(&places, n, out, first);
@@ -146,7 +146,7 @@ fn report(store: &[u8], used: usize, out: &mut [u8], unprinted: usize)
 
 fn main() {
     let mut store = [0u8; 32768];
-    let mut kept = report_lines::line_buffer();
+    let mut kept = report_text::line_buffer();
     let mut part = io::large_buffer();
     let mut out = io::large_buffer();
     let open = read_all(&mut part, &mut kept, &mut store, &mut out);

@@ -25,7 +25,7 @@ use Rattle.store_record.specs.Record.{recordOf}
 use Rattle.store_record.specs.Store.{mostImages, storeOf, AllShaped, none-shaped, shaped}
 use Rattle.store_record.proofs.Sharing.{share-id-sym}
 use Rattle.store_record.proofs.Stores.{store-both}
-use Rattle.store_clash.specs.Clash.{clash, anyClash}
+use Rattle.store_keys.specs.Clash.{clash, anyClash}
 use Rattle.store_clash.proofs.Clashing.{Single, clash-sym}
 use Rattle.store.specs.Held.{isUnfit, tooMany, areUnsound, isBroken}
 use Rattle.store.specs.Load.{imageOf, isNoId, among, noSpace, storeQuestions, imageQuestions, loadQuestions}

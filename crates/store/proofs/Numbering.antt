@@ -2,14 +2,16 @@
 use Prim.Native.Nat.{ℕ, _+_, _-_, _≤_, _<_}
 use mathlib.Core.Path.{_≡_, refl, sym, ap, _∙_}
 use mathlib.Core.List.{List}
-use mathlib.Core.Bool.{true, false, or-false, or-true}
+use mathlib.Core.Bool.{Bool, true, false, or-false, or-true}
 use mathlib.Core.Option.{Option, none, some}
 use native.Mathlib.Omega.{arith}
-use borrow.Author.Tests.{lt-ltb, le-ltb, le-leb, lt-leb}
-use lib.Dec.{leb}
+use borrow.Author.Tests.{lt-ltb, le-ltb, le-leb, lt-leb, eqb-true, eqb-false, ltb-true, ltb-false}
+use lib.Dec.{eqb, leb, ltb}
 use lib.ListN.{length, take, getD}
+use lib.Seq.{length-take-le}
 use Rattle.laws.specs.Any.{anyOf}
 use Rattle.laws.proofs.Any.{any-map, any-pointwise}
+use Rattle.laws.proofs.Order.{by-test}
 use Rattle.text.specs.Answer.{form}
 use Rattle.text.specs.Question.{lowest}
 use Rattle.reference_digests.specs.declared.algorithm.Algorithm.{Algorithm}
@@ -25,13 +27,14 @@ use Rattle.store_record.specs.Reading.{heldIn, imagesIn}
 use Rattle.store_record.specs.declared.Survey.{Survey}
 use Rattle.store_record.proofs.Records.{head-length, record-short}
 use Rattle.store_record.proofs.Stores.{store-read}
-use Rattle.store_clash.specs.Clash.{clash}
-use Rattle.store_clash.specs.Signed.{one}
+use Rattle.store_keys.specs.Clash.{clash}
+use Rattle.store_keys.specs.Signed.{one}
 use Rattle.store_clash.proofs.Clashing.{single, clash-form}
-use Rattle.store.specs.Held.{isBroken}
+use Rattle.store.specs.Held.{held, isBroken}
 use Rattle.store.specs.Load.{among, noSpace, storeQuestions}
-use Rattle.store.specs.Loading.{imageWith, Digests}
+use Rattle.store.specs.Loading.{imageWith, Digests, NumberLeft}
 use Rattle.store.proofs.Appending.{form-small, record-length}
+use Rattle.store.proofs.Loading.{first-bytes}
 use Rattle.store.proofs.Opening.{unread-broken, read-broken}
 
 -- How large a buffer that holds the records is makes no difference to whether they are a store.
@@ -43,6 +46,19 @@ room-broken b bytes size h = by-images (readRecords mostImages b) refl
     by-images : (o : Option (List Image)) → readRecords mostImages b ≡ o → isBroken size (readRecords mostImages b) ≡ isBroken (length b) (readRecords mostImages b)
     by-images none e = unread-broken b size e ∙ sym (unread-broken b (length b) e)
     by-images (some xs) e = read-broken b size bytes h xs e ∙ sym (read-broken b (length b) bytes (omega arith) xs e)
+
+module _ (buffer : List ℕ) (used : ℕ) (h : used ≤ length buffer) where
+  -- A buffer holds the images that are read in its bytes in use.
+  pub held-in-use : held buffer used ≡ readRecords mostImages (take used buffer)
+  unfolding held
+  held-in-use = rw (le-leb used (length buffer) h, held)
+
+  -- It is no store exactly if these bytes are none.
+  pub broken-in-use : ((k : ℕ) → getD buffer k 0 < 256)
+      → isBroken (length buffer) (held buffer used) ≡ isBroken (length (take used buffer)) (readRecords mostImages (take used buffer))
+  broken-in-use bytes =
+      let l : length (take used buffer) ≤ length buffer = omega (arith, length-take-le used buffer h) in
+      ap (isBroken (length buffer)) held-in-use ∙ room-broken (take used buffer) (first-bytes buffer used bytes) (length buffer) l
 
 module _ (a : Algorithm) (signer digest manifest : List ℕ) where
   -- The image shares its one ID with those that have it.
@@ -126,3 +142,22 @@ module _ (size : ℕ) (images : Option (List Image)) (x : Image) where
         pub number-0 : noSpace size (among images) x ≡ false → Number 0
         unfolding storeQuestions
         number-0 e = sym (asked-none _ _ sound (asked-none _ _ other (asked-none _ _ apart (asked-none _ _ e nothing-asked))))
+
+-- of a store whose records were read, where neither 11 nor 12 applies
+module _ (b : List ℕ) (bytes : (j : ℕ) → getD b j 0 < 256) (xs : List Image) (e : readRecords mostImages b ≡ some xs) (left : ℕ) (x : Image)
+    (sound : isBroken (length b + left) (readRecords mostImages b) ≡ false) (other : anyOf (shareId x) (among (readRecords mostImages b)) ≡ false) where
+  space-of : noSpace (length b + left) (among (readRecords mostImages b)) x ≡ noSpace (length b + left) xs x
+  space-of = ap (λ (ys : List Image). noSpace (length b + left) ys x) (read-among b xs e)
+
+  -- The number that is left is that of 13 or 14, whichever applies first.
+  pub number-rest : {clashing : Bool} → anyOf (clash x) (among (readRecords mostImages b)) ≡ clashing → (long count n : ℕ) → length (recordOf x) ≡ long
+      → length xs ≡ count → count ≤ mostImages → NumberLeft long count left clashing n → Number (length b + left) (readRecords mostImages b) x n
+  number-rest {clashing} f long count n m k few l =
+      by-test clashing (λ t. l .clashes t ∙ number-13 _ _ x sound other (f ∙ t)) (λ t. by-test (eqb count mostImages)
+      (λ g. l .too-many t (eqb-true count mostImages g)
+      ∙ number-14 _ _ x sound other (f ∙ t) (space-of ∙ too-many-held b bytes xs e left x (omega (arith, eqb-true count mostImages g))))
+      (λ g. by-test (ltb left long)
+      (λ h. l .too-long t (ltb-true left long h) ∙ number-14 _ _ x sound other (f ∙ t) (space-of ∙ record-too-long b bytes xs e left x (omega (arith, ltb-true left long h))))
+      (λ h. l .none t (eqb-false count mostImages g) (ltb-false left long h)
+      ∙ number-0 _ _ x sound other (f ∙ t)
+      (space-of ∙ space-left b bytes xs e left x (omega (arith, eqb-false count mostImages g)) (omega (arith, ltb-false left long h))))))

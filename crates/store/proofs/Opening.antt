@@ -29,7 +29,7 @@ use Rattle.store_record.specs.declared.Record.{Record}
 use Rattle.store_record.specs.declared.Survey.{Survey}
 use Rattle.store_record.proofs.Stores.{store-read}
 use Rattle.store_record.proofs.Walks.{any-here, any-next, any-image-end}
-use Rattle.store_clash.specs.Clash.{anyClash}
+use Rattle.store_keys.specs.Clash.{anyClash}
 use Rattle.store_names.specs.Opened.{OpenedStore}
 use Rattle.store.specs.Held.{isUnfit, tooMany, areUnsound, isBroken}
 

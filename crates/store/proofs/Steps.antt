@@ -31,11 +31,11 @@ use Rattle.store.proofs.Loading.{first-bytes}
 use Rattle.store.specs.Held.{held, isBroken}
 use Rattle.store.specs.Load.{imageOf, isNoId, among, noSpace, storeQuestions, imageQuestions, loadQuestions, loadNumber, usedAfter, bytesAfter, loadUsed, loadBytes}
 use Rattle.store.specs.Loading.{imageWith, Loads, Fits}
-use Rattle.store.specs.declared.Answer.{Answer}
+use Rattle.answer.specs.declared.Answer.{Answer}
 
 module _ {x : Image} {buffer : List ℕ} {used : ℕ} {r : Answer} {after : List ℕ} {m n : ℕ} where
   -- A refusal tells its number and 0, and leaves the buffer.
-  pub refused-loads : m ≡ n → (m ≡ 0 → ⊥) → (r .number ≡ m) × (r .used ≡ 0) → after ≡ buffer → Loads n x buffer used r after
+  pub refused-loads : m ≡ n → (m ≡ 0 → ⊥) → (r .number ≡ m) × (r .value ≡ 0) → after ≡ buffer → Loads n x buffer used r after
   unfolding usedAfter bytesAfter
   refused-loads e h k f =
       let q : eqb n 0 ≡ false = ne-eqb n 0 (λ z. h (e ∙ z)) in
@@ -138,6 +138,6 @@ module _ (id manifest buffer : List ℕ) (used : ℕ) where
   -- What a load with that number answers.
   pub load-answers : {r : Answer} {after : List ℕ} {n : ℕ} → n ≡ loadNumber id manifest buffer used → Loads n (imageOf id manifest) buffer used r after
       → (r .number ≡ loadNumber id manifest buffer used)
-      × ((r .used ≡ loadUsed id manifest buffer used) × (after ≡ loadBytes id manifest buffer used))
+      × ((r .value ≡ loadUsed id manifest buffer used) × (after ≡ loadBytes id manifest buffer used))
   unfolding loadUsed loadBytes
   load-answers e l = let k = loads-as e l in (k .number, (k .new-used, k .bytes))

@@ -11,7 +11,7 @@ use Rattle.manifest.specs.Number.{manifestTextNumber}
 use Rattle.store_record.specs.Image.{Image}
 use Rattle.store_record.specs.Ids.{idTwice}
 use Rattle.store_record.specs.Store.{mostImages, storeOf, readRecords}
-use Rattle.store_clash.specs.Clash.{anyClash}
+use Rattle.store_keys.specs.Clash.{anyClash}
 
 -- The images that the first `used` bytes of a buffer hold: used is at most the buffer's length, and at most 64 records fill those bytes exactly.
 unfoldable pub held : List ℕ → ℕ → Option (List Image)

@@ -15,7 +15,7 @@ use Rattle.store_record.specs.Image.{Image}
 use Rattle.store_record.specs.Ids.{shareId}
 use Rattle.store_record.specs.Record.{recordOf}
 use Rattle.store_record.specs.Store.{mostImages, storeOf}
-use Rattle.store_clash.specs.Clash.{clash}
+use Rattle.store_keys.specs.Clash.{clash}
 use Rattle.store.specs.Held.{held, isBroken}
 
 -- the image that load is given: the one ID, and the canonical form of the manifest

@@ -1,4 +1,5 @@
 // A store: images in one buffer. Whether it is well-formed, and loading one image more.
+use answer::Answer;
 use manifest::Checked;
 use manifest::Places;
 use reference::ImageIndex;
@@ -14,14 +15,15 @@ ghost use Rattle.text.specs.Answer.{form};
 ghost use Rattle.text.specs.Question.{lowest};
 ghost use Rattle.manifest.specs.Number.{manifestTextNumber};
 ghost use Rattle.store_record.specs.Ids.{idTwice};
-ghost use Rattle.store_record.specs.Record.{recordOf};
+ghost use Rattle.store_record.specs.Record.{headSize, recordOf};
 ghost use Rattle.store_record.specs.Store.{mostImages, readRecords};
-ghost use Rattle.store_clash.specs.Clash.{anyClash};
+ghost use Rattle.store_keys.specs.Clash.{anyClash};
+ghost use Rattle.store_clash.specs.Lent.{ClashSpace};
 ghost use Rattle.store_record.specs.Reading.{Fills, imagesIn};
 ghost use Rattle.store_names.specs.Opened.{OpenedStore};
 ghost use Rattle.store.specs.Held.{held, isUnfit, isBroken};
 ghost use Rattle.store.specs.Load.{imageOf, storeQuestions, imageQuestions, appended, loadNumber, loadUsed, loadBytes};
-ghost use Rattle.store.specs.Loading.{imageWith, Readied, Digests, Loads, Fits};
+ghost use Rattle.store.specs.Loading.{imageWith, Readied, Digests, NumberLeft, Loads, Fits};
 
 // The places in each manifest of a store, where all are canonical and good.
 pub struct Fit {
@@ -66,19 +68,37 @@ fn open_all(b: &[u8], v: Survey) -> Fit
     Fit { all: true, places }
 }
 
-// No ID stands twice, and no two images clash.
-fn are_apart(b: &[u8], v: Survey, places: [Places; 64]) -> bool
-    requires { ⌜ OpenedStore (now b) v places ⌝ }
+// No ID stands twice, and no two images clash. What the arrays hold is overwritten.
+fn are_apart(
+    b: &[u8],
+    v: Survey,
+    places: [Places; 64],
+    at: &mut [usize],
+    sorted: &mut [u16],
+    spare: &mut [u16],
+    heads: &mut [u32],
+    keys: &mut [u16],
+) -> bool
+    requires { ⌜ OpenedStore (now b) v places × (length (now at) ≡ 4096) × ClashSpace (now sorted) (now spare) (now heads) (now keys) ⌝ }
     ensures { λ r. ⌜ r ≡ not (idTwice (imagesIn (now (b .entry)) v) || anyClash (imagesIn (now (b .entry)) v)) ⌝ }
 {
     if store_record::id_twice(b, v) {
         return false;
     }
-    !store_clash::any_clash(b, v, places)
+    !store_clash::any_clash(b, v, places, at, sorted, spare, heads, keys)
 }
 
-// Whether the bytes b are those of a well-formed store, and what is found on the way.
-pub fn open(b: &[u8]) -> Opened
+// Whether the bytes b are those of a well-formed store, and what is found on the way. The arrays are lent, so that a caller that needs them again has
+// them on its stack once; what they hold is overwritten.
+pub fn open(
+    b: &[u8],
+    at: &mut [usize],
+    sorted: &mut [u16],
+    spare: &mut [u16],
+    heads: &mut [u32],
+    keys: &mut [u16],
+) -> Opened
+    requires { ⌜ (length (now at) ≡ 4096) × ClashSpace (now sorted) (now spare) (now heads) (now keys) ⌝ }
     ensures { λ r. ⌜ r .sound ≡ not (isBroken (length (now (b .entry))) (readRecords mostImages (now (b .entry)))) ⌝ }
     ensures { λ r. ⌜ (r .sound ≡ true → OpenedStore (now (b .entry)) (r .survey) (r .places)) ⌝ }
 {
@@ -99,7 +119,7 @@ pub fn open(b: &[u8]) -> Opened
             places,
         };
     }
-    let sound = are_apart(b, survey, places);
+    let sound = are_apart(b, survey, places, at, sorted, spare, heads, keys);
     Opened {
         sound,
         survey,
@@ -107,28 +127,14 @@ pub fn open(b: &[u8]) -> Opened
     }
 }
 
-// The number of document 01's table, and the new used count, which is 0 in a refusal.
-pub struct Answer {
-    pub number: usize,
-    pub used: usize,
-}
-
-// A refusal: its number, and the buffer as it was.
-fn refused(store: &mut [u8], number: usize) -> Answer
-    ensures { λ r. ⌜ (r .number ≡ number) × (r .used ≡ 0) ⌝ }
-    ensures { λ _. ⌜ now (store .exit) ≡ now (store .entry) ⌝ }
-{
-    Answer { number, used: 0 }
-}
-
 // Loads an image: appends its record to those of the first `used` bytes. A refusal changes no byte.
 pub fn load(id: &[u8], manifest: &[u8], store: &mut [u8], used: usize) -> Answer
     ensures { λ r. ⌜ r .number ≡ loadNumber (now (id .entry)) (now (manifest .entry)) (now (store .entry)) used ⌝ }
-    ensures { λ r. ⌜ r .used ≡ loadUsed (now (id .entry)) (now (manifest .entry)) (now (store .entry)) used ⌝ }
+    ensures { λ r. ⌜ r .value ≡ loadUsed (now (id .entry)) (now (manifest .entry)) (now (store .entry)) used ⌝ }
     ensures { λ _. ⌜ now (store .exit) ≡ loadBytes (now (id .entry)) (now (manifest .entry)) (now (store .entry)) used ⌝ }
 {
     match manifest::check(manifest) {
-        Checked::Refused(f) => refused(store, f.number()),
+        Checked::Refused(f) => answer::refused(store, f.number()),
         Checked::Good {
             length,
             canonical: _,
@@ -150,7 +156,7 @@ fn load_good(
     ensures { λ r. ⌜ Loads (lowest (imageQuestions (length (now (store .entry))) (held (now (store .entry)) used) (now (id .entry)) (now (manifest .entry)))) (imageOf (now (id .entry)) (now (manifest .entry))) (now (store .entry)) used r (now (store .exit)) ⌝ }
 {
     match reference::id::read(id) {
-        Id::Bad => refused(store, 10),
+        Id::Bad => answer::refused(store, 10),
         Id::Image {
             algorithm,
             signer,
@@ -190,7 +196,7 @@ fn load_image(
     ensures { λ r. ⌜ Loads (lowest (storeQuestions (length (now (store .entry))) (held (now (store .entry)) used) (imageWith a (now (signer .entry)) (now (digest .entry)) (now (manifest .entry))))) (imageWith a (now (signer .entry)) (now (digest .entry)) (now (manifest .entry))) (now (store .entry)) used r (now (store .exit)) ⌝ }
 {
     if store.len() < used {
-        return refused(store, 11);
+        return answer::refused(store, 11);
     }
     let left = store.len() - used;
     let number = number_in(
@@ -204,12 +210,13 @@ fn load_image(
         left,
     );
     if number != 0 {
-        return refused(store, number);
+        return answer::refused(store, number);
     }
     append(a, signer, digest, manifest, size, store, used)
 }
 
-// Questions 11 to 14 of the image, asked of the bytes b, after which `left` bytes are free; 0 where none applies.
+// Questions 11 to 14 of the image, asked of the bytes b, after which `left` bytes are free; 0 where none applies. The arrays that the answers need are
+// made here, once.
 fn number_in(
     a: Algorithm,
     signer: &[u8],
@@ -223,7 +230,12 @@ fn number_in(
     requires { ⌜ Readied (now manifest) size places × Digests a (now signer) (now digest) ⌝ }
     ensures { λ r. ⌜ r ≡ lowest (storeQuestions (length (now (b .entry)) + left) (readRecords mostImages (now (b .entry))) (imageWith a (now (signer .entry)) (now (digest .entry)) (now (manifest .entry)))) ⌝ }
 {
-    let opened = open(b);
+    let mut at = [0usize; 4096];
+    let mut sorted = [0u16; 4096];
+    let mut spare = [0u16; 4096];
+    let mut heads = [0u32; 4096];
+    let mut keys = [0u16; 16384];
+    let opened = open(b, &mut at, &mut sorted, &mut spare, &mut heads, &mut keys);
     if !opened.sound {
         return 11;
     }
@@ -232,10 +244,31 @@ fn number_in(
         return 12;
     }
     let all = opened.places;
-    if store_clash::clashes_with_any(manifest, places, a, signer, b, survey, all, ImageIndex(0)) {
+    let clashing = store_clash::clashes_with_any(
+        manifest,
+        places,
+        a,
+        signer,
+        b,
+        survey,
+        all,
+        &mut sorted,
+        &mut spare,
+        &mut heads,
+        &mut keys,
+    );
+    number_left(a, size, survey.count, left, clashing)
+}
+
+// Questions 13 and 14, once 11 and 12 do not apply: whether the image clashes is known, and how many images there are.
+fn number_left(a: Algorithm, size: usize, count: usize, left: usize, clashing: bool) -> usize
+    requires { ⌜ (size ≤ 16384) × (headSize a size + size ≤ 16484) ⌝ }
+    ensures { λ r. ⌜ NumberLeft (headSize a size + size) count left clashing r ⌝ }
+{
+    if clashing {
         return 13;
     }
-    if survey.count == 64 {
+    if count == 64 {
         return 14;
     }
     if left < store_record::head_size(a, size) + size {
@@ -263,7 +296,7 @@ fn append(
     put_record(a, signer, digest, manifest, size, store, used);
     Answer {
         number: 0,
-        used: end,
+        value: end,
     }
 }
 

@@ -20,13 +20,11 @@ use Rattle.manifest.specs.Names.{differ, conflict}
 use Rattle.manifest.proofs.Canonical.{form-self-names, form-contents}
 use Rattle.store_record.specs.Image.{Image}
 use Rattle.store_record.proofs.Sharing.{eqb-sym}
-use Rattle.store_clash.specs.Keys.{Key, LayerKey, keysUnder, layerKeysUnder, imageKeysOf, layerKeysOf, imageKeys, layerKeys}
-use Rattle.store_clash.specs.Clash.{sameKey, disagree, clash}
-use Rattle.store_clash.specs.Signed.{one, signedBy, isSigned, sharesWith, conflictsWith}
-
--- some name of the first list stands in the second
-abbrev named : List (List ℕ) → List (List ℕ) → Bool
-named ns ms = anyOf (λ (n : List ℕ). anyOf (same n) ms) ns
+use Rattle.store_names.specs.Shared.{named}
+use Rattle.store_names.proofs.Sharing.{named-sym}
+use Rattle.store_keys.specs.Keys.{Key, LayerKey, keysUnder, layerKeysUnder, imageKeysOf, layerKeysOf, imageKeys, layerKeys}
+use Rattle.store_keys.specs.Clash.{sameKey, disagree, clash}
+use Rattle.store_keys.specs.Signed.{one, signedBy, isSigned, sharesWith, conflictsWith, namesClash, layersClash}
 
 share-named : (ns ms : List (List ℕ)) → shareName ms ns ≡ named ns ms
 unfolding shareName
@@ -43,9 +41,6 @@ differ-sym x y = λ i. same-sym (x .name) (y .name) i && not (same-sym (layerTex
 pub conflict-sym : (xs ys : List Alias) → conflict xs ys ≡ conflict ys xs
 unfolding conflict
 conflict-sym xs ys = any-swapped differ xs ys ∙ any-pointwise _ _ (λ y. any-pointwise _ _ (λ x. differ-sym x y) xs) ys
-
-named-sym : (ns ms : List (List ℕ)) → named ns ms ≡ named ms ns
-named-sym ns ms = any-swapped (λ (n m : List ℕ). same n m) ns ms ∙ any-pointwise _ _ (λ m. any-pointwise _ _ (λ n. same-sym n m) ns) ms
 
 -- the same signer under the same algorithm
 abbrev signed : Algorithm → List ℕ → Algorithm → List ℕ → Bool
@@ -116,13 +111,27 @@ clash-split a s t (single {a = b} {s = u} {m = n} {t = w}) =
     its : signed a s b u ≡ (signed a s b u || false)
     its = sym (or-false (signed a s b u))
 
+-- Two images with one ID each have an image key in common exactly if they have one signer under one algorithm, and share a name of their own.
+pub names-ones :
+    (a : Algorithm) (s m t : List ℕ) (b : Algorithm) (u n w : List ℕ)
+    → namesClash (record { ids = image-id a s m ∷ []; text = t }) (record { ids = image-id b u n ∷ []; text = w }) ≡ (signed a s b u && named (selfNames t) (selfNames w))
+unfolding namesClash imageKeys
+names-ones a s m t b u n w = names-clash a s m b u n (selfNames t) (selfNames w)
+
+-- An image with one ID has a layer key for another object exactly if the other is of its signer, and has an alias of a layer for another object.
+pub layers-one : (a : Algorithm) (s m t : List ℕ) {y : Image} → Single y → layersClash (record { ids = image-id a s m ∷ []; text = t }) y ≡ conflictsWith a s t y
+unfolding layersClash layerKeys conflictsWith isSigned signedBy anyOf
+layers-one a s m t (single {a = b} {s = u} {m = n} {t = w}) =
+    layers-clash a s m b u n (contents t) (contents w) ∙ (λ i. sym (or-false (signed a s b u)) i && conflict-sym (contents t) (contents w) i)
+
+-- A clash is one of image keys or one of layer keys.
+pub clash-parts : (x y : Image) → clash x y ≡ (namesClash x y || layersClash x y)
+unfolding clash namesClash layersClash
+clash-parts x y = refl
+
 -- Clashing goes both ways.
 pub clash-sym : {x y : Image} → Single x → Single y → clash x y ≡ clash y x
 clash-sym (single {a} {s} {m} {t}) (single {a = b} {s = u} {m = n} {t = w}) = clash-ones-sym a s m b u n t w ∙ sym (clash-ones b u n a s m w t)
-
--- The digest of an image's manifest is in no key.
-pub clash-digest : (a : Algorithm) (s m t : List ℕ) {y : Image} → Single y → clash (record { ids = image-id a s m ∷ []; text = t }) y ≡ clash (one a s t) y
-clash-digest a s m t (single {a = b} {s = u} {m = n} {t = w}) = clash-ones a s m b u n t w ∙ sym (clash-ones a s [] b u n t w)
 
 -- An image whose manifest is a text's canonical form clashes with those that it would clash with by the text.
 pub clash-form :

@@ -7,7 +7,7 @@ use native.Mathlib.Omega.{arith}
 use lib.Dec.{eqb}
 use lib.ListN.{length, take, drop, getD}
 use lib.Seq.{drop-cons, drop-nil}
-use Rattle.laws.specs.Any.{anyOf}
+use Rattle.laws.specs.Any.{anyOf, anyPair}
 use Rattle.laws.proofs.Any.{or-none, any-or}
 use Rattle.laws.specs.Order.{same}
 use Rattle.reference_digests.specs.Algorithms.{byteOf}
@@ -21,10 +21,12 @@ use Rattle.store_record.specs.Image.{Image}
 use Rattle.store_record.specs.Reading.{between, heldIn, noRecord, imagesIn}
 use Rattle.store_record.specs.declared.Record.{Record}
 use Rattle.store_record.specs.declared.Survey.{Survey}
-use Rattle.store_clash.specs.Clash.{clash}
 use Rattle.store_names.specs.Opened.{OpenedStore}
-use Rattle.store_clash.specs.Signed.{one, signedBy, isSigned, sharesWith, conflictsWith}
-use Rattle.store_clash.proofs.Clashing.{single, clash-split, clash-digest}
+use Rattle.store_names.specs.Shared.{signedAs, haveShared}
+use Rattle.store_names.proofs.Pairs.{pair-map, pair-or}
+use Rattle.store_keys.specs.Clash.{clash, anyClash}
+use Rattle.store_keys.specs.Signed.{one, signedBy, isSigned, sharesWith, conflictsWith, namesClash, layersClash}
+use Rattle.store_clash.proofs.Clashing.{single, clash-split, clash-parts, names-ones, layers-one}
 
 module _ (b : List ℕ) (r : Record) (a : Algorithm) (signer : List ℕ) where
   -- A record's image is signed by a signer, if the record's ID is.
@@ -50,17 +52,6 @@ module _ (b : List ℕ) (r : Record) (a : Algorithm) (signer : List ℕ) where
     pub conflicting : isSigned a signer (heldIn b r) ≡ true → conflictsWith a signer s (heldIn b r) ≡ conflict (contents (between b (r .text) (r .end))) (contents s)
     unfolding conflictsWith heldIn
     conflicting e = ap (λ (t : Bool). t && conflict (contents (between b (r .text) (r .end))) (contents s)) e
-
--- where an element stands it does not matter what is given where none does
-any-default : {A : Type 0} (xs : List A) (k : ℕ) (d : A) → k < length xs → (e : A) → getD xs k e ≡ getD xs k d
-any-default xs k d h e =
-    let p = drop-cons xs k e h in
-    let q = drop-cons xs k d h in cc
-
--- The manifest of the record at an index is opened by the places there.
-pub opened-at : (b : List ℕ) (v : Survey) (places : List Places) → OpenedStore b v places → (k : ℕ) → k < v .count → (d : Places)
-    → Opens (between b (getD (v .records) k noRecord .text) (getD (v .records) k noRecord .end)) (getD places k d)
-opened-at b v places o k h d = rw (any-default places k noPlaces (omega (arith, o .room, o .fills .few)) d) (o .opens k h)
 
 -- tests that agree on what a list is mapped to
 any-mapped : {A B : Type 0} (f : A → B) (p q : B → Bool) → ((x : A) → p (f x) ≡ q (f x)) → (xs : List A) (k : ℕ) → anyOf p (drop k (map f xs)) ≡ anyOf q (drop k (map f xs))
@@ -93,15 +84,37 @@ module _ (b : List ℕ) (v : Survey) (k : ℕ) where
     pub clash-layers : anyOf (sharesWith a signer s) (drop k (imagesIn b v)) ≡ false → anyOf (clash (one a signer s)) (drop k (imagesIn b v)) ≡ anyOf (conflictsWith a signer s) (drop k (imagesIn b v))
     clash-layers e = split ∙ rw e
 
-    -- Where no image is of the signer, none clashes.
-    pub clash-none : anyOf (isSigned a signer) (drop k (imagesIn b v)) ≡ false → anyOf (clash (one a signer s)) (drop k (imagesIn b v)) ≡ false
-    unfolding sharesWith conflictsWith
-    clash-none e =
-        clash-layers (any-guarded (isSigned a signer) (λ (y : Image). shareName (selfNames (y .text)) (selfNames s)) (drop k (imagesIn b v)) e)
-        ∙ any-guarded (isSigned a signer) (λ (y : Image). conflict (contents (y .text)) (contents s)) (drop k (imagesIn b v)) e
+    -- Where no image is of the signer, none has an alias of a layer for another object,
+    pub layers-none : anyOf (isSigned a signer) (drop k (imagesIn b v)) ≡ false → anyOf (conflictsWith a signer s) (drop k (imagesIn b v)) ≡ false
+    unfolding conflictsWith
+    layers-none e = any-guarded (isSigned a signer) (λ (y : Image). conflict (contents (y .text)) (contents s)) (drop k (imagesIn b v)) e
 
-  -- The digest of a manifest is in no key.
-  pub clash-held : (r : Record)
-      → anyOf (clash (heldIn b r)) (drop k (imagesIn b v)) ≡ anyOf (clash (one (r .algorithm) (between b (r .signer) (r .manifest)) (between b (r .text) (r .end)))) (drop k (imagesIn b v))
+    -- and none clashes.
+    pub clash-none : anyOf (isSigned a signer) (drop k (imagesIn b v)) ≡ false → anyOf (clash (one a signer s)) (drop k (imagesIn b v)) ≡ false
+    unfolding sharesWith
+    clash-none e =
+        clash-layers (any-guarded (isSigned a signer) (λ (y : Image). shareName (selfNames (y .text)) (selfNames s)) (drop k (imagesIn b v)) e) ∙ layers-none e
+
+  -- The layer keys of a record's image are compared by its signer and its manifest.
+  pub layers-held : (r : Record)
+      → anyOf (layersClash (heldIn b r)) (drop k (imagesIn b v))
+      ≡ anyOf (conflictsWith (r .algorithm) (between b (r .signer) (r .manifest)) (between b (r .text) (r .end))) (drop k (imagesIn b v))
   unfolding imagesIn heldIn
-  clash-held r = any-mapped (heldIn b) _ _ (λ q. clash-digest _ _ _ _ single) (take (v .count) (v .records)) k
+  layers-held r = any-mapped (heldIn b) _ _ (λ q. layers-one _ _ _ _ single) (take (v .count) (v .records)) k
+
+-- the images of two records have an image key in common
+held-names : (b : List ℕ) (q r : Record) → namesClash (heldIn b q) (heldIn b r) ≡ haveShared b q r
+unfolding heldIn signedAs
+held-names b q r = names-ones (q .algorithm) _ _ _ (r .algorithm) _ _ _
+
+-- Some two images of a store clash exactly if two of one signer share a name of their own, or two have one layer key for different objects.
+pub any-clash-is : (b : List ℕ) (v : Survey)
+    → anyClash (imagesIn b v) ≡ (anyPair (haveShared b) (take (v .count) (v .records)) || anyPair layersClash (imagesIn b v))
+unfolding anyClash imagesIn
+any-clash-is b v =
+    let rs = take (v .count) (v .records) in
+    let p : Record → Record → Bool = λ q r. layersClash (heldIn b q) (heldIn b r) in
+    pair-map (heldIn b) clash (λ (q r : Record). haveShared b q r || p q r)
+    (λ q r. clash-parts (heldIn b q) (heldIn b r) ∙ ap (λ (x : Bool). x || p q r) (held-names b q r)) rs
+    ∙ pair-or (haveShared b) p rs
+    ∙ ap (λ (x : Bool). anyPair (haveShared b) rs || x) (sym (pair-map (heldIn b) layersClash p (λ q r. refl) rs))

@@ -1,3 +1,1 @@
-pub mod Keys
-pub mod Clash
-pub mod Signed
+pub mod Lent

@@ -1,5 +1,6 @@
 // When images define one key: an image beside those of a store, and the images of a store among themselves. Keys hold the algorithm and the signer,
-// so images of another signer are passed over; of one side the names are sorted once, and those of the other side are looked up there.
+// so images of another signer are passed over; of one side the names are sorted once, and those of the other side are looked up there. The names that
+// the images of a store have for themselves are compared in one index of all. Arrays are lent by the caller, who makes them once.
 use manifest::Places;
 use manifest::names;
 use reference::ImageIndex;
@@ -9,14 +10,15 @@ use store_record::Survey;
 ghost use mathlib.Core.Path.{_≡_};
 ghost use Prim.Native.Nat.{_+_, _≤_, _<_};
 ghost use lib.ListN.{length, drop, getD};
-ghost use Rattle.laws.specs.Any.{anyOf};
+ghost use Rattle.laws.specs.Any.{anyOf, anyPair};
 ghost use Rattle.manifest_names.specs.Heads.{HeadsOf};
 ghost use Rattle.manifest.specs.Names.{NameSpace, SelfSorted, ContentsSorted};
 ghost use Rattle.manifest.specs.Opened.{Opens};
 ghost use Rattle.store_record.specs.Reading.{between, heldIn, imagesIn, noRecord, RecordIn, Fills};
-ghost use Rattle.store_clash.specs.Clash.{clash, anyClash};
+ghost use Rattle.store_keys.specs.Clash.{clash, anyClash};
 ghost use Rattle.store_names.specs.Opened.{OpenedStore};
-ghost use Rattle.store_clash.specs.Signed.{one, isSigned, sharesWith, conflictsWith};
+ghost use Rattle.store_keys.specs.Signed.{one, isSigned, sharesWith, conflictsWith, layersClash};
+ghost use Rattle.store_clash.specs.Lent.{ClashSpace};
 
 // The image of a record is of that signer, and has an alias of s for itself; `names` are those of s, sorted, with their heads.
 fn shares_with(
@@ -135,9 +137,31 @@ fn has_signer(b: &[u8], v: Survey, a: Algorithm, signer: &[u8], i: ImageIndex) -
     false
 }
 
-// The image of that algorithm and signer with the manifest s clashes with one of the store's images from index i on. The arrays are lent, so that
-// they are made once for all images of a store; what they hold is overwritten.
-fn clashes_from(
+// Some image of the store from index i on is of that signer and has an alias of the manifest s for itself. What the arrays hold is overwritten.
+fn shares_from(
+    s: &[u8],
+    p: Places,
+    a: Algorithm,
+    signer: &[u8],
+    b: &[u8],
+    v: Survey,
+    places: [Places; 64],
+    i: ImageIndex,
+    sorted: &mut [u16],
+    spare: &mut [u16],
+    heads: &mut [u32],
+) -> bool
+    requires { ⌜ Opens (now s) p × OpenedStore (now b) v places × NameSpace (now sorted) (now spare) × (length (now sorted) ≤ length (now heads)) ⌝ }
+    ensures { λ r. ⌜ r ≡ anyOf (sharesWith a (now (signer .entry)) (now (s .entry))) (drop (i .0) (imagesIn (now (b .entry)) v)) ⌝ }
+{
+    let n = names::sort_self(s, p, sorted, spare);
+    names::fill_heads(s, &sorted[..n], heads);
+    shares_with_any(s, &sorted[..n], heads, a, signer, b, v, places, i)
+}
+
+// Some image of the store from index i on is of that signer and has an alias of a layer that the manifest s has for another object. What the arrays
+// hold is overwritten.
+fn conflicts_from(
     s: &[u8],
     p: Places,
     a: Algorithm,
@@ -151,20 +175,15 @@ fn clashes_from(
     heads: &mut [u32],
     keys: &mut [u16],
 ) -> bool
-    requires { ⌜ Opens (now s) p × OpenedStore (now b) v places × NameSpace (now sorted) (now spare) × (length (now sorted) ≤ length (now heads)) × (16384 ≤ length (now keys)) ⌝ }
-    ensures { λ r. ⌜ r ≡ anyOf (clash (one a (now (signer .entry)) (now (s .entry)))) (drop (i .0) (imagesIn (now (b .entry)) v)) ⌝ }
+    requires { ⌜ Opens (now s) p × OpenedStore (now b) v places × ClashSpace (now sorted) (now spare) (now heads) (now keys) ⌝ }
+    ensures { λ r. ⌜ r ≡ anyOf (conflictsWith a (now (signer .entry)) (now (s .entry))) (drop (i .0) (imagesIn (now (b .entry)) v)) ⌝ }
 {
-    let n = names::sort_self(s, p, sorted, spare);
+    let n = names::sort_contents(s, p, sorted, spare, keys);
     names::fill_heads(s, &sorted[..n], heads);
-    if shares_with_any(s, &sorted[..n], heads, a, signer, b, v, places, i) {
-        return true;
-    }
-    let m = names::sort_contents(s, p, sorted, spare, keys);
-    names::fill_heads(s, &sorted[..m], heads);
-    conflicts_with_any(s, &sorted[..m], heads, keys, a, signer, b, v, places, i)
+    conflicts_with_any(s, &sorted[..n], heads, keys, a, signer, b, v, places, i)
 }
 
-// The same with arrays of its own, which are made where some image is of that signer.
+// The image of that algorithm and signer with the manifest s clashes with one of the store's images. What the arrays hold is overwritten.
 pub fn clashes_with_any(
     s: &[u8],
     p: Places,
@@ -173,47 +192,37 @@ pub fn clashes_with_any(
     b: &[u8],
     v: Survey,
     places: [Places; 64],
-    i: ImageIndex,
+    sorted: &mut [u16],
+    spare: &mut [u16],
+    heads: &mut [u32],
+    keys: &mut [u16],
 ) -> bool
-    requires { ⌜ Opens (now s) p × OpenedStore (now b) v places ⌝ }
-    ensures { λ r. ⌜ r ≡ anyOf (clash (one a (now (signer .entry)) (now (s .entry)))) (drop (i .0) (imagesIn (now (b .entry)) v)) ⌝ }
+    requires { ⌜ Opens (now s) p × OpenedStore (now b) v places × ClashSpace (now sorted) (now spare) (now heads) (now keys) ⌝ }
+    ensures { λ r. ⌜ r ≡ anyOf (clash (one a (now (signer .entry)) (now (s .entry)))) (imagesIn (now (b .entry)) v) ⌝ }
 {
+    let i = ImageIndex(0);
     if !has_signer(b, v, a, signer, i) {
         return false;
     }
-    let mut sorted = [0u16; 4096];
-    let mut spare = [0u16; 4096];
-    let mut heads = [0u32; 4096];
-    let mut keys = [0u16; 16384];
-    clashes_from(
-        s,
-        p,
-        a,
-        signer,
-        b,
-        v,
-        places,
-        i,
-        &mut sorted,
-        &mut spare,
-        &mut heads,
-        &mut keys,
-    )
+    if shares_from(s, p, a, signer, b, v, places, i, sorted, spare, heads) {
+        return true;
+    }
+    conflicts_from(s, p, a, signer, b, v, places, i, sorted, spare, heads, keys)
 }
 
-// The store's image with index i clashes with a later one.
-fn clashes_later(
+// The store's image with index i has an alias of a layer for another object than a later image of its signer.
+fn conflicts_later(
     b: &[u8],
     v: Survey,
-    places: [Places; 64],
+    all: [Places; 64],
     i: ImageIndex,
     sorted: &mut [u16],
     spare: &mut [u16],
     heads: &mut [u32],
     keys: &mut [u16],
 ) -> bool
-    requires { ⌜ OpenedStore (now b) v places × (i .0 < v .count) × NameSpace (now sorted) (now spare) × (length (now sorted) ≤ length (now heads)) × (16384 ≤ length (now keys)) ⌝ }
-    ensures { λ r. ⌜ r ≡ anyOf (clash (heldIn (now (b .entry)) (getD (v .records) (i .0) noRecord))) (drop (i .0 + 1) (imagesIn (now (b .entry)) v)) ⌝ }
+    requires { ⌜ OpenedStore (now b) v all × (i .0 < v .count) × ClashSpace (now sorted) (now spare) (now heads) (now keys) ⌝ }
+    ensures { λ r. ⌜ r ≡ anyOf (layersClash (heldIn (now (b .entry)) (getD (v .records) (i .0) noRecord))) (drop (i .0 + 1) (imagesIn (now (b .entry)) v)) ⌝ }
 {
     let k = i.0;
     let r = v.records[k];
@@ -226,50 +235,54 @@ fn clashes_later(
     }
     let start = r.text;
     let end = r.end;
-    let p = places[k];
-    clashes_from(
-        &b[start..end],
-        p,
-        a,
-        &b[from..to],
-        b,
-        v,
-        places,
-        next,
-        sorted,
-        spare,
-        heads,
-        keys,
-    )
+    let p = all[k];
+    let s = &b[start..end];
+    let signer = &b[from..to];
+    conflicts_from(s, p, a, signer, b, v, all, next, sorted, spare, heads, keys)
 }
 
-// Some two images of the store clash.
-pub fn any_clash(b: &[u8], v: Survey, places: [Places; 64]) -> bool
-    requires { ⌜ OpenedStore (now b) v places ⌝ }
-    ensures { λ r. ⌜ r ≡ anyClash (imagesIn (now (b .entry)) v) ⌝ }
+// Some two images of the store have one layer key for different objects.
+fn any_conflict(
+    b: &[u8],
+    v: Survey,
+    places: [Places; 64],
+    sorted: &mut [u16],
+    spare: &mut [u16],
+    heads: &mut [u32],
+    keys: &mut [u16],
+) -> bool
+    requires { ⌜ OpenedStore (now b) v places × ClashSpace (now sorted) (now spare) (now heads) (now keys) ⌝ }
+    ensures { λ r. ⌜ r ≡ anyPair layersClash (imagesIn (now (b .entry)) v) ⌝ }
 {
-    if v.count < 2 {
-        return false;
-    }
-    let mut sorted = [0u16; 4096];
-    let mut spare = [0u16; 4096];
-    let mut heads = [0u32; 4096];
-    let mut keys = [0u16; 16384];
     let mut i = 0;
     while i < v.count {
-        if clashes_later(
-            b,
-            v,
-            places,
-            ImageIndex(i),
-            &mut sorted,
-            &mut spare,
-            &mut heads,
-            &mut keys,
-        ) {
+        if conflicts_later(b, v, places, ImageIndex(i), sorted, spare, heads, keys) {
             return true;
         }
         i += 1;
     }
     false
+}
+
+// Some two images of the store clash. What the arrays hold is overwritten.
+pub fn any_clash(
+    b: &[u8],
+    v: Survey,
+    places: [Places; 64],
+    at: &mut [usize],
+    sorted: &mut [u16],
+    spare: &mut [u16],
+    heads: &mut [u32],
+    keys: &mut [u16],
+) -> bool
+    requires { ⌜ OpenedStore (now b) v places × (length (now at) ≡ 4096) × ClashSpace (now sorted) (now spare) (now heads) (now keys) ⌝ }
+    ensures { λ r. ⌜ r ≡ anyClash (imagesIn (now (b .entry)) v) ⌝ }
+{
+    if v.count < 2 {
+        return false;
+    }
+    if store_names::any_shared(b, v, places, at, sorted, spare) {
+        return true;
+    }
+    any_conflict(b, v, places, sorted, spare, heads, keys)
 }

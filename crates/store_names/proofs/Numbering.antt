@@ -69,25 +69,25 @@ module _ (b at : List ℕ) (first n : ℕ) (before : List ℕ) where
               (subst (λ (m : ℕ). NameIndex b at ((first + k) ∷ withNumbers first k es) (take m after)) place (f _ (p .index es x)));
         }
 
--- the numbers of the first i images are in the index, which has n
-pub record IndexedTo (b at counts : List ℕ) (i n : ℕ) (order : List ℕ) : Type 0 where
-  pub room : length order ≡ 4096
+-- the numbers of the first i images are in the index, which has n, in an array of that size
+pub record IndexedTo (b at counts : List ℕ) (size i n : ℕ) (order : List ℕ) : Type 0 where
+  pub room : length order ≡ size
   pub few : n ≤ 64 * i
   pub index : NameIndex b at (numbersOf counts i) (take n order)
 
 module _ (b at counts : List ℕ) where
   -- At first the index is empty.
-  pub indexed-none : (order : List ℕ) → length order ≡ 4096 → IndexedTo b at counts 0 0 order
+  pub indexed-none : (order : List ℕ) → IndexedTo b at counts (length order) 0 0 order
   unfolding numbersOf
-  indexed-none order h = record { room = h; few = omega arith; index = no-names b at }
+  indexed-none order = record { room = refl; few = omega arith; index = no-names b at }
 
   -- The numbers of one more image are added.
-  pub indexed-next : (i n : ℕ) (order : List ℕ) → IndexedTo b at counts i n order → getD counts i 0 ≤ 64 → (r : ℕ) (after : List ℕ)
+  pub indexed-next : (size i n : ℕ) (order : List ℕ) → IndexedTo b at counts size i n order → getD counts i 0 ≤ 64 → (r : ℕ) (after : List ℕ)
       → r ≡ n + getD counts i 0 → length after ≡ length order
       → ((es : List ℕ) → NameIndex b at es (take n order) → NameIndex b at (withNumbers (64 * i) (getD counts i 0) es) (take r after))
-      → IndexedTo b at counts (i + 1) r after
+      → IndexedTo b at counts size (i + 1) r after
   unfolding numbersOf
-  indexed-next i n order p h r after e l f =
+  indexed-next size i n order p h r after e l f =
       record {
         room = l ∙ p .room;
         few = omega (arith, p .few);

@@ -22,27 +22,15 @@ use Rattle.store_record.specs.declared.Record.{Record}
 use Rattle.store_record.specs.declared.Survey.{Survey}
 use Rattle.store_record.proofs.Sharing.{eqb-sym}
 use Rattle.store_names.specs.Placed.{mostNames, PlacedUpTo, withNumbers, numbersOf}
-use Rattle.store_names.specs.Shared.{signedAs, oneSigner, GroupsOf, groupOf, shared}
+use Rattle.store_names.specs.Shared.{signedAs, oneSigner, GroupsOf, groupOf, shared, named, ownNames, haveShared}
 use Rattle.store_names.proofs.Groups.{groups-equal}
 use Rattle.store_names.proofs.Numbering.{numbers-names, numbers-none, numbers-append}
 use Rattle.store_names.proofs.Pairs.{any-last, pair-both, pair-last, pair-permuted}
 use Rattle.store_names.proofs.Runs.{shared-sym}
 
--- Some name of the first list stands in the second.
-abbrev pub named : List (List ℕ) → List (List ℕ) → Bool
-named ns ms = anyOf (λ (n : List ℕ). anyOf (same n) ms) ns
-
 -- Which of the lists is the first makes no difference.
 pub named-sym : (ns ms : List (List ℕ)) → named ns ms ≡ named ms ns
 named-sym ns ms = any-swapped (λ (n m : List ℕ). same n m) ns ms ∙ any-pointwise _ _ (λ m. any-pointwise _ _ (λ n. same-sym n m) ns) ms
-
--- The names that the image of a record has for itself.
-abbrev pub ownNames : List ℕ → Record → List (List ℕ)
-ownNames b r = selfNames (between b (r .text) (r .end))
-
--- The images of two records are of one algorithm and signer and have a name in common.
-abbrev pub haveShared : List ℕ → Record → Record → Bool
-haveShared b q r = oneSigner b q r && named (ownNames b q) (ownNames b r)
 
 have-sym : (b : List ℕ) (q r : Record) → haveShared b q r ≡ haveShared b r q
 unfolding signedAs

@@ -5,10 +5,12 @@ use mathlib.Core.List.{List}
 use mathlib.Core.Bool.{Bool, true, false, _&&_}
 use lib.Dec.{eqb}
 use lib.ListN.{getD}
+use Rattle.laws.specs.Any.{anyOf}
 use Rattle.laws.specs.Order.{same}
 use Rattle.reference_digests.specs.Algorithms.{byteOf}
 use Rattle.reference_digests.specs.declared.algorithm.Algorithm.{Algorithm}
 use Rattle.manifest.specs.Index.{nameAt}
+use Rattle.manifest.specs.Manifest.{selfNames}
 use Rattle.store_record.specs.Reading.{between, noRecord}
 use Rattle.store_record.specs.declared.Record.{Record}
 use Rattle.store_record.specs.declared.Survey.{Survey}
@@ -20,6 +22,18 @@ signedAs b a signer r = eqb (byteOf a) (byteOf (r .algorithm)) && same signer (b
 -- the images of two records are of one algorithm and signer
 abbrev pub oneSigner : List ℕ → Record → Record → Bool
 oneSigner b q r = signedAs b (q .algorithm) (between b (q .signer) (q .manifest)) r
+
+-- some name of the first list stands in the second
+abbrev pub named : List (List ℕ) → List (List ℕ) → Bool
+named ns ms = anyOf (λ (n : List ℕ). anyOf (same n) ms) ns
+
+-- the names that the image of a record has for itself
+abbrev pub ownNames : List ℕ → Record → List (List ℕ)
+ownNames b r = selfNames (between b (r .text) (r .end))
+
+-- the images of two records are of one algorithm and signer and have a name in common
+abbrev pub haveShared : List ℕ → Record → Record → Bool
+haveShared b q r = oneSigner b q r && named (ownNames b q) (ownNames b r)
 
 -- r is the index of the first image of that algorithm and signer among the first k images, and k where none of these is
 pub record FirstSigned (b : List ℕ) (v : Survey) (a : Algorithm) (signer : List ℕ) (k r : ℕ) : Type 0 where

@@ -15,11 +15,18 @@ ghost use Rattle.manifest.specs.Index.{NumberOf, NameIndex, SomeNameIndex};
 ghost use Rattle.store_record.specs.Reading.{Fills};
 ghost use Rattle.store_names.specs.Opened.{OpenedStore};
 ghost use Rattle.store_names.specs.Placed.{withNumbers, numbersOf, Numbered, PlacedUpTo};
-ghost use Rattle.store_names.specs.Shared.{FirstSigned, GroupsOf, groupOf, shared, Run, RunBefore};
+ghost use Rattle.store_names.specs.Shared.{FirstSigned, GroupsOf, groupOf, shared, haveShared, Run, RunBefore};
 
-// Writes the positions of the aliases that each image has for itself.
-pub fn place_all(b: &[u8], v: Survey, places: [Places; 64], at: &mut [usize], counts: &mut [u16])
-    requires { ⌜ OpenedStore (now b) v places × (length (now at) ≡ 4096) × (length (now counts) ≡ 64) ⌝ }
+// Writes the positions of the aliases that each image has for itself. What `own` holds is overwritten.
+pub fn place_all(
+    b: &[u8],
+    v: Survey,
+    places: [Places; 64],
+    own: &mut [u16],
+    at: &mut [usize],
+    counts: &mut [u16],
+)
+    requires { ⌜ OpenedStore (now b) v places × (4096 ≤ length (now own)) × (length (now at) ≡ 4096) × (length (now counts) ≡ 64) ⌝ }
     ensures { λ _. ⌜ PlacedUpTo (v .count) (now (b .entry)) v (now (at .exit)) (now (counts .exit)) ⌝ }
 {
     let mut i = 0;
@@ -29,7 +36,7 @@ pub fn place_all(b: &[u8], v: Survey, places: [Places; 64], at: &mut [usize], co
         let end = r.end;
         let q = places[i];
         let first = 64 * i;
-        let n = index::place_self(b, start, end, q, &mut at[first..]);
+        let n = index::place_self(b, start, end, q, own, &mut at[first..]);
         counts[i] = n as u16;
         i += 1;
     }
@@ -62,8 +69,8 @@ fn index_image(
 
 // Makes the index of the aliases of the first `images` images, and answers how many these are.
 pub fn index_all(b: &[u8], at: &[usize], counts: &[u16], images: usize, order: &mut [u16]) -> usize
-    requires { ⌜ Numbered images (now b) (now at) (now counts) × (images ≤ 64) × (length (now counts) ≡ 64) × (length (now order) ≡ 4096) ⌝ }
-    ensures { λ r. ⌜ (r ≤ 4096) × (length (now (order .exit)) ≡ 4096)
+    requires { ⌜ Numbered images (now b) (now at) (now counts) × (images ≤ 64) × (length (now counts) ≡ 64) × (4096 ≤ length (now order)) ⌝ }
+    ensures { λ r. ⌜ (r ≤ 4096) × (length (now (order .exit)) ≡ length (now (order .entry)))
         × NameIndex (now (b .entry)) (now (at .entry)) (numbersOf (now (counts .entry)) images) (take r (now (order .exit))) ⌝ }
 {
     let mut n = 0;
@@ -157,4 +164,26 @@ pub fn shares_any(b: &[u8], at: &[usize], order: &[u16], groups: &[u16]) -> bool
         m += 1;
     }
     false
+}
+
+// Some two images of one signer have a name in common that each has for itself. The arrays are lent; what they hold is overwritten.
+pub fn any_shared(
+    b: &[u8],
+    v: Survey,
+    places: [Places; 64],
+    at: &mut [usize],
+    order: &mut [u16],
+    own: &mut [u16],
+) -> bool
+    requires { ⌜ OpenedStore (now b) v places × (length (now at) ≡ 4096) × (4096 ≤ length (now order)) × (4096 ≤ length (now own)) ⌝ }
+    ensures { λ r. ⌜ r ≡ anyPair (haveShared (now (b .entry))) (take (v .count) (v .records)) ⌝ }
+    ensures { λ _. ⌜ (length (now (at .exit)) ≡ length (now (at .entry))) × (length (now (order .exit)) ≡ length (now (order .entry)))
+        × (length (now (own .exit)) ≡ length (now (own .entry))) ⌝ }
+{
+    let mut counts = [0u16; 64];
+    place_all(b, v, places, own, at, &mut counts);
+    let n = index_all(b, at, &counts, v.count, order);
+    let mut groups = [0u16; 64];
+    group_all(b, v, &mut groups);
+    shares_any(b, at, &order[..n], &groups)
 }

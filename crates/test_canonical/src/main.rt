@@ -27,7 +27,7 @@ fn show(json: &[u8]) {
         io::write_all(1, b" own");
     }
     io::write_all(1, b" ");
-    let n = a.length;
+    let n = a.value;
     if n <= 16384 {
         io::write_all(1, &out[..n]);
     }

@@ -28,7 +28,8 @@ use Rattle.manifest_fields.specs.Members.{find}
 use Rattle.manifest_values.specs.Values.{isArrayOf, isSome, entries, isBoolean, isCount, isPath, isNumber, isVersion, isAmong, repeats, allDifferent}
 use Rattle.manifest_fields.specs.Rules.{membersOf, isObject, countFields, everyMember, isObjectOf, namesPass, groupPasses, policyPasses, fieldPasses, memberPasses, isFound, foundEntries, foundMembers, allRequired, wellFielded}
 use Rattle.manifest_fields.specs.Accessors.{fieldOf, acceptsField, rejectsField, contentsField, selfField, layersOf, acceptsOf, contentsOf, selfOf, textOf, texts, namesOf}
-use Rattle.manifest_forms.specs.Questions.{badField, contentsForm, selfForm, badForm, repeated as repeatedName, repeatedAlias, manifestNumber}
+use Rattle.manifest_repeat.specs.Repeated.{repeated as repeatedName, repeatedAlias}
+use Rattle.manifest_forms.specs.Questions.{badField, contentsForm, selfForm, badForm, manifestNumber}
 use Rattle.reference.specs.References.{digestLayer, aliasLayer, layerOf, layer}
 use Rattle.store_varint.specs.Varint.{groups, varint, grouped, readVarint}
 use Rattle.store_record.specs.Record.{idBytes, idsBytes, bodyOf, recordOf}
@@ -41,8 +42,8 @@ use Rattle.manifest.specs.Names.{differ, conflict, keysOf, objects}
 use Rattle.store_record.specs.Ids.{sameId, hasId, shareId, idTwice}
 use Rattle.store_record.specs.Record.{headOf, headSize, bodyUnder, readBody, beforeRest, readSized, readRecord}
 use Rattle.store_record.specs.Store.{storeOf, andThen as andThenImage, continued, readRecords}
-use Rattle.store_clash.specs.Keys.{keysUnder, layerKeysUnder, imageKeysOf, layerKeysOf, imageKeys, layerKeys}
-use Rattle.store_clash.specs.Clash.{sameKey, disagree, clash, anyClash}
+use Rattle.store_keys.specs.Keys.{keysUnder, layerKeysUnder, imageKeysOf, layerKeysOf, imageKeys, layerKeys}
+use Rattle.store_keys.specs.Clash.{sameKey, disagree, clash, anyClash}
 use Rattle.store.specs.Held.{held, isUnfit, tooMany, areUnsound, isBroken, wellFormed}
 use Rattle.store.specs.Load.{imageOf, isNoId, among as amongHeld, noSpace, storeQuestions, imageQuestions, loadQuestions, loadNumber, appended, usedAfter, bytesAfter, loadUsed, loadBytes}
 use Rattle.policy_marks.specs.Marks.{mark as tableMark, orRow, through, closedAt, closedBelow, closed}

@@ -150,9 +150,10 @@ fn index_names(t: &[u8], at: &[usize], n: usize, order: &mut [u16])
 fn show_matches(s: &[u8], p: Places, signer: &[u8], digest: &[u8], t: &[u8], q: Places)
     requires { ⌜ Opens (now s) p × Opens (now t) q ⌝ }
 {
+    let mut own = [0u16; 4096];
     let mut at = [0usize; 64];
     let end = t.len();
-    let n = index::place_self(t, 0, end, q, &mut at);
+    let n = index::place_self(t, 0, end, q, &mut own, &mut at);
     let mut order = [0u16; 64];
     index_names(t, &at, n, &mut order);
     show_rules(s, p, signer, digest, t, &at, &order[..n]);

@@ -1,266 +1,34 @@
-// Loads images into a store and judges it as the lines of standard input say, and prints what comes back:
+// Loads images into a store and judges it as the lines of standard input say, and prints what comes back. Beside the lines of `test_lines`:
 //
-//   new N              a buffer of N bytes, each 0xEE, with used count 0
-//   load ID MANIFEST   loads an image; prints the number and the new used count, which is kept where the number is 0
-//   put OFFSET HEX     writes bytes into the buffer, each as two hexadecimal digits
-//   used N             sets the used count
-//   show               prints the bytes up to the used count, and on a line of its own how many after them are not 0xEE any more
 //   judge N            judges the store with a report buffer of N bytes, each 0xEE; prints the number and the number of pairs, then the
 //                      pairs and what follows them as `show` does
-//
-// A line that is none of these, or that asks for bytes which the buffer does not have, prints `bad`.
-ghost use Prim.Native.Nat.{_≤_, _<_, _*_};
+use test_lines::FILL;
+use test_lines::Number;
+use test_lines::State;
+ghost use Prim.Native.Nat.{_≤_};
 ghost use lib.ListN.{length};
-
-// The byte that a new buffer is filled with.
-const FILL: u8 = 0xEE;
-
-// Ten times this number, and a digit, is less than 2 to the power of 64.
-const TENTH: usize = 1844674407370955160;
-
-// How many bytes of the buffer are the store's, and how many of these are used.
-struct State {
-    size: usize,
-    used: usize,
-}
-
-// A number that was read, or none.
-enum Number {
-    Is(usize),
-    Bad,
-}
-
-fn print_bad() {
-    io::write_all(1, b"bad\n");
-}
-
-// Where the line goes on after a word that it begins with; 0 where it does not begin with it.
-fn after(line: &[u8], word: &[u8]) -> usize
-    ensures { λ r. ⌜ r ≤ length (now (line .entry)) ⌝ }
-{
-    if line.len() < word.len() {
-        return 0;
-    }
-    let mut i = 0;
-    while i < word.len() {
-        if line[i] != word[i] {
-            return 0;
-        }
-        i += 1;
-    }
-    word.len()
-}
-
-// Where the first space is; the length where there is none.
-fn space_of(s: &[u8]) -> usize
-    ensures { λ r. ⌜ r ≤ length (now (s .entry)) ⌝ }
-{
-    let mut i = 0;
-    while i < s.len() {
-        if s[i] == b' ' {
-            return i;
-        }
-        i += 1;
-    }
-    s.len()
-}
-
-// The number that all of s spells in decimal digits. It is read as long as it cannot leave 64 bits.
-fn decimal(s: &[u8]) -> Number {
-    if s.len() == 0 {
-        return Number::Bad;
-    }
-    let mut n = 0;
-    let mut i = 0;
-    while i < s.len() {
-        let b = s[i];
-        if b < b'0' {
-            return Number::Bad;
-        }
-        if b'9' < b {
-            return Number::Bad;
-        }
-        if TENTH < n {
-            return Number::Bad;
-        }
-        n = n * 10 + (b - b'0') as usize;
-        i += 1;
-    }
-    Number::Is(n)
-}
-
-fn is_hex(b: u8) -> bool {
-    (b'0' <= b && b <= b'9') || (b'a' <= b && b <= b'f')
-}
-
-// The value of a hexadecimal digit; 0 for any other byte.
-fn digit(b: u8) -> u8
-    ensures { λ r. ⌜ r < 16 ⌝ }
-{
-    if b < b'0' {
-        return 0;
-    }
-    if b <= b'9' {
-        return b - b'0';
-    }
-    if b < b'a' {
-        return 0;
-    }
-    if b <= b'f' {
-        return b - b'a' + 10;
-    }
-    0
-}
-
-// All bytes are hexadecimal digits, and each digit has a second one.
-fn are_pairs(hex: &[u8]) -> bool {
-    let mut i = 0;
-    while i < hex.len() {
-        if !is_hex(hex[i]) {
-            return false;
-        }
-        i += 1;
-    }
-    hex.len() % 2 == 0
-}
-
-// Writes bytes that are given by two hexadecimal digits each.
-fn write_pairs(hex: &[u8], out: &mut [u8])
-    requires { ⌜ length (now out) * 2 ≤ length (now hex) ⌝ }
-{
-    let mut i = 0;
-    while i < out.len() {
-        out[i] = digit(hex[i * 2]) * 16 + digit(hex[i * 2 + 1]);
-        i += 1;
-    }
-}
-
-fn fill(out: &mut [u8]) {
-    let mut i = 0;
-    while i < out.len() {
-        out[i] = FILL;
-        i += 1;
-    }
-}
-
-// How many bytes are not those of a new buffer.
-fn count_changed(s: &[u8]) -> usize {
-    let mut n = 0;
-    let mut i = 0;
-    while i < s.len() {
-        if s[i] != FILL {
-            n += 1;
-        }
-        i += 1;
-    }
-    n
-}
-
-fn print_bytes(s: &[u8]) {
-    let mut i = 0;
-    while i < s.len() {
-        io::print_hex(1, s[i] as u64, 2);
-        i += 1;
-    }
-    io::write_all(1, b"\n");
-}
-
-// Two numbers of an answer, on a line.
-fn print_two(number: usize, value: usize) {
-    io::print_decimal(1, number as u64);
-    io::write_all(1, b" ");
-    io::print_decimal(1, value as u64);
-    io::write_all(1, b"\n");
-}
-
-fn show(store: &[u8], used: usize) {
-    if store.len() < used {
-        print_bad();
-        return;
-    }
-    print_bytes(&store[0..used]);
-    io::print_decimal(1, count_changed(&store[used..]) as u64);
-    io::write_all(1, b"\n");
-}
-
-// Writes bytes at an offset, where the store has as many from there on.
-fn put_at(offset: usize, hex: &[u8], store: &mut [u8]) {
-    let n = hex.len() / 2;
-    if store.len() < n {
-        print_bad();
-        return;
-    }
-    if store.len() - n < offset {
-        print_bad();
-        return;
-    }
-    let end = offset + n;
-    write_pairs(hex, &mut store[offset..end]);
-}
-
-// `put`: an offset, a space, and bytes.
-fn put(words: &[u8], store: &mut [u8]) {
-    let space = space_of(words);
-    if space == words.len() {
-        print_bad();
-        return;
-    }
-    let from = space + 1;
-    if !are_pairs(&words[from..]) {
-        print_bad();
-        return;
-    }
-    match decimal(&words[0..space]) {
-        Number::Bad => print_bad(),
-        Number::Is(offset) => put_at(offset, &words[from..], store),
-    }
-}
-
-// `load`: an Image ID, a space, and a manifest. Answers the used count after it.
-fn load(words: &[u8], store: &mut [u8], used: usize) -> usize {
-    let space = space_of(words);
-    if space == words.len() {
-        print_bad();
-        return used;
-    }
-    let from = space + 1;
-    let a = store::load(&words[0..space], &words[from..], store, used);
-    print_two(a.number, a.used);
-    if a.number == 0 { a.used } else { used }
-}
-
-// `used`: the new used count, which may be more than the store has.
-fn set_used(words: &[u8], used: usize) -> usize {
-    match decimal(words) {
-        Number::Bad => {
-            print_bad();
-            used
-        }
-        Number::Is(n) => n,
-    }
-}
 
 // Judges the store with this report buffer.
 fn judge_into(store: &[u8], used: usize, report: &mut [u8]) {
     let a = policy::judge(store, used, report);
-    print_two(a.number, a.pairs);
-    let pairs = a.pairs;
+    test_lines::print_two(a.number, a.value);
+    let pairs = a.value;
     if report.len() / 2 < pairs {
-        print_bad();
+        test_lines::print_bad();
         return;
     }
-    show(report, pairs * 2);
+    test_lines::show(report, pairs * 2);
 }
 
 // `judge`: how long the report buffer is.
 fn judge(words: &[u8], store: &[u8], used: usize) {
     let mut space = [FILL; 8192];
     let report: &mut [u8] = &mut space;
-    match decimal(words) {
-        Number::Bad => print_bad(),
+    match test_lines::decimal(words) {
+        Number::Bad => test_lines::print_bad(),
         Number::Is(n) => {
             if report.len() < n {
-                print_bad();
+                test_lines::print_bad();
                 return;
             }
             judge_into(store, used, &mut report[0..n]);
@@ -268,79 +36,31 @@ fn judge(words: &[u8], store: &[u8], used: usize) {
     }
 }
 
-// A line that works on the store; answers the used count after it.
-fn work(line: &[u8], store: &mut [u8], used: usize) -> usize {
-    let loaded = after(line, b"load ");
-    if 0 < loaded {
-        return load(&line[loaded..], store, used);
-    }
-    let written = after(line, b"put ");
-    if 0 < written {
-        put(&line[written..], store);
-        return used;
-    }
-    let counted = after(line, b"used ");
-    if 0 < counted {
-        return set_used(&line[counted..], used);
-    }
-    let judged = after(line, b"judge ");
-    if 0 < judged {
-        judge(&line[judged..], store, used);
-        return used;
-    }
-    let shown = after(line, b"show");
-    if 0 < shown && shown == line.len() {
-        show(store, used);
-        return used;
-    }
-    print_bad();
-    used
-}
-
-// `new`: how long the store is.
-fn renew(words: &[u8], buffer: &mut [u8], t: State) -> State {
-    match decimal(words) {
-        Number::Bad => {
-            print_bad();
-            t
-        }
-        Number::Is(size) => {
-            if buffer.len() < size {
-                print_bad();
-                return t;
-            }
-            fill(&mut buffer[0..size]);
-            State { size, used: 0 }
-        }
-    }
-}
-
 // One line; answers the state after it.
-fn obey(line: &[u8], buffer: &mut [u8], t: State) -> State {
-    let renewed = after(line, b"new ");
-    if 0 < renewed {
-        return renew(&line[renewed..], buffer, t);
+fn obey(line: &[u8], buffer: &mut [u8], t: State) -> State
+    requires { ⌜ t .size ≤ length (now buffer) ⌝ }
+    ensures { λ r. ⌜ r .size ≤ length (now (buffer .entry)) ⌝ }
+{
+    let judged = test_lines::after(line, b"judge ");
+    if judged == 0 {
+        return test_lines::obey(line, buffer, t);
     }
     let size = t.size;
-    if buffer.len() < size {
-        print_bad();
-        return t;
-    }
-    let used = work(line, &mut buffer[0..size], t.used);
-    State { size, used }
+    judge(&line[judged..], &buffer[0..size], t.used);
+    t
 }
 
 // Each line of s; what follows the last line end is none.
 fn obey_all(s: &[u8], buffer: &mut [u8]) {
     let mut t = State { size: 0, used: 0 };
     let mut start = 0;
-    let mut i = 0;
-    while i < s.len() {
-        if s[i] == b'\n' {
-            t = obey(&s[start..i], buffer, t);
-            start = i + 1;
+    while start < s.len() {
+        let end = test_lines::find(s, start, b'\n');
+        if end == s.len() {
+            return;
         }
-        i += 1;
+        t = obey(&s[start..end], buffer, t);
+        start = end + 1;
     }
 }
 

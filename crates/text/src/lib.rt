@@ -1,4 +1,5 @@
 // JSON texts as document 01 takes them: checked by questions 1 to 6, and written in canonical form.
+use answer::Answer;
 use text_tokens::Scanned;
 use text_utf8::Verdict;
 ghost use mathlib.Core.Path.{_≡_};
@@ -163,16 +164,10 @@ fn offset(len: usize, left: usize) -> usize
     if left <= len { len - left } else { 0 }
 }
 
-// The number of document 01's table, and the length of the output, which is 0 in a refusal.
-pub struct Answer {
-    pub number: usize,
-    pub length: usize,
-}
-
 // Writes the canonical form of a text at the start of `out`. Where it refuses, and past the form, `out` stays as it was.
 pub fn canonical(text: &[u8], out: &mut [u8]) -> Answer
     ensures { λ r. ⌜ r .number ≡ canonicalNumber (now (text .entry)) (length (now (out .entry))) ⌝ }
-    ensures { λ r. ⌜ r .length ≡ canonicalLength (now (text .entry)) (length (now (out .entry))) ⌝ }
+    ensures { λ r. ⌜ r .value ≡ canonicalLength (now (text .entry)) (length (now (out .entry))) ⌝ }
     ensures { λ _. ⌜ now (out .exit) ≡ canonicalBytes (now (text .entry)) (now (out .entry)) ⌝ }
 {
     let mut keys = [0u16; 4096];
@@ -180,25 +175,17 @@ pub fn canonical(text: &[u8], out: &mut [u8]) -> Answer
     let known = check_with(text, &mut keys, &mut spare);
     let answer = known.answer;
     match answer {
-        Checked::Refused(fault) => refused(out, fault.number()),
+        Checked::Refused(fault) => answer::refused(out, fault.number()),
         Checked::Accepted {
             length,
             canonical: _,
         } => {
             if out.len() < length {
-                return refused(out, 20);
+                return answer::refused(out, 20);
             }
             write_form(text, known.count, out, &mut keys, &mut spare)
         }
     }
-}
-
-// A refusal: its number, and `out` as it was.
-fn refused(out: &mut [u8], number: usize) -> Answer
-    ensures { λ r. ⌜ (r .number ≡ number) × (r .length ≡ 0) ⌝ }
-    ensures { λ _. ⌜ now (out .exit) ≡ now (out .entry) ⌝ }
-{
-    Answer { number, length: 0 }
 }
 
 // Writes the form of a text that is taken, with the keys that checking it left.
@@ -210,12 +197,12 @@ fn write_form(
     spare: &mut [u16],
 ) -> Answer
     requires { ⌜ FormReady (now text) count (now out) (now keys) (now spare) ⌝ }
-    ensures { λ r. ⌜ (r .number ≡ 0) × (r .length ≡ length (form (now (text .entry)))) ⌝ }
+    ensures { λ r. ⌜ (r .number ≡ 0) × (r .value ≡ length (form (now (text .entry)))) ⌝ }
     ensures { λ _. ⌜ now (out .exit) ≡ form (now (text .entry)) ++ drop (length (form (now (text .entry)))) (now (out .entry)) ⌝ }
 {
     let at = text_view::value::root(text);
-    let length = write_value(text, at, count, out, keys, spare);
-    Answer { number: 0, length }
+    let value = write_value(text, at, count, out, keys, spare);
+    Answer { number: 0, value }
 }
 
 // The value of the text, by the writer.

@@ -8,7 +8,7 @@ use native.Mathlib.Omega.{arith}
 use lib.ListN.{length}
 use Rattle.reference.specs.References.{Layer}
 use Rattle.store_record.specs.Image.{Image}
-use Rattle.store_clash.specs.Clash.{anyClash}
+use Rattle.store_keys.specs.Clash.{anyClash}
 use Rattle.lookup_paths.specs.Follow.{keysIn, objectCount}
 use Rattle.lookup_links.specs.Links.{Links}
 use Rattle.lookup_links.specs.Following.{Followable}

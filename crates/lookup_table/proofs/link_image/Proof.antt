@@ -13,7 +13,7 @@ use Rattle.manifest_objects.specs.Objects.{AliasAt, Listed, NameStands}
 use Rattle.manifest_objects.proofs.Found.{part-end}
 use Rattle.manifest_objects.proofs.Naming.{name-stands, name-within}
 use Rattle.store_record.specs.Reading.{between}
-use Rattle.store_clash.specs.Keys.{LayerKey}
+use Rattle.store_keys.specs.Keys.{LayerKey}
 use Rattle.lookup_links.specs.Links.{Links}
 use Rattle.lookup_table.specs.Table.{Table}
 use Rattle.lookup_table.specs.Linking.{ObjectsFrom}

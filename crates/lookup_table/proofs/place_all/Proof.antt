@@ -16,7 +16,7 @@ use Rattle.store_record.specs.Image.{Image}
 use Rattle.store_record.specs.Reading.{between, noRecord, RecordIn}
 use Rattle.store_record.specs.declared.Record.{Record}
 use Rattle.store_record.proofs.Walks.{records-size}
-use Rattle.store_clash.proofs.Walking.{opened-at}
+use Rattle.store_names.proofs.Opened.{opened-at}
 use Rattle.lookup_paths.specs.Follow.{objectsOf}
 use Rattle.lookup_table.proofs.Walking.{all-images}
 use Rattle.lookup_table.proofs.Placing.{PlacedTo, placed-none, placed-next}

@@ -12,7 +12,7 @@ use Rattle.manifest.specs.Opened.{Opens}
 use Rattle.manifest.specs.declared.Places.{Places}
 use Rattle.store_record.specs.Reading.{between, heldIn, noRecord, RecordIn}
 use Rattle.store_record.specs.declared.Record.{Record}
-use Rattle.store_clash.proofs.Walking.{opened-at}
+use Rattle.store_names.proofs.Opened.{opened-at}
 use Rattle.lookup_paths.proofs.Objects.{objects-counted}
 use Rattle.lookup_table.proofs.Standing.{stand-length}
 use Rattle.lookup_table.proofs.Placing.{back-size, stand-behind}

@@ -1,6 +1,6 @@
 -- `policy::judge` meets its contract: bytes that are no store are refused, and of a store's images the table is judged.
 use Prim.Native.Nat.{ℕ, _<_}
-use mathlib.Core.Path.{sym, ap, _∙_}
+use mathlib.Core.Path.{refl, sym, ap, _∙_}
 use mathlib.Core.List.{List}
 use native.Mathlib.Omega.{arith}
 use borrow.Author.Needs.{needs}
@@ -17,16 +17,24 @@ use Rattle.policy.proofs.judge.Tie as tie
 -- where the bytes in use were opened
 module _ (o : tie.After-open) where
   abbrev start : tie.Start
-  start = o .before .before .before .before .before
+  start = o .before .before .before .before .before .before .before .before .before .before
+
+  -- there are as many bytes as are said to be in use
+  abbrev within : tie.Else1
+  within = o .before .before .before .before .before .before .before
 
   small : (k : ℕ) → getD (now (start .args .store)) k 0 < 256
-  small k = omega (arith, o .before .before .before .before .shared-slice-known .given k)
+  small k = omega (arith, o .before .before .before .before .before .before .before .before .before .shared-slice-known .given k)
 
   abbrev bytes : List ℕ
   bytes = take (start .args .used) (now (start .args .store))
 
-opened : (c : tie.Else2) → let o = c .before .before in OpenedStore (bytes o) (o .«open» .result .survey) (o .«open» .result .places)
-opened c = c .before .before .«open» .ensures .1 (not-false _ (c .if2 .left))
+-- where they are a store
+abbrev opening : tie.Else2 → tie.After-open
+opening c = c .before .before .before .before .before .before .before
+
+opened : (c : tie.Else2) → let o = opening c in OpenedStore (bytes o) (o .«open» .result .survey) (o .«open» .result .places)
+opened c = opening c .«open» .ensures .1 (not-false _ (c .if2 .left))
 
 refused-requires : tie.Need-refused-requires
 refused-requires c κs = search needs
@@ -44,8 +52,23 @@ returns c =
 slice-aggregate-b : tie.Need-slice-aggregate-b
 slice-aggregate-b c = sym (length-take-le _ _ (c .before .if1 .left))
 
+slice-aggregate-open : tie.Need-slice-aggregate-open
+slice-aggregate-open c = search needs
+
+slice-aggregate-open-2 : tie.Need-slice-aggregate-open-2
+slice-aggregate-open-2 c = search needs
+
+slice-aggregate-open-3 : tie.Need-slice-aggregate-open-3
+slice-aggregate-open-3 c = search needs
+
+slice-aggregate-open-4 : tie.Need-slice-aggregate-open-4
+slice-aggregate-open-4 c = search needs
+
+slice-aggregate-open-5 : tie.Need-slice-aggregate-open-5
+slice-aggregate-open-5 c = search needs
+
 open-requires : tie.Need-open-requires
-open-requires c κs = search needs
+open-requires c κs = (refl, record { names = record { room = omega arith; sorting = omega arith }; heads-room = omega arith; keys-room = omega arith })
 
 refused-requires-2 : tie.Need-refused-requires-2
 refused-requires-2 c κs = search needs
@@ -56,26 +79,40 @@ same-length-2 c = search needs
 returns-2 : tie.Need-returns-2
 returns-2 c =
     let t = c .before .before .before .before in
-    let o = t .before .before in
+    let o = t .before .before .before .before .before .before .before in
     let r = c .before .before .refused2 .ensures in
     let b = not-false _ (sym (o .«open» .ensures .0) ∙ not-true _ (t .if2 .taken)) in
-    refused-reports (sym (judge-broken _ _ (o .before .before .if1 .left) (small o) _ b)) (λ z. omega arith) (r .0) (r .1)
+    refused-reports (sym (judge-broken _ _ (within o .if1 .left) (small o) _ b)) (λ z. omega arith) (r .0) (r .1)
+
+slice-aggregate-table : tie.Need-slice-aggregate-table
+slice-aggregate-table c = search needs
+
+slice-aggregate-table-2 : tie.Need-slice-aggregate-table-2
+slice-aggregate-table-2 c = search needs
+
+slice-aggregate-table-3 : tie.Need-slice-aggregate-table-3
+slice-aggregate-table-3 c = search needs
 
 table-requires : tie.Need-table-requires
-table-requires c κs = opened (c .before .before)
+table-requires c κs =
+    let e = c .before .before .before .before .before in
+    let n = opening e .«open» .kept .1 in
+    (opened e, n .0, omega (arith, n .1 .0), omega (arith, n .1 .1 .0))
 
 judge-table-requires : tie.Need-judge-table-requires
-judge-table-requires c κs = omega (arith, c .before .table .ensures .0, opened (c .before .before .before .before) .fills .few)
+judge-table-requires c κs =
+    let t = c .before .before .before .before in
+    omega (arith, t .table .ensures .0, opened (t .before .before .before .before .before .before) .fills .few)
 
 same-length-3 : tie.Need-same-length-3
 same-length-3 c = search needs
 
 returns-3 : tie.Need-returns-3
 returns-3 c =
-    let t = c .before .before .before .before in
-    let e = t .before .before .before in
-    let o = e .before .before in
-    let h = o .before .before .if1 .left in
+    let t = c .before .before .before .before .before .before .before in
+    let e = t .before .before .before .before .before .before in
+    let o = opening e in
+    let h = within o .if1 .left in
     let i = opened e .fills .images in
     let p = table-pairs (t .table .result) _ (t .table .ensures .1) (t .table .ensures .2) in
     reports-as
@@ -91,10 +128,18 @@ judge-spec =
     same-length
     returns
     slice-aggregate-b
+    slice-aggregate-open
+    slice-aggregate-open-2
+    slice-aggregate-open-3
+    slice-aggregate-open-4
+    slice-aggregate-open-5
     open-requires
     refused-requires-2
     same-length-2
     returns-2
+    slice-aggregate-table
+    slice-aggregate-table-2
+    slice-aggregate-table-3
     table-requires
     judge-table-requires
     same-length-3

@@ -18,67 +18,67 @@ use Rattle.policy_table.proofs.table.Statement.{statement}
 use Rattle.policy_table.proofs.table.Tie as tie
 
 abbrev Inv-loop : tie.InvT-loop
-Inv-loop b v places at order n rows₀ i₀ rows i = Filled (λ (x : Image). map (acceptsImage x) (imagesIn b v)) (imagesIn b v) (v .count) i rows
+Inv-loop b v places at order own n rows₀ i₀ rows i = Filled (λ (x : Image). map (acceptsImage x) (imagesIn b v)) (imagesIn b v) (v .count) i rows
 
 abbrev μ-loop : tie.MeasureT-loop
-μ-loop b v places at order n rows₀ i₀ rows i = v .count - i
+μ-loop b v places at order own n rows₀ i₀ rows i = v .count - i
 
 room : (a : tie.Start Inv-loop μ-loop) → length (a .args .v .records) ≡ 64
 room a = records-size (a .args .v) (a .good .1 .0)
 
-slice-aggregate-place-all : tie.Need-slice-aggregate-place-all Inv-loop μ-loop
-slice-aggregate-place-all c = refl
+-- the names are placed and indexed
+abbrev begin : tie.After-place-all Inv-loop μ-loop → tie.Start Inv-loop μ-loop
+begin k = k .before .before .before .before .before .before .before .before
 
-slice-aggregate-place-all-2 : tie.Need-slice-aggregate-place-all-2 Inv-loop μ-loop
-slice-aggregate-place-all-2 c = refl
-
-place-all-requires : tie.Need-place-all-requires Inv-loop μ-loop
-place-all-requires c κs = (c .before .before .before .pre, refl, refl)
-
-slice-aggregate-index-all : tie.Need-slice-aggregate-index-all Inv-loop μ-loop
-slice-aggregate-index-all c = sym (c .before .before .before .place-all .ensures .at-room)
-
-slice-aggregate-index-all-2 : tie.Need-slice-aggregate-index-all-2 Inv-loop μ-loop
-slice-aggregate-index-all-2 c = sym (c .before .before .before .before .place-all .ensures .counts-room)
-
-slice-aggregate-index-all-3 : tie.Need-slice-aggregate-index-all-3 Inv-loop μ-loop
-slice-aggregate-index-all-3 c = refl
-
-index-all-requires : tie.Need-index-all-requires Inv-loop μ-loop
-index-all-requires c κs =
-    let p = c .before .before .before .before .before .place-all .ensures in
-    let few = c .before .before .before .before .before .before .before .before .before .pre .fills .few in
-    (placed-numbered _ _ _ _ _ few p, few, p .counts-room, refl)
-
-loop-holds : tie.Need-loop-holds Inv-loop μ-loop
-loop-holds c = filled-none _ _ _ _ (c .before .before .before .before .before .before .before .before .before .before .before .pre .fills .few)
-
-slice-aggregate-row : tie.Need-slice-aggregate-row Inv-loop μ-loop
-slice-aggregate-row c = sym (c .before .before .before .before .before .before .before .before .before .before .before .place-all .ensures .at-room)
+abbrev placed : tie.After-index-all Inv-loop μ-loop → tie.After-place-all Inv-loop μ-loop
+placed k = k .before .before .before .before .before .before .before .before .before
 
 -- the index has room for the numbers that are in it
 in-order : (k : tie.After-index-all Inv-loop μ-loop) → k .index-all .result ≤ length (k .index-all .last .1 .1 .1 .1 .0)
-in-order k = omega (arith, k .index-all .ensures .0, k .index-all .ensures .1)
+in-order k = omega (arith, k .index-all .ensures .0, k .index-all .ensures .1, begin (placed k) .pre .2)
 
-array-share-prefix-order : tie.Need-array-share-prefix-order Inv-loop μ-loop
-array-share-prefix-order c = in-order (c .before .before .before .before .before)
+abbrev indexed : tie.At-loop Inv-loop μ-loop → tie.After-index-all Inv-loop μ-loop
+indexed l = l .before .before .before
 
-slice-aggregate-row-2 : tie.Need-slice-aggregate-row-2 Inv-loop μ-loop
-slice-aggregate-row-2 c = sym (length-take-le _ _ (in-order (c .before .before .before .before .before .before)))
+slice-aggregate-place-all : tie.Need-slice-aggregate-place-all Inv-loop μ-loop
+slice-aggregate-place-all c = refl
+
+place-all-requires : tie.Need-place-all-requires Inv-loop μ-loop
+place-all-requires c κs = let p = c .before .before .before .before .before .before .before .pre in (p .0, p .3, p .1, refl)
+
+slice-aggregate-index-all : tie.Need-slice-aggregate-index-all Inv-loop μ-loop
+slice-aggregate-index-all c = sym (c .before .before .before .before .before .before .before .place-all .ensures .counts-room)
+
+index-all-requires : tie.Need-index-all-requires Inv-loop μ-loop
+index-all-requires c κs =
+    let k = c .before .before .before .before .before .before .before .before in
+    let p = k .place-all .ensures in
+    let few = begin k .pre .0 .fills .few in
+    (placed-numbered _ _ _ _ _ few p, few, p .counts-room, begin k .pre .2)
+
+loop-holds : tie.Need-loop-holds Inv-loop μ-loop
+loop-holds c = filled-none _ _ _ _ (begin (placed (c .before .before)) .pre .0 .fills .few)
 
 -- a turn of the loop: the image whose row it writes is one of at most 64
 module _ (t : tie.Then1 Inv-loop μ-loop) where
   abbrev start : tie.Start Inv-loop μ-loop
-  start = t .before .before .before .before .before .before .before .before .before .before .before .before .before .before
+  start = begin (placed (indexed (t .before .before)))
 
   few : t .before .before .loop .i < 64
-  few = omega (arith, t .if1 .taken, start .pre .fills .few)
+  few = omega (arith, t .if1 .taken, start .pre .0 .fills .few)
+
+slice-reshare-prefix-row : tie.Need-slice-reshare-prefix-row Inv-loop μ-loop
+slice-reshare-prefix-row c = in-order (indexed (c .before .before .before))
+
+slice-aggregate-row : tie.Need-slice-aggregate-row Inv-loop μ-loop
+slice-aggregate-row c = sym (length-take-le _ _ (in-order (indexed (c .before .before .before .before))))
 
 row-requires : tie.Need-row-requires Inv-loop μ-loop
 row-requires c κs =
     let t = c .before .before in
-    let placed = t .before .before .before .before .before .before .before .before .before .before .place-all in
-    (start t .pre, record { counts = placed .last .1 .1 .1 .1 .0; placed = placed .ensures; index = t .before .before .before .before .index-all .ensures .2 }, t .if1 .taken)
+    let k = indexed (t .before .before) in
+    let names = placed k .place-all in
+    (start t .pre .0, record { counts = names .last .1 .1 .1 .1 .1 .0; placed = names .ensures; index = k .index-all .ensures .2 }, t .if1 .taken)
 
 mul-rows : tie.Need-mul-rows Inv-loop μ-loop
 mul-rows c = omega (arith, few (c .before .before .before))
@@ -97,17 +97,30 @@ loop-again c =
     let t = c .before .before .before in
     let l = t .before .before .loop in
     let a = start t in
-    row-written (now (a .args .b)) (a .args .v) (a .pre .fills .few) (room a) _ _ (l .i) (l .inv) (c .row .result) (t .if1 .taken) (c .row .ensures .0)
+    row-written (now (a .args .b)) (a .args .v) (a .pre .0 .fills .few) (room a) _ _ (l .i) (l .inv) (c .row .result) (t .if1 .taken) (c .row .ensures .0)
 
 guards-requires : tie.Need-guards-requires Inv-loop μ-loop
-guards-requires c κs = c .before .before .before .before .before .before .before .before .before .before .before .before .before .before .pre
+guards-requires c κs = begin (placed (indexed (c .before .before))) .pre .0
+
+-- where all rows are written
+abbrev written : tie.After-guards Inv-loop μ-loop → tie.At-loop Inv-loop μ-loop
+written c = c .before .before .before
+
+same-length : tie.Need-same-length Inv-loop μ-loop
+same-length c = placed (indexed (written c)) .place-all .kept .1 .1 .1 .1 .0
+
+same-length-2 : tie.Need-same-length-2 Inv-loop μ-loop
+same-length-2 c = indexed (written c) .index-all .ensures .1
+
+same-length-3 : tie.Need-same-length-3 Inv-loop μ-loop
+same-length-3 c = placed (indexed (written c)) .place-all .kept .1 .1 .1 .0
 
 returns : tie.Need-returns Inv-loop μ-loop
 unfolding guardsIn rowsIn marks
 returns c =
-    let l = c .before .before .before in
-    let a = l .before .before .before .before .before .before .before .before .before .before .before .before in
-    let e = rows-written (now (a .args .b)) (a .args .v) (a .pre .fills .few) (room a) _ _ (l .loop .i) (l .loop .inv) (c .before .if1 .left) in
+    let l = written c in
+    let a = begin (placed (indexed l)) in
+    let e = rows-written (now (a .args .b)) (a .args .v) (a .pre .0 .fills .few) (room a) _ _ (l .loop .i) (l .loop .inv) (c .before .if1 .left) in
     (refl, c .guards .ensures .0, e)
 
 pub table-spec : {M : Type 1} → statement M
@@ -117,16 +130,12 @@ table-spec =
     Inv-loop
     μ-loop
     slice-aggregate-place-all
-    slice-aggregate-place-all-2
     place-all-requires
     slice-aggregate-index-all
-    slice-aggregate-index-all-2
-    slice-aggregate-index-all-3
     index-all-requires
     loop-holds
+    slice-reshare-prefix-row
     slice-aggregate-row
-    array-share-prefix-order
-    slice-aggregate-row-2
     row-requires
     mul-rows
     array-write-rows
@@ -134,4 +143,7 @@ table-spec =
     loop-less
     loop-again
     guards-requires
+    same-length
+    same-length-2
+    same-length-3
     returns)

@@ -5,7 +5,7 @@ use mathlib.Core.Path.{_≡_, sym}
 use native.Mathlib.Omega.{arith}
 use lib.ListN.{length}
 use lib.Seq.{length-take-le}
-use Rattle.report_lines.proofs.Taking.{taken-within, taken-kept, taken-more}
+use Rattle.report_text.proofs.Taking.{taken-within, taken-kept, taken-more}
 use borrow.Author.Needs.{needs}
 use Rattle.roomreport.proofs.feed.Statement.{statement}
 use Rattle.roomreport.proofs.feed.Tie as tie

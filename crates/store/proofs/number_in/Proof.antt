@@ -1,6 +1,6 @@
 -- `store::number_in` meets its contract: the questions are asked in the order of their numbers.
-use Prim.Native.Nat.{ℕ, _+_, _<_}
-use mathlib.Core.Path.{_≡_, sym, ap, _∙_}
+use Prim.Native.Nat.{ℕ, _+_, _≤_, _<_}
+use mathlib.Core.Path.{_≡_, refl, sym, ap, _∙_}
 use mathlib.Core.List.{List}
 use mathlib.Core.Bool.{false}
 use mathlib.Core.Option.{Option}
@@ -12,22 +12,22 @@ use lib.ListN.{length, getD}
 use Rattle.laws.specs.Any.{anyOf}
 use Rattle.store_record.specs.Image.{Image}
 use Rattle.store_record.specs.Ids.{shareId}
-use Rattle.store_record.specs.Record.{recordOf}
+use Rattle.store_record.specs.Record.{headSize, recordOf}
 use Rattle.store_record.specs.Store.{mostImages, readRecords}
 use Rattle.store_record.specs.Reading.{imagesIn}
 use Rattle.store_record.proofs.Walks.{records-size, images-length}
-use Rattle.store_clash.specs.Clash.{clash}
+use Rattle.store_keys.specs.Clash.{clash}
 use Rattle.store_names.specs.Opened.{OpenedStore}
 use Rattle.store.specs.Held.{isBroken}
-use Rattle.store.specs.Load.{among, noSpace}
+use Rattle.store.specs.Load.{among}
 use Rattle.store.specs.Loading.{imageWith}
 use Rattle.store.proofs.Appending.{form-small}
-use Rattle.store.proofs.Numbering.{room-broken, shares-held, clashes-held, record-size, size-small, too-many-held, record-too-long, space-left, read-among, number-11, number-12, number-13, number-14, number-0}
+use Rattle.store.proofs.Numbering.{room-broken, shares-held, clashes-held, record-size, size-small, read-among, number-11, number-12, number-rest}
 use Rattle.store.proofs.number_in.Statement.{statement}
 use Rattle.store.proofs.number_in.Tie as tie
 
 abbrev begin : tie.After-open → tie.Start
-begin o = o .before .before .before .before .before
+begin o = o .before .before .before .before .before .before .before .before .before .before
 
 abbrev bytes : tie.Start → List ℕ
 bytes a = now (a .args .b)
@@ -42,14 +42,14 @@ abbrev its-image : tie.Start → Image
 its-image a = imageWith (a .args .a) (now (a .args .signer)) (now (a .args .digest)) (now (a .args .manifest))
 
 small : (o : tie.After-open) (j : ℕ) → getD (bytes (begin o)) j 0 < 256
-small o j = omega (arith, o .before .shared-slice-known4 .given j)
+small o j = omega (arith, o .before .before .before .before .before .before .shared-slice-known4 .given j)
 
 same-broken : (o : tie.After-open) → isBroken (size (begin o)) (images (begin o)) ≡ isBroken (length (bytes (begin o))) (images (begin o))
 same-broken o = room-broken (bytes (begin o)) (small o) (size (begin o)) (omega arith)
 
 -- 11 does not apply: the store is opened
 abbrev opening : tie.Else1 → tie.After-open
-opening c = c .before .before
+opening c = c .before .before .before .before .before .before .before
 
 sound : (c : tie.Else1) → isBroken (size (begin (opening c))) (images (begin (opening c))) ≡ false
 sound c = same-broken (opening c) ∙ not-true _ (sym (opening c .«open» .ensures .0) ∙ not-false _ (c .if1 .left))
@@ -76,7 +76,7 @@ asked-12 c =
 
 -- once an ID was not found
 abbrev known : tie.After-clashes-with-any → tie.Else1
-known c = c .before .before .before .before .before
+known c = c .before .before .before .before .before .before .before .before .before
 
 asked-13 : (c : tie.After-clashes-with-any) → let a = begin (opening (known c)) in anyOf (clash (its-image a)) (among (images a)) ≡ c .clashes-with-any .result
 asked-13 c =
@@ -89,32 +89,34 @@ asked-13 c =
 other : (c : tie.Else2) → let a = begin (opening (c .before .before .before)) in anyOf (shareId (its-image a)) (among (images a)) ≡ false
 other c = asked-12 (c .before) ∙ c .if2 .left
 
-apart : (c : tie.Else3) → let a = begin (opening (known (c .before))) in anyOf (clash (its-image a)) (among (images a)) ≡ false
-apart c = asked-13 (c .before) ∙ c .if3 .left
+-- the length of its record, and that it is small
+needed : (a : tie.Start) → length (recordOf (its-image a)) ≡ headSize (a .args .a) (a .args .size) + a .args .size
+needed a = record-size (a .args .a) (now (a .args .signer)) (now (a .args .digest)) (now (a .args .manifest)) (a .pre .0 .opens .good) (a .pre .1) (a .args .size) (a .pre .0 .size)
 
--- 14 by the images and the space that is left
-space : (c : tie.Else3) → let e = known (c .before) in let a = begin (opening e) in
-    noSpace (size a) (among (images a)) (its-image a) ≡ noSpace (size a) (imagesIn (bytes a) (opening e .«open» .result .survey)) (its-image a)
-space c =
-    let e = known (c .before) in
-    let a = begin (opening e) in
-    ap (λ (xs : List Image). noSpace (size a) xs (its-image a)) (held e)
+small-record : (a : tie.Start) → headSize (a .args .a) (a .args .size) + a .args .size ≤ 16484
+small-record a = size-small (a .args .a) (now (a .args .signer)) (now (a .args .digest)) (now (a .args .manifest)) (a .pre .0 .opens .good) (a .pre .1) (a .args .size) (a .pre .0 .size)
 
-abbrev third : tie.After-head-size → tie.Else3
-third c = c .before .before .before
+slice-aggregate-open : tie.Need-slice-aggregate-open
+slice-aggregate-open c = search needs
 
-needed : (c : tie.After-head-size) → let a = begin (opening (known (third c .before))) in length (recordOf (its-image a)) ≡ c .head-size .result + a .args .size
-needed c =
-    let a = begin (opening (known (third c .before))) in
-    record-size (a .args .a) (now (a .args .signer)) (now (a .args .digest)) (now (a .args .manifest)) (a .pre .0 .opens .good) (a .pre .1) (a .args .size) (a .pre .0 .size)
-    ∙ ap (λ (k : ℕ). k + a .args .size) (sym (c .head-size .ensures))
+slice-aggregate-open-2 : tie.Need-slice-aggregate-open-2
+slice-aggregate-open-2 c = search needs
+
+slice-aggregate-open-3 : tie.Need-slice-aggregate-open-3
+slice-aggregate-open-3 c = search needs
+
+slice-aggregate-open-4 : tie.Need-slice-aggregate-open-4
+slice-aggregate-open-4 c = search needs
+
+slice-aggregate-open-5 : tie.Need-slice-aggregate-open-5
+slice-aggregate-open-5 c = search needs
 
 open-requires : tie.Need-open-requires
-open-requires c κs = search needs
+open-requires c κs = (refl, record { names = record { room = omega arith; sorting = omega arith }; heads-room = omega arith; keys-room = omega arith })
 
 returns : tie.Need-returns
 returns c =
-    let o = c .before .before in
+    let o = c .before .before .before .before .before .before .before in
     number-11 (size (begin o)) (images (begin o)) (its-image (begin o)) (same-broken o ∙ not-false _ (sym (o .«open» .ensures .0) ∙ not-true _ (c .if1 .taken)))
 
 is-held-requires : tie.Need-is-held-requires
@@ -126,66 +128,62 @@ returns-2 c =
     let a = begin (opening e) in
     number-12 (size a) (images a) (its-image a) (sound e) (asked-12 (c .before) ∙ c .if2 .taken)
 
+slice-aggregate-clashes-with-any : tie.Need-slice-aggregate-clashes-with-any
+slice-aggregate-clashes-with-any c = search needs
+
+slice-aggregate-clashes-with-any-2 : tie.Need-slice-aggregate-clashes-with-any-2
+slice-aggregate-clashes-with-any-2 c = search needs
+
+slice-aggregate-clashes-with-any-3 : tie.Need-slice-aggregate-clashes-with-any-3
+slice-aggregate-clashes-with-any-3 c = search needs
+
+slice-aggregate-clashes-with-any-4 : tie.Need-slice-aggregate-clashes-with-any-4
+slice-aggregate-clashes-with-any-4 c = search needs
+
 clashes-with-any-requires : tie.Need-clashes-with-any-requires
 clashes-with-any-requires c κs =
-    let e = c .before .before .before .before in
-    (begin (opening e) .pre .0 .opens, opened e)
+    let e = c .before .before .before .before .before .before .before .before in
+    let n = opening e .«open» .kept .1 .1 in (
+      begin (opening e) .pre .0 .opens,
+      opened e,
+      record {
+        names = record { room = omega (arith, n .0); sorting = omega (arith, n .0, n .1 .0) };
+        heads-room = omega (arith, n .0, n .1 .1 .0);
+        keys-room = omega (arith, n .1 .1 .1 .0);
+      },
+    )
+
+number-left-requires : tie.Need-number-left-requires
+number-left-requires c κs =
+    let a = begin (opening (known (c .before .before .before .before))) in
+    (omega (arith, form-small (now (a .args .manifest)) (a .pre .0 .opens .good), a .pre .0 .size), small-record a)
 
 returns-3 : tie.Need-returns-3
 returns-3 c =
-    let k = c .before in
+    let k = c .before .before .before .before .before in
     let e = known k in
-    let a = begin (opening e) in
-    number-13 (size a) (images a) (its-image a) (sound e) (other (k .before .before)) (asked-13 k ∙ c .if3 .taken)
-
-returns-4 : tie.Need-returns-4
-returns-4 c =
-    let t = c .before .before in
-    let e = known (t .before) in
-    let a = begin (opening e) in
-    number-14 (size a) (images a) (its-image a) (sound e) (other (t .before .before .before)) (apart t)
-    (space t ∙ too-many-held (bytes a) (small (opening e)) _ (opened e .fills .images) (a .args .left) (its-image a) (omega (arith, count e, c .if4 .taken)))
-
-head-size-requires : tie.Need-head-size-requires
-head-size-requires c κs =
-    let a = begin (opening (known (c .before .before .before))) in
-    omega (arith, form-small (now (a .args .manifest)) (a .pre .0 .opens .good), a .pre .0 .size)
-
-add-if5 : tie.Need-add-if5
-add-if5 c =
-    let a = begin (opening (known (third c .before))) in
-    omega (arith, c .head-size .ensures, size-small (a .args .a) (now (a .args .signer)) (now (a .args .digest)) (now (a .args .manifest)) (a .pre .0 .opens .good) (a .pre .1) (a .args .size) (a .pre .0 .size))
-
-returns-5 : tie.Need-returns-5
-returns-5 c =
-    let t = third (c .before) in
-    let e = known (t .before) in
-    let a = begin (opening e) in
-    number-14 (size a) (images a) (its-image a) (sound e) (other (t .before .before .before)) (apart t)
-    (space t ∙ record-too-long (bytes a) (small (opening e)) _ (opened e .fills .images) (a .args .left) (its-image a) (omega (arith, needed (c .before), c .if5 .taken)))
-
-returns-6 : tie.Need-returns-6
-returns-6 c =
-    let t = third (c .before) in
-    let e = known (t .before) in
-    let a = begin (opening e) in
-    let few : length (imagesIn (bytes a) (opening e .«open» .result .survey)) < mostImages =
-    omega (arith, count e, opened e .fills .few, c .before .before .if4 .left) in
-    number-0 (size a) (images a) (its-image a) (sound e) (other (t .before .before .before)) (apart t)
-    (space t ∙ space-left (bytes a) (small (opening e)) _ (opened e .fills .images) (a .args .left) (its-image a) few (omega (arith, needed (c .before), c .if5 .left)))
+    let o = opening e in
+    let a = begin o in
+    number-rest (bytes a) (small o) _ (opened e .fills .images) (a .args .left) (its-image a) (sound e) (other (k .before .before .before .before .before .before)) (asked-13 k)
+    _ _ _ (needed a) (count e) (opened e .fills .few) (c .number-left .ensures)
 
 pub number-in-spec : {M : Type 1} → statement M
 number-in-spec =
     tie.close
     (tie.spec
+    slice-aggregate-open
+    slice-aggregate-open-2
+    slice-aggregate-open-3
+    slice-aggregate-open-4
+    slice-aggregate-open-5
     open-requires
     returns
     is-held-requires
     returns-2
+    slice-aggregate-clashes-with-any
+    slice-aggregate-clashes-with-any-2
+    slice-aggregate-clashes-with-any-3
+    slice-aggregate-clashes-with-any-4
     clashes-with-any-requires
-    returns-3
-    returns-4
-    head-size-requires
-    add-if5
-    returns-5
-    returns-6)
+    number-left-requires
+    returns-3)

@@ -10,10 +10,13 @@ use Rattle.store.proofs.Opening.{unread-sound, unfit-sound, apart-sound
 use Rattle.store.proofs.open.Statement.{statement}
 use Rattle.store.proofs.open.Tie as tie
 
-bytes : (c : tie.After-shared-slice-known) (j : ℕ) → getD (now (c .before .args .b)) j 0 < 256
-bytes c j = omega (arith, c .shared-slice-known .given j)
+abbrev start : tie.After-of → tie.Start
+start o = o .before .before .before .before .before .before .before
 
-fills : (c : tie.Else1) → Fills (now (c .before .before .before .before .args .b)) (c .before .before .of .result)
+bytes : (o : tie.After-of) (j : ℕ) → getD (now (start o .args .b)) j 0 < 256
+bytes o j = omega (arith, o .before .before .before .before .before .before .shared-slice-known .given j)
+
+fills : (c : tie.Else1) → Fills (now (start (c .before .before) .args .b)) (c .before .before .of .result)
 fills c = c .before .before .of .ensures .0 (not-false _ (c .if1 .left))
 
 of-requires : tie.Need-of-requires
@@ -25,7 +28,7 @@ none-requires c κs = search needs
 returns : tie.Need-returns
 returns c =
     let o = c .before .before .before in
-    unread-sound (now (o .before .before .args .b)) (o .of .result) _ (o .of .ensures .1 (not-true _ (c .before .if1 .taken)))
+    unread-sound (now (start o .args .b)) (o .of .result) _ (o .of .ensures .1 (not-true _ (c .before .if1 .taken)))
 
 open-all-requires : tie.Need-open-all-requires
 open-all-requires c κs = fills c
@@ -34,17 +37,38 @@ returns-2 : tie.Need-returns-2
 returns-2 c =
     let f = c .before .before .before in
     let o = f .before .before .before in
-    unfit-sound (now (o .before .before .args .b)) (bytes (o .before)) (o .of .result) (fills (f .before)) (f .open-all .result .places) (f .open-all .ensures) (not-true _ (c .if2 .taken))
+    unfit-sound (now (start o .args .b)) (bytes o) (o .of .result) (fills (f .before)) (f .open-all .result .places) (f .open-all .ensures) (not-true _ (c .if2 .taken))
 
 are-apart-requires : tie.Need-are-apart-requires
-are-apart-requires c κs = c .before .before .before .open-all .ensures .1 (not-false _ (c .if2 .left))
+are-apart-requires c κs =
+    let e = c .before .before .before .before .before in
+    let f = e .before .before .before in
+    let p = start (f .before .before .before) .pre in
+    (f .open-all .ensures .1 (not-false _ (e .if2 .left)), p .0, p .1)
+
+same-length : tie.Need-same-length
+same-length c = search needs
+
+same-length-2 : tie.Need-same-length-2
+same-length-2 c = search needs
+
+same-length-3 : tie.Need-same-length-3
+same-length-3 c = search needs
+
+same-length-4 : tie.Need-same-length-4
+same-length-4 c = search needs
+
+same-length-5 : tie.Need-same-length-5
+same-length-5 c = search needs
 
 returns-3 : tie.Need-returns-3
 returns-3 c =
-    let f = c .before .before .before .before in
+    let k = c .before .before .before .before .before .before .before .before .before .before in
+    let e = k .before .before .before .before .before .before in
+    let f = e .before .before .before in
     let o = f .before .before .before in
-    apart-sound (now (o .before .before .args .b)) (bytes (o .before)) (o .of .result) (fills (f .before)) (f .open-all .result .places) (f .open-all .ensures) (not-false _ (c .before .if2 .left))
-    (c .are-apart .ensures)
+    apart-sound (now (start o .args .b)) (bytes o) (o .of .result) (fills (f .before)) (f .open-all .result .places) (f .open-all .ensures) (not-false _ (e .if2 .left))
+    (k .are-apart .ensures)
 
 pub open-spec : {M : Type 1} → statement M
 open-spec =
@@ -56,4 +80,9 @@ open-spec =
     open-all-requires
     returns-2
     are-apart-requires
+    same-length
+    same-length-2
+    same-length-3
+    same-length-4
+    same-length-5
     returns-3)

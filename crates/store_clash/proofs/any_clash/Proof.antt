@@ -1,113 +1,101 @@
--- `store_clash::any_clash` meets its contract. The loop's invariant: the answer for the images from i on is the answer for all. The measure is how
--- many are left. The arrays keep their lengths.
-use Prim.Native.Nat.{_-_, _≤_}
-use mathlib.Core.Path.{_≡_, refl, sym, _∙_}
+-- `store_clash::any_clash` meets its contract: the names that the images have for themselves are asked first, and then those of their layers.
+use Prim.Native.Nat.{_≤_}
+use mathlib.Core.Path.{_≡_, refl, sym, ap, _∙_}
+use mathlib.Core.Bool.{Bool, _||_}
 use native.Mathlib.Omega.{arith}
+use borrow.Author.Needs.{needs}
 use denote.Ref.{now}
-use lib.ListN.{length, drop}
+use lib.ListN.{length}
 use Rattle.laws.specs.Any.{anyPair}
 use Rattle.store_record.specs.Reading.{imagesIn}
-use Rattle.store_record.proofs.Walks.{records-size, pair-image-end, pair-here, pair-next, pair-few}
-use Rattle.store_clash.specs.Clash.{clash, anyClash}
+use Rattle.store_record.proofs.Walks.{records-size, pair-few}
+use Rattle.store_keys.specs.Clash.{clash, anyClash}
+use Rattle.store_keys.specs.Signed.{layersClash}
+use Rattle.store_clash.proofs.Lent.{space-kept}
+use Rattle.store_clash.proofs.Walking.{any-clash-is}
 use Rattle.store_clash.proofs.any_clash.Statement.{statement}
 use Rattle.store_clash.proofs.any_clash.Tie as tie
 
-abbrev Inv-loop : tie.InvT-loop
-Inv-loop b v places sorted₀ spare₀ heads₀ keys₀ i₀ sorted spare heads keys i =
-    (anyPair clash (drop i (imagesIn b v)) ≡ anyPair clash (imagesIn b v)) × (length sorted ≡ 4096) × (length spare ≡ 4096) × (length heads ≡ 4096) × (length keys ≡ 16384)
+fits : (a : tie.Start) → a .args .v .count ≤ length (a .args .v .records)
+fits a = omega (arith, records-size (a .args .v) (a .good .1 .0), a .pre .0 .fills .few)
 
-abbrev μ-loop : tie.MeasureT-loop
-μ-loop b v places sorted₀ spare₀ heads₀ keys₀ i₀ sorted spare heads keys i = v .count - i
+-- where the names of the images are compared
+module _ (k : tie.After-any-shared) where
+  abbrev start : tie.Start
+  start = k .before .before .before .before .before .before .before .before .before .before .before .before
 
-abbrev start : tie.At-loop Inv-loop μ-loop → tie.Start Inv-loop μ-loop
-start l = l .before .before .before .before
+  parts : {t : Bool} → k .any-shared .result ≡ t → let a = start .args in
+      anyClash (imagesIn (now (a .b)) (a .v)) ≡ (t || anyPair layersClash (imagesIn (now (a .b)) (a .v)))
+  parts e =
+      let a = start .args in
+      any-clash-is (now (a .b)) (a .v) ∙ ap (λ (x : Bool). x || anyPair layersClash (imagesIn (now (a .b)) (a .v))) (sym (k .any-shared .ensures .0) ∙ e)
 
-fits : (a : tie.Start Inv-loop μ-loop) → a .args .v .count ≤ length (a .args .v .records)
-fits a = omega (arith, records-size (a .args .v) (a .good .1 .0), a .pre .fills .few)
-
-returns : tie.Need-returns Inv-loop μ-loop
+returns : tie.Need-returns
 unfolding anyClash
 returns c =
-    let a = c .before .before .before in
+    let a = c .before .before .before .before .before .before .before .before in
     sym (pair-few (now (a .args .b)) (a .args .v) (fits a) clash (c .if1 .taken))
 
-loop-holds : tie.Need-loop-holds Inv-loop μ-loop
-loop-holds c = (refl, refl, refl, refl, refl)
+any-shared-requires : tie.Need-any-shared-requires
+any-shared-requires c κs =
+    let p = c .before .before .before .before .before .before .before .before .before .before .before .pre in
+    let n = p .2 .names in
+    (p .0, p .1, n .room, omega (arith, n .room, n .sorting))
 
-slice-aggregate-clashes-later : tie.Need-slice-aggregate-clashes-later Inv-loop μ-loop
-slice-aggregate-clashes-later c = sym (c .before .before .before .loop .inv .1)
+same-length : tie.Need-same-length
+same-length c = search needs
 
-slice-aggregate-clashes-later-2 : tie.Need-slice-aggregate-clashes-later-2 Inv-loop μ-loop
-slice-aggregate-clashes-later-2 c = sym (c .before .before .before .before .loop .inv .2)
+same-length-2 : tie.Need-same-length-2
+same-length-2 c = search needs
 
-slice-aggregate-clashes-later-3 : tie.Need-slice-aggregate-clashes-later-3 Inv-loop μ-loop
-slice-aggregate-clashes-later-3 c = sym (c .before .before .before .before .before .loop .inv .3)
+same-length-3 : tie.Need-same-length-3
+same-length-3 c = search needs
 
-slice-aggregate-clashes-later-4 : tie.Need-slice-aggregate-clashes-later-4 Inv-loop μ-loop
-slice-aggregate-clashes-later-4 c = sym (c .before .before .before .before .before .before .loop .inv .4)
+returns-2 : tie.Need-returns-2
+returns-2 c = sym (parts (c .before .before .before .before .before .before .before) (c .if2 .taken))
 
-clashes-later-requires : tie.Need-clashes-later-requires Inv-loop μ-loop
-clashes-later-requires c κs =
-    let t = c .before .before .before .before in
-    let l = t .before .before in
-    let i = l .loop .inv in
-    (start l .pre, t .if2 .taken, record { room = omega (arith, i .1); sorting = omega (arith, i .1, i .2) }, omega (arith, i .1, i .3), omega (arith, i .4))
+any-conflict-requires : tie.Need-any-conflict-requires
+any-conflict-requires c κs =
+    let k = c .before .before .before .before .before .before .before .before .before .before .before in
+    let p = start k .pre in
+    let n = k .any-shared .ensures .1 in
+    (p .0, space-kept (p .2) _ _ _ _ (n .1) (n .2) refl refl)
 
-returns-2 : tie.Need-returns-2 Inv-loop μ-loop
-unfolding anyClash
-returns-2 c =
-    let k = c .before .before .before .before .before in
-    let t = k .before .before .before .before .before in
-    let l = t .before .before in
-    let a = start l in
-    sym (pair-here (now (a .args .b)) (a .args .v) (fits a) (l .loop .i) (t .if2 .taken) clash
-    (sym (k .clashes-later .ensures) ∙ c .if3 .taken)) ∙ l .loop .inv .0
+same-length-4 : tie.Need-same-length-4
+same-length-4 c = search needs
 
-add-i : tie.Need-add-i Inv-loop μ-loop
-add-i c =
-    let t = c .before .before .before .before .before .before .before .before .before .before in
-    omega (arith, t .if2 .taken, start (t .before .before) .pre .fills .few)
+same-length-5 : tie.Need-same-length-5
+same-length-5 c = search needs
 
-loop-less : tie.Need-loop-less Inv-loop μ-loop
-loop-less c = omega (arith, c .before .before .before .before .before .before .before .before .before .before .if2 .taken)
+same-length-6 : tie.Need-same-length-6
+same-length-6 c = search needs
 
-loop-again : tie.Need-loop-again Inv-loop μ-loop
-loop-again c =
-    let k = c .before .before .before .before .before in
-    let t = k .before .before .before .before .before in
-    let l = t .before .before in
-    let a = start l in
-    let n = k .clashes-later .kept .1 .1 .1 .1 in (
-      sym (pair-next (now (a .args .b)) (a .args .v) (fits a) (l .loop .i) (t .if2 .taken) clash
-          (sym (k .clashes-later .ensures) ∙ c .if3 .left)) ∙ l .loop .inv .0,
-      omega (arith, n .0, l .loop .inv .1),
-      omega (arith, n .1 .0, l .loop .inv .2),
-      omega (arith, n .1 .1 .0, l .loop .inv .3),
-      omega (arith, n .1 .1 .1 .0, l .loop .inv .4),
-    )
+same-length-7 : tie.Need-same-length-7
+same-length-7 c = search needs
 
-returns-3 : tie.Need-returns-3 Inv-loop μ-loop
-unfolding anyClash
+same-length-8 : tie.Need-same-length-8
+same-length-8 c = search needs
+
+returns-3 : tie.Need-returns-3
 returns-3 c =
-    let l = c .before .before in
-    let a = start l in
-    sym (pair-image-end (now (a .args .b)) (a .args .v) (fits a) (l .loop .i) clash (c .if2 .left)) ∙ l .loop .inv .0
+    let d = c .before .before .before .before .before .before .before .before in
+    let e = d .before .before .before .before .before in
+    d .any-conflict .ensures ∙ sym (parts (e .before .before .before .before .before .before .before) (e .if2 .left))
 
 pub any-clash-spec : {M : Type 1} → statement M
 any-clash-spec =
     tie.close
     (tie.spec
-    Inv-loop
-    μ-loop
     returns
-    loop-holds
-    slice-aggregate-clashes-later
-    slice-aggregate-clashes-later-2
-    slice-aggregate-clashes-later-3
-    slice-aggregate-clashes-later-4
-    clashes-later-requires
+    any-shared-requires
+    same-length
+    same-length-2
+    same-length-3
     returns-2
-    add-i
-    loop-less
-    loop-again
+    any-conflict-requires
+    same-length-4
+    same-length-5
+    same-length-6
+    same-length-7
+    same-length-8
     returns-3)

@@ -7,7 +7,7 @@ use denote.Ref.{now}
 use lib.ListN.{length, drop}
 use Rattle.laws.specs.Any.{anyOf}
 use Rattle.store_record.specs.Reading.{imagesIn}
-use Rattle.store_clash.specs.Signed.{isSigned}
+use Rattle.store_keys.specs.Signed.{isSigned}
 use Rattle.store_clash.proofs.Walking.{signed-is}
 use Rattle.store_record.proofs.Walks.{records-size, any-image-end, any-here, any-next}
 use Rattle.store_clash.proofs.has_signer.Statement.{statement}

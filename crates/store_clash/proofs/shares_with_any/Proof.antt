@@ -8,8 +8,8 @@ use lib.ListN.{length, drop}
 use Rattle.laws.specs.Any.{anyOf}
 use Rattle.store_record.specs.Reading.{imagesIn}
 use Rattle.store_record.proofs.Walks.{records-size, any-image-end, any-here, any-next}
-use Rattle.store_clash.specs.Signed.{sharesWith}
-use Rattle.store_clash.proofs.Walking.{opened-at}
+use Rattle.store_keys.specs.Signed.{sharesWith}
+use Rattle.store_names.proofs.Opened.{opened-at}
 use Rattle.store_clash.proofs.shares_with_any.Statement.{statement}
 use Rattle.store_clash.proofs.shares_with_any.Tie as tie
 

@@ -1,17 +1,17 @@
 -- `store_names::index_all` meets its contract. The loop's invariant: the index has the aliases of the first i images. The measure is how many images are
 -- left.
 use Prim.Native.Nat.{_-_, _≤_, _<_}
-use mathlib.Core.Path.{_≡_, sym, _∙_}
+use mathlib.Core.Path.{_≡_}
 use native.Mathlib.Omega.{arith}
 use denote.Ref.{now}
-use lib.ListN.{getD}
+use lib.ListN.{length, getD}
 use Rattle.manifest.proofs.Indexing.{some-index}
 use Rattle.store_names.proofs.Numbering.{IndexedTo, indexed-none, indexed-next}
 use Rattle.store_names.proofs.index_all.Statement.{statement}
 use Rattle.store_names.proofs.index_all.Tie as tie
 
 abbrev Inv-loop : tie.InvT-loop
-Inv-loop b at counts images order₀ n₀ i₀ order n i = (i ≤ images) × IndexedTo b at counts i n order
+Inv-loop b at counts images order₀ n₀ i₀ order n i = (i ≤ images) × IndexedTo b at counts (length order₀) i n order
 
 abbrev μ-loop : tie.MeasureT-loop
 μ-loop b at counts images order₀ n₀ i₀ order n i = images - i
@@ -32,7 +32,7 @@ abbrev turn : tie.After-slice-known2 Inv-loop μ-loop → tie.In-loop Inv-loop �
 turn c = c .before .before .before .before .before
 
 loop-holds : tie.Need-loop-holds Inv-loop μ-loop
-loop-holds c = (omega arith, indexed-none _ _ _ _ (c .before .before .before .before .pre .3))
+loop-holds c = (omega arith, indexed-none _ _ _ _)
 
 mul-count : tie.Need-mul-count Inv-loop μ-loop
 mul-count c = omega (arith, few c)
@@ -51,7 +51,7 @@ index-image-requires c κs =
       some-index (x .index),
       few t,
       few-aliases t,
-      omega (arith, few t, few-aliases t, x .few, x .room),
+      omega (arith, few t, few-aliases t, x .few, x .room, start t .pre .3),
       start t .pre .0 .each (l .i) (t .loop-test .taken),
     )
 
@@ -66,10 +66,10 @@ loop-again c =
     let t = turn c in
     let l = t .before .loop in
     let e = c .before .before .index-image .ensures in
-    (omega (arith, t .loop-test .taken), indexed-next _ _ _ (l .i) (l .n) (l .order) (l .inv .1) (few-aliases t) _ _ (e .0) (e .1) (e .2))
+    (omega (arith, t .loop-test .taken), indexed-next _ _ _ _ (l .i) (l .n) (l .order) (l .inv .1) (few-aliases t) _ _ (e .0) (e .1) (e .2))
 
 same-length : tie.Need-same-length Inv-loop μ-loop
-same-length c = c .before .loop .inv .1 .room ∙ sym (c .before .before .before .before .before .before .pre .3)
+same-length c = c .before .loop .inv .1 .room
 
 returns : tie.Need-returns Inv-loop μ-loop
 returns c =

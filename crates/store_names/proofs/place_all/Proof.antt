@@ -1,7 +1,7 @@
 -- `store_names::place_all` meets its contract. The loop's invariant: the positions of the aliases of the first i images are written. The measure is how
 -- many images are left.
 use Prim.Native.Nat.{ℕ, _+_, _-_, _*_, _≤_, _<_}
-use mathlib.Core.Path.{_≡_, sym, _∙_}
+use mathlib.Core.Path.{_≡_, refl, sym, _∙_}
 use native.Mathlib.Omega.{arith}
 use borrow.Author.Needs.{needs}
 use borrow.Rule.Slice.PartMut.{midOf, mid-len}
@@ -18,15 +18,15 @@ use Rattle.store_names.proofs.place_all.Statement.{statement}
 use Rattle.store_names.proofs.place_all.Tie as tie
 
 abbrev Inv-loop : tie.InvT-loop
-Inv-loop b at₀ counts₀ v places i₀ at counts i = (i ≤ v .count) × PlacedUpTo i b v at counts
+Inv-loop b own₀ at₀ counts₀ v places i₀ own at counts i = (i ≤ v .count) × PlacedUpTo i b v at counts × (length own ≡ length own₀)
 
 abbrev μ-loop : tie.MeasureT-loop
-μ-loop b at₀ counts₀ v places i₀ at counts i = v .count - i
+μ-loop b own₀ at₀ counts₀ v places i₀ own at counts i = v .count - i
 
 -- a turn of the loop: the image whose aliases it writes
 module _ (t : tie.In-loop Inv-loop μ-loop) where
   abbrev start : tie.Start Inv-loop μ-loop
-  start = t .before .before .before .before .before
+  start = t .before .before .before .before .before .before
 
   abbrev reached : Record
   reached = getD (start .args .t2 .records) (t .before .loop .i) noRecord
@@ -51,11 +51,14 @@ module _ (t : tie.In-loop Inv-loop μ-loop) where
   lent = mid-len first (length (t .before .loop .at)) (t .before .loop .at) (omega arith)
 
 -- the turn in which aliases were written
-abbrev turn : tie.After-slice-known3 Inv-loop μ-loop → tie.In-loop Inv-loop μ-loop
-turn c = c .before .before .before .before .before .before
+abbrev turn : tie.After-slice-known5 Inv-loop μ-loop → tie.In-loop Inv-loop μ-loop
+turn c = c .before .before .before .before .before .before .before .before .before
+
+abbrev placed : tie.After-slice-known5 Inv-loop μ-loop → tie.After-place-self Inv-loop μ-loop
+placed c = c .before .before .before .before
 
 loop-holds : tie.Need-loop-holds Inv-loop μ-loop
-loop-holds c = let p = c .before .before .before .pre in (omega arith, placed-none _ _ _ _ (p .1) (p .2))
+loop-holds c = let p = c .before .before .before .before .pre in (omega arith, placed-none _ _ _ _ (p .2) (p .3), refl)
 
 mul-r : tie.Need-mul-r Inv-loop μ-loop
 mul-r c = omega (arith, few c)
@@ -73,13 +76,13 @@ mul-first : tie.Need-mul-first Inv-loop μ-loop
 mul-first c = omega (arith, few (c .before .before))
 
 mul-place-self : tie.Need-mul-place-self Inv-loop μ-loop
-mul-place-self c = omega (arith, few (c .before .before))
+mul-place-self c = omega (arith, few (c .before .before .before))
 
 sub-place-self : tie.Need-sub-place-self Inv-loop μ-loop
-sub-place-self c = omega (arith, fits (c .before .before))
+sub-place-self c = omega (arith, fits (c .before .before .before))
 
 part-place-self-start : tie.Need-part-place-self-start Inv-loop μ-loop
-part-place-self-start c = omega (arith, fits (c .before .before))
+part-place-self-start c = omega (arith, fits (c .before .before .before))
 
 part-place-self-end : tie.Need-part-place-self-end Inv-loop μ-loop
 part-place-self-end c = search needs
@@ -87,11 +90,11 @@ part-place-self-end c = search needs
 place-self-requires : tie.Need-place-self-requires Inv-loop μ-loop
 unfolding between
 place-self-requires c κs =
-    let t = c .before .before .before in
-    (inside t .text, inside t .within, opened t _, omega (arith, lent t, fits t))
+    let t = c .before .before .before .before in
+    (inside t .text, inside t .within, opened t _, omega (arith, t .before .loop .inv .2, start t .pre .1), omega (arith, lent t, fits t))
 
 cast-counts : tie.Need-cast-counts Inv-loop μ-loop
-cast-counts c = omega (arith, c .before .before .place-self .ensures .0)
+cast-counts c = omega (arith, placed c .place-self .ensures .0)
 
 mul-counts : tie.Need-mul-counts Inv-loop μ-loop
 mul-counts c = omega (arith, few (turn c))
@@ -110,21 +113,25 @@ unfolding between
 loop-again c =
     let t = turn c in
     let l = t .before .loop in
-    let e = c .before .before .place-self .ensures in (
+    let e = placed c .place-self .ensures in (
       omega (arith, t .loop-test .taken),
-      placed-next _ _ _ _ (l .i) (l .inv .1) (few t) (c .before .before .place-self .result) _ (e .0) (omega (arith, e .1, lent t, fits t)) (e .3),
+      placed-next _ _ _ _ (l .i) (l .inv .1) (few t) (placed c .place-self .result) _ (e .0) (omega (arith, e .1, lent t, fits t)) (e .3),
+      e .4 ∙ l .inv .2,
     )
 
 same-length : tie.Need-same-length Inv-loop μ-loop
-same-length c = c .before .loop .inv .1 .at-room ∙ sym (c .before .before .before .before .before .pre .1)
+same-length c = c .before .loop .inv .2
 
 same-length-2 : tie.Need-same-length-2 Inv-loop μ-loop
-same-length-2 c = c .before .loop .inv .1 .counts-room ∙ sym (c .before .before .before .before .before .pre .2)
+same-length-2 c = c .before .loop .inv .1 .at-room ∙ sym (c .before .before .before .before .before .before .pre .2)
+
+same-length-3 : tie.Need-same-length-3 Inv-loop μ-loop
+same-length-3 c = c .before .loop .inv .1 .counts-room ∙ sym (c .before .before .before .before .before .before .pre .3)
 
 returns : tie.Need-returns Inv-loop μ-loop
 returns c =
     let l = c .before .loop in
-    let e : l .i ≡ c .before .before .before .before .before .args .t2 .count = omega (arith, l .inv .0, c .loop-test .left) in
+    let e : l .i ≡ c .before .before .before .before .before .before .args .t2 .count = omega (arith, l .inv .0, c .loop-test .left) in
     rw e at (l .inv .1)
 
 pub place-all-spec : {M : Type 1} → statement M
@@ -152,4 +159,5 @@ place-all-spec =
     loop-again
     same-length
     same-length-2
+    same-length-3
     returns)

@@ -15,11 +15,14 @@ use Rattle.test_facade.proofs.show_matches.Tie as tie
 slice-aggregate-place-self : tie.Need-slice-aggregate-place-self
 slice-aggregate-place-self c = search needs
 
+slice-aggregate-place-self-2 : tie.Need-slice-aggregate-place-self-2
+slice-aggregate-place-self-2 c = search needs
+
 place-self-requires : tie.Need-place-self-requires
 place-self-requires c κs =
-    let a = c .before .before .before .before .before in
+    let a = c .before .before .before .before .before .before in
     let t = now (a .args .t) in
-    (omega arith, omega arith, rw (take-all (length t - 0) t (omega arith)) (a .pre .1), omega arith)
+    (omega arith, omega arith, rw (take-all (length t - 0) t (omega arith)) (a .pre .1), omega arith, omega arith)
 
 slice-aggregate-index-names : tie.Need-slice-aggregate-index-names
 slice-aggregate-index-names c = search needs
@@ -29,9 +32,9 @@ slice-aggregate-index-names-2 c = search needs
 
 index-names-requires : tie.Need-index-names-requires
 index-names-requires c κs =
-    let p = c .before .before .before .place-self in
+    let p = c .before .before .before .before .place-self in
     let e = p .ensures in
-    let room : p .result ≤ length (p .last .1 .1 .1 .1 .0) = omega (arith, e .0, e .1) in (
+    let room : p .result ≤ length (p .last .1 .1 .1 .1 .1 .0) = omega (arith, e .0, e .1) in (
       λ k l. subst (NumberOf _ _) (zero-add k) (names-number _ _ 0 (p .result) _ (e .3) (omega arith) k l),
       e .0,
       e .0,
@@ -46,7 +49,7 @@ array-share-prefix-order c = search needs
 slice-aggregate-show-rules-2 : tie.Need-slice-aggregate-show-rules-2
 slice-aggregate-show-rules-2 c =
     let k = c .before .before .before .index-names in
-    let p = c .before .before .before .before .before .before .before .place-self in
+    let p = c .before .before .before .before .before .before .before .before .place-self in
     sym (length-take-le _ _ (omega (arith, p .ensures .0, k .ensures .1)))
 
 show-rules-requires : tie.Need-show-rules-requires
@@ -60,6 +63,7 @@ show-matches-spec =
     tie.close
     (tie.spec
     slice-aggregate-place-self
+    slice-aggregate-place-self-2
     place-self-requires
     slice-aggregate-index-names
     slice-aggregate-index-names-2

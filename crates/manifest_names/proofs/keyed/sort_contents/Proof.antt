@@ -4,7 +4,7 @@ use mathlib.Core.Path.{sym}
 use native.Mathlib.Omega.{arith}
 use lib.Seq.{length-take-le}
 use Rattle.manifest_fields.proofs.Founds.{missing-members}
-use Rattle.manifest_forms.proofs.Groups.{group-at}
+use Rattle.manifest_repeat.proofs.Groups.{group-at}
 use Rattle.manifest_names.proofs.Elsewhere.{once-settled}
 use Rattle.manifest_names.proofs.Founds.{found-grouped, its-object}
 use Rattle.manifest_names.proofs.Keying.{placed-keys, no-contents, contents-sorted}

@@ -1,0 +1,3 @@
+pub mod Resolve
+pub mod Answers
+pub mod Found

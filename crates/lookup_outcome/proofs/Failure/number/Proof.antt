@@ -1,0 +1,29 @@
+-- `lookup_outcome::Failure::number` meets its contract, for each failure. Assumes nothing.
+use Rattle.lookup_outcome.specs.Outcome.{failureNumber}
+use borrow.Author.Needs.{needs}
+use Rattle.lookup_outcome.proofs.Failure.number.Statement.{statement}
+use Rattle.lookup_outcome.proofs.Failure.number.Tie as tie
+
+enum-told : tie.Need-enum-told
+enum-told c = search needs
+
+enum-told-2 : tie.Need-enum-told-2
+enum-told-2 c = search needs
+
+enum-told-3 : tie.Need-enum-told-3
+enum-told-3 c = search needs
+
+returns : tie.Need-returns
+unfolding failureNumber
+returns c = search needs
+
+returns-2 : tie.Need-returns-2
+unfolding failureNumber
+returns-2 c = search needs
+
+returns-3 : tie.Need-returns-3
+unfolding failureNumber
+returns-3 c = search needs
+
+pub number-spec : {M : Type 1} → statement M
+number-spec = tie.close (tie.spec enum-told enum-told-2 enum-told-3 returns returns-2 returns-3)

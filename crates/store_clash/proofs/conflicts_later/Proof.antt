@@ -1,0 +1,128 @@
+-- `store_clash::conflicts_later` meets its contract: where no later image is of the signer none has a layer key of it.
+use Prim.Native.Nat.{_+_}
+use mathlib.Core.Path.{sym, _∙_}
+use native.Mathlib.Omega.{arith}
+use borrow.Author.Needs.{needs}
+use borrow.Author.Tests.{not-true}
+use denote.Ref.{now}
+use lib.ListN.{getD}
+use Rattle.store_record.specs.Reading.{between, noRecord, RecordIn}
+use Rattle.store_names.proofs.Opened.{opened-at}
+use Rattle.store_clash.proofs.Walking.{layers-none, layers-held}
+use Rattle.store_clash.proofs.conflicts_later.Statement.{statement}
+use Rattle.store_clash.proofs.conflicts_later.Tie as tie
+
+abbrev start : tie.After-r → tie.Start
+start c = c .before .before .before .before .before .before
+
+-- where a later image is of the signer
+abbrev read : tie.Else1 → tie.After-r
+read c = c .before .before .before
+
+-- the record lies inside the store
+inside : (a : tie.Start) → RecordIn (now (a .args .b)) (getD (a .args .t2 .records) (a .args .i .0) noRecord)
+inside a = a .pre .0 .fills .each (a .args .i .0) (a .pre .1)
+
+mul-r : tie.Need-mul-r
+mul-r c = let p = c .before .before .before .before .before .pre in omega (arith, p .0 .fills .few, p .1)
+
+element-copy-out-r : tie.Need-element-copy-out-r
+element-copy-out-r c = let p = c .before .before .before .before .before .pre in omega (arith, p .0 .fills .few, p .1)
+
+add-has-signer : tie.Need-add-has-signer
+add-has-signer c = let p = start c .pre in omega (arith, p .0 .fills .few, p .1)
+
+sub-has-signer : tie.Need-sub-has-signer
+sub-has-signer c = let r = inside (start c) in omega (arith, r .signer)
+
+part-has-signer-start : tie.Need-part-has-signer-start
+part-has-signer-start c = let r = inside (start c) in omega (arith, r .signer)
+
+part-has-signer-end : tie.Need-part-has-signer-end
+part-has-signer-end c = let r = inside (start c) in omega (arith, r .manifest, r .text, r .within)
+
+has-signer-requires : tie.Need-has-signer-requires
+has-signer-requires c κs = start (c .before) .pre .0 .fills
+
+returns : tie.Need-returns
+unfolding between
+returns c =
+    let a = start (c .before .before .before) .args in
+    sym (layers-held (now (a .b)) (a .t2) (a .i .0 + 1) _
+    ∙ layers-none (now (a .b)) (a .t2) (a .i .0 + 1) _ _ _ (sym (c .before .has-signer .ensures) ∙ not-true _ (c .if1 .taken)))
+
+mul-p : tie.Need-mul-p
+mul-p c = let p = start (read c) .pre in omega (arith, p .0 .fills .few, p .1)
+
+array-copy-out-p : tie.Need-array-copy-out-p
+array-copy-out-p c = let p = start (read c) .pre in omega (arith, p .0 .fills .few, p .1)
+
+sub-s : tie.Need-sub-s
+sub-s c = let r = inside (start (read (c .before))) in omega (arith, r .text)
+
+part-s-start : tie.Need-part-s-start
+part-s-start c = let r = inside (start (read (c .before))) in omega (arith, r .text)
+
+part-s-end : tie.Need-part-s-end
+part-s-end c = let r = inside (start (read (c .before))) in omega (arith, r .within)
+
+sub-signer : tie.Need-sub-signer
+sub-signer c = let r = inside (start (read (c .before .before))) in omega (arith, r .signer)
+
+part-signer-start : tie.Need-part-signer-start
+part-signer-start c = let r = inside (start (read (c .before .before))) in omega (arith, r .signer)
+
+part-signer-end : tie.Need-part-signer-end
+part-signer-end c = let r = inside (start (read (c .before .before))) in omega (arith, r .manifest, r .text, r .within)
+
+conflicts-from-requires : tie.Need-conflicts-from-requires
+unfolding between
+conflicts-from-requires c κs =
+    let p = start (read (c .before .before .before .before .before .before .before)) .pre in
+    (opened-at _ _ _ (p .0) _ (p .1) _, p .0, p .2)
+
+same-length : tie.Need-same-length
+same-length c = search needs
+
+same-length-2 : tie.Need-same-length-2
+same-length-2 c = search needs
+
+same-length-3 : tie.Need-same-length-3
+same-length-3 c = search needs
+
+same-length-4 : tie.Need-same-length-4
+same-length-4 c = search needs
+
+returns-2 : tie.Need-returns-2
+unfolding between
+returns-2 c =
+    let k = c .before .before .before .before .before .before .before .before in
+    let a = start (read (k .before .before .before .before .before .before .before .before)) .args in
+    k .conflicts-from .ensures ∙ sym (layers-held (now (a .b)) (a .t2) (a .i .0 + 1) _)
+
+pub conflicts-later-spec : {M : Type 1} → statement M
+conflicts-later-spec =
+    tie.close
+    (tie.spec
+    mul-r
+    element-copy-out-r
+    add-has-signer
+    sub-has-signer
+    part-has-signer-start
+    part-has-signer-end
+    has-signer-requires
+    returns
+    mul-p
+    array-copy-out-p
+    sub-s
+    part-s-start
+    part-s-end
+    sub-signer
+    part-signer-start
+    part-signer-end
+    conflicts-from-requires
+    same-length
+    same-length-2
+    same-length-3
+    same-length-4
+    returns-2)

@@ -1,0 +1,115 @@
+// Loads images into a store and resolves their layers as the lines of standard input say, and prints what comes back. Beside the lines of `test_lines`:
+//
+//   resolve PLACE N HEX    resolves the layers of the image at a place, with the layer list HEX, each byte as two hexadecimal digits, and an output
+//                          buffer of N bytes, each 0xEE; prints the number and the value, then the output and what follows it as `show` does
+use reference::ImageIndex;
+use test_lines::FILL;
+use test_lines::Number;
+use test_lines::State;
+ghost use Prim.Native.Nat.{_≤_, _*_};
+ghost use lib.ListN.{length};
+
+// Resolves with a layer list that is written into `list`, and this output buffer.
+fn resolve_into(
+    hex: &[u8],
+    list: &mut [u8],
+    store: &[u8],
+    used: usize,
+    place: usize,
+    out: &mut [u8],
+)
+    requires { ⌜ length (now list) * 2 ≤ length (now hex) ⌝ }
+{
+    test_lines::write_pairs(hex, list);
+    let a = lookup::resolve(store, used, list, ImageIndex(place), out);
+    test_lines::print_two(a.number, a.value);
+    let length = if a.number == 0 { a.value } else { 0 };
+    test_lines::show(out, length);
+}
+
+// The layer list, in hexadecimal digits.
+fn with_list(hex: &[u8], store: &[u8], used: usize, place: usize, out: &mut [u8]) {
+    let mut space = [0u8; 2048];
+    let list: &mut [u8] = &mut space;
+    let n = hex.len() / 2;
+    if list.len() < n {
+        test_lines::print_bad();
+        return;
+    }
+    if !test_lines::are_pairs(hex) {
+        test_lines::print_bad();
+        return;
+    }
+    resolve_into(hex, &mut list[0..n], store, used, place, out);
+}
+
+// How long the output buffer is, a space, and the layer list.
+fn with_buffer(words: &[u8], store: &[u8], used: usize, place: usize) {
+    let mut space = [FILL; 4096];
+    let out: &mut [u8] = &mut space;
+    let end = test_lines::find(words, 0, b' ');
+    if end == words.len() {
+        test_lines::print_bad();
+        return;
+    }
+    let from = end + 1;
+    match test_lines::decimal(&words[0..end]) {
+        Number::Bad => test_lines::print_bad(),
+        Number::Is(n) => {
+            if out.len() < n {
+                test_lines::print_bad();
+                return;
+            }
+            with_list(&words[from..], store, used, place, &mut out[0..n]);
+        }
+    }
+}
+
+// `resolve`: the place of an image, a space, and what follows.
+fn resolve(words: &[u8], store: &[u8], used: usize) {
+    let end = test_lines::find(words, 0, b' ');
+    if end == words.len() {
+        test_lines::print_bad();
+        return;
+    }
+    let from = end + 1;
+    match test_lines::decimal(&words[0..end]) {
+        Number::Bad => test_lines::print_bad(),
+        Number::Is(place) => with_buffer(&words[from..], store, used, place),
+    }
+}
+
+// One line; answers the state after it.
+fn obey(line: &[u8], buffer: &mut [u8], t: State) -> State
+    requires { ⌜ t .size ≤ length (now buffer) ⌝ }
+    ensures { λ r. ⌜ r .size ≤ length (now (buffer .entry)) ⌝ }
+{
+    let resolved = test_lines::after(line, b"resolve ");
+    if resolved == 0 {
+        return test_lines::obey(line, buffer, t);
+    }
+    let size = t.size;
+    resolve(&line[resolved..], &buffer[0..size], t.used);
+    t
+}
+
+// Each line of s; what follows the last line end is none.
+fn obey_all(s: &[u8], buffer: &mut [u8]) {
+    let mut t = State { size: 0, used: 0 };
+    let mut start = 0;
+    while start < s.len() {
+        let end = test_lines::find(s, start, b'\n');
+        if end == s.len() {
+            return;
+        }
+        t = obey(&s[start..end], buffer, t);
+        start = end + 1;
+    }
+}
+
+fn main() {
+    let mut input = [0u8; 131072];
+    let n = io::read_full(0, &mut input);
+    let mut buffer = [FILL; 32768];
+    obey_all(&input[..n], &mut buffer);
+}
