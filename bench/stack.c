@@ -1,6 +1,7 @@
-/* stack canonical|load|judge|resolve FILE...: prints for each file how many bytes
- * of stack acon_canonical, acon_load, acon_judge or acon_resolve used. The call
- * runs on a stack that is filled with a pattern; the lowest byte that changed
+/* stack [any] canonical|load|judge|resolve FILE...: prints for each file how many
+ * bytes of stack acon_canonical, acon_load, acon_judge or acon_resolve used, and
+ * the number that it answered. Any but 0 ends the run, unless `any` is given. The
+ * call runs on a stack that is filled with a pattern; the lowest byte that changed
  * shows how far down it went. For all but acon_canonical a file is given without
  * its ending: the store stands in FILE.store, the image that is loaded in FILE.id
  * and FILE.json, the layer list in FILE.layers and the place of the image whose
@@ -116,13 +117,14 @@ static const struct call *named(const char *name)
 
 int main(int argc, char **argv)
 {
-    const struct call *c = argc < 2 ? NULL : named(argv[1]);
+    int any = argc > 1 && strcmp(argv[1], "any") == 0;
+    const struct call *c = argc < 2 + any ? NULL : named(argv[1 + any]);
     if (!c)
         return 2;
     stack = mmap(NULL, STACK, PROT_READ | PROT_WRITE, MAP_PRIVATE | MAP_ANONYMOUS, -1, 0);
     if (stack == MAP_FAILED)
         return 1;
-    for (int i = 2; i < argc; i++) {
+    for (int i = 2 + any; i < argc; i++) {
         if (c->text)
             text_len = read_file(argv[i], c->text, text, sizeof text);
         if (c->stores)
@@ -132,11 +134,11 @@ int main(int argc, char **argv)
         if (c->resolves)
             place = read_place(argv[i]);
         size_t bytes = measure(c->body);
-        if (acon_number(answer) != 0) {
+        if (!any && !acon_is_done(answer)) {
             fprintf(stderr, "stack: %s is refused by %u\n", argv[i], acon_number(answer));
             return 1;
         }
-        printf("%s\t%zu\n", argv[i], bytes);
+        printf("%s\t%zu\t%u\n", argv[i], bytes, acon_number(answer));
     }
     return 0;
 }

@@ -1,6 +1,6 @@
 /* Host interface of the ACON library. Link target/staticlib/libacon.a.
  *
- * Every function answers one 64-bit number:
+ * Every call answers one 64-bit number:
  *
  *   bits  0 to  7   the number below: 0 done, anything else a refusal
  *   bits  8 to 31   the first value of the answer
@@ -10,15 +10,73 @@
  * is given. In a refusal both values are 0 unless said otherwise, and no lent
  * byte has changed.
  *
- * Pointers are never null, also where their length is 0. What a function may
- * write must share no byte with anything else that is lent to it; nothing in
- * the library can check that.
+ * Guarantees
+ *
+ * Answers      Every call ends with an answer, whatever bytes it is lent.
+ * Reentrant    A call keeps nothing for the next one. Threads may call at the
+ *              same time, as long as none writes what another is lent.
+ * No heap      Nothing is allocated, and nothing has to be freed.
+ * No globals   The archive has constants, and no variables.
+ * Alignment    Any: all that is lent is bytes.
+ * libc         Only memcpy and memset are called.
+ * Stack        At most, measured on the inputs that go deepest, refused ones too:
+ *                acon_canonical   28 KB
+ *                acon_load       180 KB
+ *                acon_judge      184 KB
+ *                acon_resolve    220 KB
+ * NULL         A pointer may be NULL where its length is 0, and nowhere else.
+ *              This header sees to it, with gcc and clang: the call then lends
+ *              a byte of its own, which is not read. With other compilers no
+ *              pointer may be NULL.
+ * Overlap      Forbidden. What a call may write must share no byte with
+ *              anything else that is lent to it. What is only read may overlap.
+ *              Nobody can check this: the library is lent addresses, and two
+ *              addresses that are far apart can be mapped to the same memory.
+ *              The proofs take it for granted. A compiler sees it only where
+ *              one call names the same pointer twice.
+ * Platform     x86-64 with ELF objects and the System V calling convention.
+ *
+ * What a test can see of these is tested, by tests/header.py and tests/stack.py.
  */
 #ifndef ACON_H
 #define ACON_H
 
 #include <stddef.h>
 #include <stdint.h>
+
+/* Version of this interface. */
+#define ACON_VERSION "1.0.0"
+#define ACON_VERSION_MAJOR 1
+#define ACON_VERSION_MINOR 0
+#define ACON_VERSION_PATCH 0
+
+/* What a compiler can check of a call. With these gcc -Wall warns of an output
+ * that is the same pointer as an input (-Wrestrict), of a dropped answer
+ * (-Wunused-result), and of NULL with a length other than 0 (-Wnonnull). In C++
+ * and in compilers that do not have them they are nothing. */
+#if defined(__GNUC__) && !defined(__cplusplus)
+#define ACON_RESTRICT __restrict
+#define ACON_USE __attribute__((warn_unused_result))
+#else
+#define ACON_RESTRICT
+#define ACON_USE
+#endif
+#if defined(__GNUC__) && __GNUC__ >= 10 && !defined(__cplusplus)
+#define ACON_ACCESS(mode, pointer, length) __attribute__((access(mode, pointer, length)))
+#else
+#define ACON_ACCESS(mode, pointer, length)
+#endif
+
+/* Where names of symbols can be given, each call below is an inline function,
+ * which lends no NULL where a length is 0; they stand at the end. Elsewhere it is
+ * the archive's. */
+#if defined(__GNUC__) && defined(__ELF__)
+#define ACON_CALL ACON_USE static inline uint64_t
+#define ACON_SYMBOL(name) __asm__(name)
+#else
+#define ACON_CALL ACON_USE uint64_t
+#define ACON_SYMBOL(name)
+#endif
 
 #ifdef __cplusplus
 extern "C" {
@@ -61,6 +119,8 @@ enum { ACON_TEXT_MAX = 16384, ACON_NESTING_MAX = 8 };
  * writes: 64 layers of 49 bytes. */
 enum { ACON_IMAGES_MAX = 64, ACON_REPORT_MAX = 2 * 64 * 63, ACON_OUTPUT_MAX = 64 * 49 };
 
+/* ---- Reading an answer */
+
 /* The number of an answer. */
 static inline unsigned acon_number(uint64_t answer)
 {
@@ -79,6 +139,101 @@ static inline uint32_t acon_second(uint64_t answer)
     return (uint32_t)(answer >> 32);
 }
 
+/* Whether the number of an answer is 0. */
+static inline int acon_is_done(uint64_t answer)
+{
+    return acon_number(answer) == ACON_DONE;
+}
+
+/* A short sentence for a number, with no capital and no full stop, so that it
+ * can follow a colon. It is a constant; nothing has to be freed. */
+static inline const char *acon_text(unsigned number)
+{
+    switch (number) {
+    case ACON_DONE: return "done";
+    case ACON_TOO_LONG: return "the text has more than 16,384 bytes";
+    case ACON_NOT_UTF8: return "the text is not UTF-8";
+    case ACON_NOT_JSON: return "the text is not JSON of nesting at most 8";
+    case ACON_BAD_STRING: return "a string has a lone surrogate or a control character";
+    case ACON_BAD_NUMBER: return "a number is not whole, is -0 or is outside 32 bits with a sign";
+    case ACON_EQUAL_KEYS: return "an object has two equal keys";
+    case ACON_BAD_FIELD: return "a field of the manifest is unknown, missing or against its rules";
+    case ACON_BAD_FORM: return "a reference, a rule or an alias has a bad form";
+    case ACON_SAME_ALIAS: return "an alias stands twice in one group";
+    case ACON_BAD_ID: return "the Image ID has a bad form";
+    case ACON_BAD_STORE: return "the store is not well-formed";
+    case ACON_SAME_ID: return "the store holds an image with this ID";
+    case ACON_CLASH: return "the image clashes with one of the store";
+    case ACON_FULL: return "the store holds 64 images, or its buffer lacks space for the record";
+    case ACON_BAD_LIST: return "the layer list has a bad algorithm byte or a cut entry";
+    case ACON_NO_IMAGE: return "the store has no image at this place";
+    case ACON_NO_ALIAS: return "an alias on the layer's path is defined by no image";
+    case ACON_ENDLESS: return "the layer's path never meets a digest";
+    case ACON_ABSENT: return "the digest that the layer meets is not in the layer list";
+    case ACON_NO_SPACE: return "the output is longer than the buffer";
+    default: return "no call gives this number";
+    }
+}
+
+/* The answers of the four calls, by the names of their values. */
+typedef struct {
+    unsigned number;
+    size_t length; /* of the form, in bytes */
+} acon_form;
+
+typedef struct {
+    unsigned number;
+    size_t used; /* the new used count; 0 in a refusal, which is no used count */
+} acon_loaded;
+
+typedef struct {
+    unsigned number;
+    size_t pairs; /* of two bytes each */
+} acon_judged;
+
+typedef struct {
+    unsigned number;
+    size_t length; /* of the output, in bytes; 0 unless number is 0 */
+    size_t layer;  /* the first layer that fails; 0 unless number is 17, 18 or 19 */
+} acon_resolved;
+
+static inline acon_form acon_form_of(uint64_t answer)
+{
+    acon_form form;
+    form.number = acon_number(answer);
+    form.length = acon_first(answer);
+    return form;
+}
+
+static inline acon_loaded acon_loaded_of(uint64_t answer)
+{
+    acon_loaded loaded;
+    loaded.number = acon_number(answer);
+    loaded.used = acon_first(answer);
+    return loaded;
+}
+
+static inline acon_judged acon_judged_of(uint64_t answer)
+{
+    acon_judged judged;
+    judged.number = acon_number(answer);
+    judged.pairs = acon_first(answer);
+    return judged;
+}
+
+static inline acon_resolved acon_resolved_of(uint64_t answer)
+{
+    acon_resolved resolved;
+    resolved.number = acon_number(answer);
+    resolved.length = resolved.number == ACON_DONE ? acon_first(answer) : 0;
+    resolved.layer = resolved.number >= ACON_NO_ALIAS && resolved.number <= ACON_ABSENT
+                         ? acon_first(answer)
+                         : 0;
+    return resolved;
+}
+
+/* ---- The calls */
+
 /* Writes the canonical form of a JSON text into out.
  *
  * Keys stand in rising order of their unescaped UTF-8 bytes at every level, a
@@ -87,10 +242,19 @@ static inline uint32_t acon_second(uint64_t answer)
  * each by one backslash. Arrays keep their order. The form is never longer than
  * the text, so a buffer of text_len bytes is always enough.
  *
- * Number: 0 to 6 or 20. First value: the length of the form. Second value: 0.
+ * Asks 1 to 6 of the text, and 20 of the buffer.
+ *
+ * Answers an acon_form. First value: the length of the form. Second value: 0.
  * On success the bytes of out past the form stay as they were.
+ *
+ * Example:
+ *     acon_form form = acon_form_of(acon_canonical(text, text_len, out, sizeof out));
+ *     if (form.number == ACON_DONE) fwrite(out, 1, form.length, stdout);
+ *     else printf("refused: %s\n", acon_text(form.number));
  */
-uint64_t acon_canonical(const uint8_t *text, size_t text_len, uint8_t *out, size_t out_len);
+ACON_CALL acon_canonical(const uint8_t *text, size_t text_len, uint8_t *ACON_RESTRICT out,
+                         size_t out_len)
+    ACON_SYMBOL("acon_lend_canonical") ACON_ACCESS(read_only, 1, 2) ACON_ACCESS(write_only, 3, 4);
 
 /* Loads an image into a store.
  *
@@ -100,12 +264,23 @@ uint64_t acon_canonical(const uint8_t *text, size_t text_len, uint8_t *out, size
  * HASH/SIGNER/MANIFEST, and the manifest as JSON text; its record, with the
  * manifest in canonical form, goes after those that are there.
  *
- * Number: 0 to 14. First value: the new used count. Second value: 0.
+ * Asks 1 to 9 of the manifest, 10 of the ID, 11 of the store, and 12 to 14 of
+ * the image and the store.
+ *
+ * Answers an acon_loaded. First value: the new used count. Second value: 0.
  * On success the bytes of the buffer past the record stay as they were, as do
- * those before it. A refusal changes no byte.
+ * those before it. A refusal changes no byte, and the caller keeps the used
+ * count that it has.
+ *
+ * Example:
+ *     uint64_t answer = acon_load(id, id_len, manifest, manifest_len, store, sizeof store, used);
+ *     if (acon_is_done(answer)) used = acon_loaded_of(answer).used;
+ *     else printf("not loaded: %s\n", acon_text(acon_number(answer)));
  */
-uint64_t acon_load(const uint8_t *id, size_t id_len, const uint8_t *manifest, size_t manifest_len,
-                   uint8_t *buffer, size_t buffer_len, size_t used);
+ACON_CALL acon_load(const uint8_t *id, size_t id_len, const uint8_t *manifest, size_t manifest_len,
+                    uint8_t *ACON_RESTRICT buffer, size_t buffer_len, size_t used)
+    ACON_SYMBOL("acon_lend_load") ACON_ACCESS(read_only, 1, 2) ACON_ACCESS(read_only, 3, 4)
+    ACON_ACCESS(write_only, 5, 6); /* by read_write gcc would ask a new buffer to have been set */
 
 /* Judges the images of a store by their launch policies, and writes a report.
  *
@@ -121,14 +296,21 @@ uint64_t acon_load(const uint8_t *id, size_t id_len, const uint8_t *manifest, si
  * leads to every other image. Pairs are no refusal, and the host decides what
  * follows from them.
  *
- * Number: 0, 11 or 20. It is 20 where the report buffer has fewer than two bytes
- * for each pair; ACON_REPORT_MAX bytes are always enough. First value: the number
- * of pairs. Second value: 0.
+ * Asks 11 of the store, and 20 of the report buffer: whether it has fewer than
+ * two bytes for each pair. ACON_REPORT_MAX bytes are always enough.
+ *
+ * Answers an acon_judged. First value: the number of pairs. Second value: 0.
  * On success the bytes of the report buffer past the pairs stay as they were. The
  * store is only read.
+ *
+ * Example:
+ *     uint64_t answer = acon_judge(store, sizeof store, used, report, sizeof report);
+ *     if (!acon_is_done(answer)) printf("not judged: %s\n", acon_text(acon_number(answer)));
+ *     else puts(acon_judged_of(answer).pairs == 0 ? "admitted" : "not admitted");
  */
-uint64_t acon_judge(const uint8_t *store, size_t store_len, size_t used, uint8_t *report,
-                    size_t report_len);
+ACON_CALL acon_judge(const uint8_t *store, size_t store_len, size_t used,
+                     uint8_t *ACON_RESTRICT report, size_t report_len)
+    ACON_SYMBOL("acon_lend_judge") ACON_ACCESS(read_only, 1, 2) ACON_ACCESS(write_only, 4, 5);
 
 /* Finds the layers of one image of a store, and writes their digests.
  *
@@ -148,16 +330,122 @@ uint64_t acon_judge(const uint8_t *store, size_t store_len, size_t used, uint8_t
  * has the same form as the list: an entry for each layer, in the order of the
  * manifest, twice for a layer that stands there twice.
  *
- * Number: 0, 11 or 15 to 20. Of 17, 18 and 19 the first layer that fails decides,
- * also where a later one has a lower number. It is 20 where no layer fails and
- * the output is longer than the buffer; ACON_OUTPUT_MAX bytes are always enough.
- * First value: the length of the output in bytes; in 17, 18 and 19 the index of
- * that layer in the manifest, from 0. Second value: 0.
+ * Asks 11 of the store, 15 of the list, 16 of the place, 17 to 19 of each layer,
+ * and 20 of the buffer. Of 17, 18 and 19 the first layer that fails decides, also
+ * where a later one has a lower number. It is 20 where no layer fails and the
+ * output is longer than the buffer; ACON_OUTPUT_MAX bytes are always enough.
+ *
+ * Answers an acon_resolved. First value: the length of the output in bytes; in
+ * 17, 18 and 19 the index of that layer in the manifest, from 0. Second value: 0.
  * On success the bytes of out past the output stay as they were. The store and
  * the list are only read.
+ *
+ * Example:
+ *     uint64_t answer = acon_resolve(store, sizeof store, used, list, list_n, 0, out, sizeof out);
+ *     acon_resolved r = acon_resolved_of(answer);
+ *     printf("%s: %zu bytes, layer %zu\n", acon_text(r.number), r.length, r.layer);
  */
-uint64_t acon_resolve(const uint8_t *store, size_t store_len, size_t used, const uint8_t *layers,
-                      size_t layers_len, size_t image, uint8_t *out, size_t out_len);
+ACON_CALL acon_resolve(const uint8_t *store, size_t store_len, size_t used, const uint8_t *layers,
+                       size_t layers_len, size_t image, uint8_t *ACON_RESTRICT out, size_t out_len)
+    ACON_SYMBOL("acon_lend_resolve") ACON_ACCESS(read_only, 1, 2) ACON_ACCESS(read_only, 4, 5)
+    ACON_ACCESS(write_only, 7, 8);
+
+/* ---- Right and wrong
+ *
+ * gcc -Wall warns of these:
+ *
+ *   wrong: acon_canonical(text, text_len, out, sizeof out);
+ *   right: answer = acon_canonical(text, text_len, out, sizeof out);
+ *          -Wunused-result: nobody would know whether out has been written.
+ *
+ *   wrong: answer = acon_canonical(out, text_len, out, sizeof out);
+ *   right: answer = acon_canonical(text, text_len, out, sizeof out);
+ *          -Wrestrict: the form cannot take the place of the text.
+ *
+ *   wrong: answer = acon_canonical(NULL, 2, out, sizeof out);
+ *   right: answer = acon_canonical(NULL, 0, out, sizeof out);
+ *          -Wnonnull, where the length is known to be other than 0.
+ *
+ * Nobody warns of these:
+ *
+ *   wrong: if (acon_canonical(text, text_len, out, sizeof out)) return 1;
+ *   right: if (!acon_is_done(acon_canonical(text, text_len, out, sizeof out))) return 1;
+ *          A success has a length, so it is not 0 as a whole.
+ *
+ *   wrong: puts((const char *)out);
+ *   right: fwrite(out, 1, acon_form_of(answer).length, stdout);
+ *          No byte 0 ends what a call writes.
+ *
+ *   wrong: used = acon_loaded_of(answer).used;
+ *   right: if (acon_is_done(answer)) used = acon_loaded_of(answer).used;
+ *          A refusal has 0 there, and the store would be lost.
+ *
+ *   wrong: answer = acon_load(id, id_len, manifest, manifest_len, store, used, used);
+ *   right: answer = acon_load(id, id_len, manifest, manifest_len, store, sizeof store, used);
+ *          The length is that of the whole buffer; else there is no space for the record.
+ *
+ *   wrong: admitted = acon_is_done(answer);
+ *   right: admitted = acon_is_done(answer) && acon_judged_of(answer).pairs == 0;
+ *          Pairs are no refusal.
+ *
+ *   wrong: fwrite(report, 1, acon_judged_of(answer).pairs, stdout);
+ *   right: fwrite(report, 2, acon_judged_of(answer).pairs, stdout);
+ *          A pair has two bytes.
+ */
+
+/* ---- How the calls reach the archive
+ *
+ * A call of the header has a symbol of its own, else it would be taken for the
+ * archive's, whose symbol has the name of the call. NULL with length 0 is replaced
+ * by a byte that is never read or written. NULL with another length stays, so that
+ * the first access shows the fault, and no byte is read that was not lent.
+ */
+#if defined(__GNUC__) && defined(__ELF__)
+uint64_t acon_symbol_canonical(const uint8_t *text, size_t text_len, uint8_t *out, size_t out_len)
+    ACON_SYMBOL("acon_canonical");
+uint64_t acon_symbol_load(const uint8_t *id, size_t id_len, const uint8_t *manifest,
+                          size_t manifest_len, uint8_t *buffer, size_t buffer_len, size_t used)
+    ACON_SYMBOL("acon_load");
+uint64_t acon_symbol_judge(const uint8_t *store, size_t store_len, size_t used, uint8_t *report,
+                           size_t report_len) ACON_SYMBOL("acon_judge");
+uint64_t acon_symbol_resolve(const uint8_t *store, size_t store_len, size_t used,
+                             const uint8_t *layers, size_t layers_len, size_t image, uint8_t *out,
+                             size_t out_len) ACON_SYMBOL("acon_resolve");
+
+ACON_CALL acon_canonical(const uint8_t *text, size_t text_len, uint8_t *ACON_RESTRICT out,
+                         size_t out_len)
+{
+    uint8_t none = 0;
+    return acon_symbol_canonical(text || text_len ? text : &none, text_len,
+                                 out || out_len ? out : &none, out_len);
+}
+
+ACON_CALL acon_load(const uint8_t *id, size_t id_len, const uint8_t *manifest, size_t manifest_len,
+                    uint8_t *ACON_RESTRICT buffer, size_t buffer_len, size_t used)
+{
+    uint8_t none = 0;
+    return acon_symbol_load(id || id_len ? id : &none, id_len,
+                            manifest || manifest_len ? manifest : &none, manifest_len,
+                            buffer || buffer_len ? buffer : &none, buffer_len, used);
+}
+
+ACON_CALL acon_judge(const uint8_t *store, size_t store_len, size_t used,
+                     uint8_t *ACON_RESTRICT report, size_t report_len)
+{
+    uint8_t none = 0;
+    return acon_symbol_judge(store || store_len ? store : &none, store_len, used,
+                             report || report_len ? report : &none, report_len);
+}
+
+ACON_CALL acon_resolve(const uint8_t *store, size_t store_len, size_t used, const uint8_t *layers,
+                       size_t layers_len, size_t image, uint8_t *ACON_RESTRICT out, size_t out_len)
+{
+    uint8_t none = 0;
+    return acon_symbol_resolve(store || store_len ? store : &none, store_len, used,
+                               layers || layers_len ? layers : &none, layers_len, image,
+                               out || out_len ? out : &none, out_len);
+}
+#endif
 
 #ifdef __cplusplus
 }
