@@ -160,7 +160,7 @@ def report_resolves(folder):
     webs = [(acon / check, 10, case.name) for case, acon, _, check, _ in worst]
     asked("Worst web over checking its store", *max(row for row in webs if row[2].startswith("web")))
     print("Worst of all stores over checking it: %.2f (%s)" % max((ratio, name) for ratio, _, name in webs))
-    print("Most stack of acon_resolve, in KB: %.2f" % (max(row[-1] for row in rows + worst) / 1024))
+    asked("Most stack of acon_resolve, in KB", max(row[-1] for row in rows + worst) / 1024, 192)
 
 
 def main():

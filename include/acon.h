@@ -21,9 +21,9 @@
  * libc         Only memcpy and memset are called.
  * Stack        At most, measured on the inputs that go deepest, refused ones too:
  *                acon_canonical   28 KB
- *                acon_load       180 KB
- *                acon_judge      184 KB
- *                acon_resolve    220 KB
+ *                acon_load       176 KB
+ *                acon_judge      164 KB
+ *                acon_resolve    190 KB
  * NULL         A pointer may be NULL where its length is 0, and nowhere else.
  *              This header sees to it, with gcc and clang: the call then lends
  *              a byte of its own, which is not read. With other compilers no

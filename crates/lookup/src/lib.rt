@@ -138,20 +138,28 @@ fn write_layers(
     }
 }
 
-// Opens the store, with parts of the arrays that resolving needs afterwards.
+// Opens the store, with parts of the arrays that resolving needs afterwards. The one that it does not need is made here, so that its place on the stack
+// is free again.
 fn open_store(
     b: &[u8],
     at: &mut [usize],
     order: &mut [u16],
     names: &mut [u16],
-    heads: &mut [u32],
     keys: &mut [u16],
 ) -> Opened
-    requires { ⌜ (length (now at) ≡ 4160) × (length (now order) ≡ 4160) × (length (now names) ≡ 4096) × (length (now heads) ≡ 4096) × (length (now keys) ≡ 16384) ⌝ }
+    requires { ⌜ (length (now at) ≡ 4160) × (length (now order) ≡ 4160) × (length (now names) ≡ 4096) × (length (now keys) ≡ 16384) ⌝ }
     ensures { λ r. ⌜ r .sound ≡ not (isBroken (length (now (b .entry))) (readRecords mostImages (now (b .entry)))) ⌝ }
     ensures { λ r. ⌜ (r .sound ≡ true → OpenedStore (now (b .entry)) (r .survey) (r .places)) ⌝ }
 {
-    store::open(b, &mut at[..4096], &mut order[..4096], names, heads, keys)
+    let mut heads = [0u32; 4096];
+    store::open(
+        b,
+        &mut at[..4096],
+        &mut order[..4096],
+        names,
+        &mut heads,
+        keys,
+    )
 }
 
 // Resolves the layers of an image among those in the first `used` bytes of a store, of which `layers` lists those that are present: writes their digests
@@ -173,9 +181,8 @@ pub fn resolve(
     let mut at = [0usize; 4160];
     let mut order = [0u16; 4160];
     let mut names = [0u16; 4096];
-    let mut heads = [0u32; 4096];
     let mut keys = [0u16; 16384];
-    let opened = open_store(b, &mut at, &mut order, &mut names, &mut heads, &mut keys);
+    let opened = open_store(b, &mut at, &mut order, &mut names, &mut keys);
     if !opened.sound {
         return answer::refused(out, 11);
     }

@@ -110,17 +110,27 @@ pub fn check_all(
         → Resolving (now (b .entry)) (now (keys .entry)) (now (next .entry)) (now (present .entry)) objects room refs ds
         → Checks refs (outcome ds (map (endOf room) (drop objects refs))) (now (numbers .exit)) r) ⌝ }
 {
+    let n = keys.len();
     let mut length = 0;
+    // the first that fails; none behind it is followed
+    let mut failing = n;
+    let mut why = Failure::Undefined;
     let mut e = objects;
-    while e < keys.len() {
+    while e < failing {
         match fate_of(b, keys, next, objects, e, present) {
-            Fate::Fails(f) => return Outcome::Fails(LayerIndex(e - objects), f),
+            Fate::Fails(f) => {
+                failing = e;
+                why = f;
+            }
             Fate::Found { number, size } => {
                 numbers[e - objects] = number as u16;
                 length += size;
             }
         }
         e += 1;
+    }
+    if failing < n {
+        return Outcome::Fails(LayerIndex(failing - objects), why);
     }
     Outcome::All(length)
 }

@@ -82,8 +82,8 @@ pub fn place_objects(b: &[u8], start: usize, end: usize, p: Places, keys: &mut [
     ensures { λ r. ⌜ (r ≤ 64) × (length (now (keys .exit)) ≡ length (now (keys .entry))) × (drop r (now (keys .exit)) ≡ drop r (now (keys .entry)))
         × AllStand (now (b .entry)) (take r (now (keys .exit))) (objects (take (end - start) (drop start (now (b .entry))))) ⌝ }
 {
-    let group = p.contents;
-    match group {
+    let objects = p.contents;
+    match objects {
         Found::Missing => 0,
         Found::At(at) => place_keys(&b[start..end], start, at, 6, keys),
     }

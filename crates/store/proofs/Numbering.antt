@@ -12,11 +12,10 @@ use lib.Seq.{length-take-le}
 use Rattle.laws.specs.Any.{anyOf}
 use Rattle.laws.proofs.Any.{any-map, any-pointwise}
 use Rattle.laws.proofs.Order.{by-test}
-use Rattle.text.specs.Answer.{form}
 use Rattle.text.specs.Question.{lowest}
 use Rattle.reference_digests.specs.declared.algorithm.Algorithm.{Algorithm}
 use Rattle.reference.specs.References.{image-id}
-use Rattle.manifest.specs.Number.{manifestTextNumber}
+use Rattle.manifest.specs.declared.Places.{Places}
 use Rattle.manifest.proofs.Asking.{nothing-asked, asked-first, asked-next, asked-none}
 use Rattle.manifest.proofs.Questions.{good-as-text}
 use Rattle.store_record.specs.Image.{Image}
@@ -29,11 +28,11 @@ use Rattle.store_record.proofs.Records.{head-length, record-short}
 use Rattle.store_record.proofs.Stores.{store-read}
 use Rattle.store_keys.specs.Clash.{clash}
 use Rattle.store_keys.specs.Signed.{one}
-use Rattle.store_clash.proofs.Clashing.{single, clash-form}
+use Rattle.store_clash.proofs.Clashing.{Single, single, clash-form}
 use Rattle.store.specs.Held.{held, isBroken}
 use Rattle.store.specs.Load.{among, noSpace, storeQuestions}
-use Rattle.store.specs.Loading.{imageWith, Digests, NumberLeft}
-use Rattle.store.proofs.Appending.{form-small, record-length}
+use Rattle.store.specs.Loading.{imageWith, Readied, Digests, NumberLeft}
+use Rattle.store.proofs.Appending.{record-length}
 use Rattle.store.proofs.Loading.{first-bytes}
 use Rattle.store.proofs.Opening.{unread-broken, read-broken}
 
@@ -60,39 +59,42 @@ module _ (buffer : List ℕ) (used : ℕ) (h : used ≤ length buffer) where
       let l : length (take used buffer) ≤ length buffer = omega (arith, length-take-le used buffer h) in
       ap (isBroken (length buffer)) held-in-use ∙ room-broken (take used buffer) (first-bytes buffer used bytes) (length buffer) l
 
-module _ (a : Algorithm) (signer digest manifest : List ℕ) where
+module _ (a : Algorithm) (signer digest text : List ℕ) where
   -- The image shares its one ID with those that have it.
-  pub shares-held : (xs : List Image) → anyOf (shareId (imageWith a signer digest manifest)) xs ≡ anyOf (hasId (image-id a signer digest)) xs
+  pub shares-held : (xs : List Image) → anyOf (shareId (imageWith a signer digest text)) xs ≡ anyOf (hasId (image-id a signer digest)) xs
   unfolding shareId anyOf
   shares-held xs = any-pointwise _ _ (λ y. or-false (hasId (image-id a signer digest) y)) xs
 
-  module _ (good : manifestTextNumber manifest ≡ 0) where
-    -- The image clashes with those of a store that it would clash with by the text of its manifest.
-    pub clashes-held :
-        (b : List ℕ) (v : Survey)
-        → anyOf (clash (imageWith a signer digest manifest)) (imagesIn b v) ≡ anyOf (clash (one a signer manifest)) (imagesIn b v)
-    unfolding imagesIn heldIn
-    clashes-held b v =
-        let rs = take (v .count) (v .records) in
-        any-map (heldIn b) (clash (imageWith a signer digest manifest)) rs
-        ∙ any-pointwise _ _ (λ r. clash-form a signer digest manifest (good-as-text manifest good) single) rs
-        ∙ sym (any-map (heldIn b) (clash (one a signer manifest)) rs)
+  -- The image clashes with those of a store that its manifest clashes with: no key has the manifest's digest.
+  pub clashes-held : {p : Places} → Readied text p → (b : List ℕ) (v : Survey)
+      → anyOf (clash (imageWith a signer digest text)) (imagesIn b v) ≡ anyOf (clash (one a signer text)) (imagesIn b v)
+  unfolding imagesIn heldIn
+  clashes-held k b v =
+      let rs = take (v .count) (v .records) in
+      let one-of : (y : Image) → Single y → clash (imageWith a signer digest text) y ≡ clash (one a signer text) y =
+      λ y s. ap (λ (t : List ℕ). clash (imageWith a signer digest t) y) (sym (k .own))
+      ∙ clash-form a signer digest text (good-as-text text (k .opens .good)) s
+      in
+      any-map (heldIn b) (clash (imageWith a signer digest text)) rs
+      ∙ any-pointwise _ _ (λ r. one-of (heldIn b r) single) rs
+      ∙ sym (any-map (heldIn b) (clash (one a signer text)) rs)
 
-    module _ (d : Digests a signer digest) (n : ℕ) (e : n ≡ length (form manifest)) where
-      -- The length of the image's record, which is small.
-      pub record-size : length (recordOf (imageWith a signer digest manifest)) ≡ headSize a n + n
-      record-size =
-          record-length a signer digest manifest n e ∙ ap (λ (k : ℕ). k + n) (head-length a signer digest n (d .signer-size) (d .digest-size))
+  module _ (d : Digests a signer digest) where
+    -- The length of the image's record, which is small.
+    pub record-size : length (recordOf (imageWith a signer digest text)) ≡ headSize a (length text) + length text
+    record-size =
+        record-length a signer digest text
+        ∙ ap (λ (k : ℕ). k + length text) (head-length a signer digest (length text) (d .signer-size) (d .digest-size))
 
-      pub size-small : headSize a n + n ≤ 16484
-      size-small =
-          omega (
-            arith,
-            record-size,
-            record-short (imageWith a signer digest manifest)
-                (record { algorithm = a; signer = signer; manifest = digest; ids = refl; signer-size = d .signer-size; manifest-size = d .digest-size })
-                (form-small manifest good),
-          )
+    pub size-small : length text ≤ 16384 → headSize a (length text) + length text ≤ 16484
+    size-small h =
+        omega (
+          arith,
+          record-size,
+          record-short (imageWith a signer digest text)
+              (record { algorithm = a; signer = signer; manifest = digest; ids = refl; signer-size = d .signer-size; manifest-size = d .digest-size })
+              h,
+        )
 
 -- 14, of records that fill the bytes, after which `left` are free
 module _ (b : List ℕ) (bytes : (j : ℕ) → getD b j 0 < 256) (xs : List Image) (e : readRecords mostImages b ≡ some xs) (left : ℕ) (x : Image) where

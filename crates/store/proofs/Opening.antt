@@ -144,3 +144,33 @@ module _ (b : List ℕ) (bytes : (j : ℕ) → getD b j 0 < 256) (v : Survey) (f
 
   pub apart-sound : all ≡ true → {t : Bool} → t ≡ not (idTwice (imagesIn b v) || anyClash (imagesIn b v)) → Sounding b v t places
   apart-sound e h = (h ∙ sym (ap not (by-fit (not-true (anyOf isUnfit (imagesIn b v)) (sym (g .0) ∙ e)))), λ t. g .1 e)
+
+-- what is known of a store after its manifests were opened, where its records could be read
+pub record Tried (b : List ℕ) (v : Survey) (sound : Bool) (places : List Places) : Type 0 where
+  pub broken : sound ≡ false → Sounding b v sound places
+  pub opened : sound ≡ true → OpenedStore b v places
+  pub apart : sound ≡ true → (t : Bool) → t ≡ not (idTwice (imagesIn b v) || anyClash (imagesIn b v)) → Sounding b v t places
+
+-- They could not.
+pub unread-tried : (b : List ℕ) (v : Survey) (sound : Bool) (places : List Places) → sound ≡ false → readRecords mostImages b ≡ none → Tried b v sound places
+unread-tried b v sound places f e =
+    record {
+      broken = λ h. subst (λ (t : Bool). Sounding b v t places) (sym f) (unread-sound b v places e);
+      opened = λ h. false-true (sym f ∙ h);
+      apart = λ h. false-true (sym f ∙ h);
+    }
+
+-- They could, and all manifests are fit or not.
+pub fit-tried : (b : List ℕ) → ((j : ℕ) → getD b j 0 < 256) → (v : Survey) → Fills b v → (places : List Places) (all : Bool) → Fitting b v all places
+    → Tried b v all places
+fit-tried b bytes v f places all g =
+    record {
+      broken = λ h. subst (λ (t : Bool). Sounding b v t places) (sym h) (unfit-sound b bytes v f places g h);
+      opened = g .1;
+      apart = λ h t e. apart-sound b bytes v f places g h e;
+    }
+
+-- The same of what they were found to be.
+pub tried-as : {b : List ℕ} {v : Survey} {sound t : Bool} {places q : List Places} → sound ≡ t → places ≡ q → Tried b v t q → Tried b v sound places
+tried-as {b} {v} {sound} {t} {places} {q} e f k =
+    subst (λ (x : Bool). Tried b v x places) (sym e) (subst (λ (x : List Places). Tried b v t x) (sym f) k)

@@ -11,6 +11,7 @@ use lib.ListN.{length, take, getD}
 use lib.Seq.{take-at, length-take-le}
 use Rattle.laws.proofs.Any.{or-none}
 use Rattle.laws.proofs.Order.{false-true}
+use Rattle.text.specs.Answer.{form}
 use Rattle.text.specs.Question.{lowest}
 use Rattle.text.proofs.Outcome.{refused-positive}
 use Rattle.reference_digests.specs.Algorithms.{digestBytes}
@@ -83,25 +84,25 @@ module _ (x : Image) (buffer : List ℕ) (used : ℕ) where
       fits = record { within = h; space = space (readRecords mostImages (take used buffer)) refl (rw held-within at e) }
 
 -- an ID, as its form was read
-module _ (size : ℕ) (images : Option (List Image)) (id manifest : List ℕ) where
+module _ (size : ℕ) (images : Option (List Image)) (id text : List ℕ) where
   -- Question 10 answers where it is of bad form,
-  pub bad-id : imageId id ≡ no-id → lowest (imageQuestions size images id manifest) ≡ 10
+  pub bad-id : imageId id ≡ no-id → lowest (imageQuestions size images id text) ≡ 10
   unfolding imageQuestions isNoId
   bad-id e = asked-first _ _ (rw e)
 
-  module _ (a : Algorithm) (signer digest : List ℕ) (e : imageId id ≡ image-id a signer digest) where
-    image-is : imageOf id manifest ≡ imageWith a signer digest manifest
+  module _ (own : form text ≡ text) (a : Algorithm) (signer digest : List ℕ) (e : imageId id ≡ image-id a signer digest) where
+    image-is : imageOf id text ≡ imageWith a signer digest text
     unfolding imageOf
-    image-is = rw e
+    image-is = rw (e, own)
 
     -- and is passed over where it is not.
-    good-id : lowest (imageQuestions size images id manifest) ≡ lowest (storeQuestions size images (imageWith a signer digest manifest))
+    good-id : lowest (imageQuestions size images id text) ≡ lowest (storeQuestions size images (imageWith a signer digest text))
     unfolding imageQuestions isNoId
     good-id = asked-next _ _ (rw e) ∙ ap (λ (x : Image). lowest (storeQuestions size images x)) image-is
 
     pub image-loads : {buffer : List ℕ} {used : ℕ} {r : Answer} {after : List ℕ}
-        → Loads (lowest (storeQuestions size images (imageWith a signer digest manifest))) (imageWith a signer digest manifest) buffer used r after
-        → Loads (lowest (imageQuestions size images id manifest)) (imageOf id manifest) buffer used r after
+        → Loads (lowest (storeQuestions size images (imageWith a signer digest text))) (imageWith a signer digest text) buffer used r after
+        → Loads (lowest (imageQuestions size images id text)) (imageOf id text) buffer used r after
     image-loads l = rw (good-id, image-is) l
 
 -- a digest at the start of an array is its first bytes
@@ -121,13 +122,17 @@ fault-positive BadForm = omega arith
 fault-positive RepeatedAlias = omega arith
 
 module _ (id manifest buffer : List ℕ) (used : ℕ) where
-  -- A manifest's fault is the load's.
+  -- The number of a manifest that is refused is the load's,
+  pub refused-number : (manifestTextNumber manifest ≡ 0 → ⊥) → manifestTextNumber manifest ≡ loadNumber id manifest buffer used
+  unfolding loadNumber loadQuestions
+  refused-number e = sym (asked-of-manifest manifest _ e)
+
+  -- and so is that of its fault.
   pub fault-number : (f : Fault) → faultNumber f ≡ manifestTextNumber manifest
       → (faultNumber f ≡ loadNumber id manifest buffer used) × (faultNumber f ≡ 0 → ⊥)
-  unfolding loadNumber loadQuestions
   fault-number f e =
       let h = fault-positive f in
-      (e ∙ sym (asked-of-manifest manifest _ (λ z. omega arith)), λ z. omega arith)
+      (e ∙ refused-number (λ z. omega arith), λ z. omega arith)
 
   -- Of a good manifest the questions after its own answer.
   pub good-number : manifestTextNumber manifest ≡ 0

@@ -9,7 +9,6 @@ use Rattle.text.specs.Answer.{form}
 use Rattle.reference_digests.specs.Algorithms.{digestBytes}
 use Rattle.reference_digests.specs.declared.algorithm.Algorithm.{Algorithm}
 use Rattle.reference.specs.References.{image-id}
-use Rattle.manifest.specs.Number.{manifestTextNumber}
 use Rattle.manifest.specs.Opened.{Opens}
 use Rattle.manifest.specs.declared.Places.{Places}
 use Rattle.store_record.specs.Image.{Image}
@@ -17,14 +16,19 @@ use Rattle.store_record.specs.Record.{recordOf}
 use Rattle.store_record.specs.Store.{mostImages}
 use Rattle.store.specs.Load.{usedAfter, bytesAfter}
 
--- the image with that algorithm, those digests, and the form of the manifest
+-- the image with that algorithm, those digests and that text
 abbrev pub imageWith : Algorithm → List ℕ → List ℕ → List ℕ → Image
-imageWith a signer digest manifest = record { ids = image-id a signer digest ∷ []; text = form manifest }
+imageWith a signer digest text = record { ids = image-id a signer digest ∷ []; text = text }
 
--- a good manifest, opened, whose form has n bytes
-pub record Readied (manifest : List ℕ) (n : ℕ) (p : Places) : Type 0 where
-  pub opens : Opens manifest p
-  pub size : n ≡ length (form manifest)
+-- a good manifest that is its own canonical form, opened
+pub record Readied (text : List ℕ) (p : Places) : Type 0 where
+  pub opens : Opens text p
+  pub own : form text ≡ text
+
+-- the arrays that a load makes once, and lends to its steps
+pub record NameArrays (names spare : List ℕ) : Type 0 where
+  pub names-size : length names ≡ 4096
+  pub spare-size : length spare ≡ 4096
 
 -- digests of that algorithm
 pub record Digests (a : Algorithm) (signer digest : List ℕ) : Type 0 where
@@ -48,3 +52,9 @@ pub record Loads (n : ℕ) (x : Image) (before : List ℕ) (used : ℕ) (r : Ans
 pub record Fits (x : Image) (buffer : List ℕ) (used : ℕ) : Type 0 where
   pub within : used ≤ length buffer
   pub space : length (recordOf x) ≤ length buffer - used
+
+-- an image that no question refuses: its text is short, and there is space for its record
+pub record Storable (a : Algorithm) (signer digest text buffer : List ℕ) (used : ℕ) : Type 0 where
+  pub short : length text ≤ 16384
+  pub digests : Digests a signer digest
+  pub fits : Fits (imageWith a signer digest text) buffer used

@@ -11,9 +11,9 @@ ghost use mathlib.Core.Bool.{true, false, not, _||_};
 ghost use Prim.Native.Nat.{_+_, _≤_};
 ghost use lib.ListN.{length};
 ghost use Rattle.laws.specs.Any.{anyOf};
-ghost use Rattle.text.specs.Answer.{form};
+ghost use Rattle.text.specs.Answer.{isCanonical};
 ghost use Rattle.text.specs.Question.{lowest};
-ghost use Rattle.manifest.specs.Number.{manifestTextNumber};
+ghost use Rattle.manifest.specs.Names.{NameSpace};
 ghost use Rattle.store_record.specs.Ids.{idTwice};
 ghost use Rattle.store_record.specs.Record.{headSize, recordOf};
 ghost use Rattle.store_record.specs.Store.{mostImages, readRecords};
@@ -23,7 +23,7 @@ ghost use Rattle.store_record.specs.Reading.{Fills, imagesIn};
 ghost use Rattle.store_names.specs.Opened.{OpenedStore};
 ghost use Rattle.store.specs.Held.{held, isUnfit, isBroken};
 ghost use Rattle.store.specs.Load.{imageOf, storeQuestions, imageQuestions, appended, loadNumber, loadUsed, loadBytes};
-ghost use Rattle.store.specs.Loading.{imageWith, Readied, Digests, NumberLeft, Loads, Fits};
+ghost use Rattle.store.specs.Loading.{imageWith, Readied, NameArrays, Digests, NumberLeft, Loads, Storable};
 
 // The places in each manifest of a store, where all are canonical and good.
 pub struct Fit {
@@ -38,9 +38,9 @@ pub struct Opened {
     pub places: [Places; 64],
 }
 
-// Opens each manifest of a store, until one is found that is not canonical or gets one of 1 to 9.
-fn open_all(b: &[u8], v: Survey) -> Fit
-    requires { ⌜ Fills (now b) v ⌝ }
+// Opens each manifest of a store, until one is found that is not canonical or gets one of 1 to 9. What the arrays hold is overwritten.
+fn open_all(b: &[u8], v: Survey, names: &mut [u16], spare: &mut [u16]) -> Fit
+    requires { ⌜ Fills (now b) v × NameSpace (now names) (now spare) ⌝ }
     ensures { λ r. ⌜ r .all ≡ not (anyOf isUnfit (imagesIn (now (b .entry)) v)) ⌝ }
     ensures { λ r. ⌜ (r .all ≡ true → OpenedStore (now (b .entry)) v (r .places)) ⌝ }
 {
@@ -50,7 +50,7 @@ fn open_all(b: &[u8], v: Survey) -> Fit
         let r = v.records[i];
         let start = r.text;
         let end = r.end;
-        match manifest::check(&b[start..end]) {
+        match manifest::check_with(&b[start..end], names, spare) {
             Checked::Refused(_) => return Fit { all: false, places },
             Checked::Good {
                 length: _,
@@ -103,23 +103,16 @@ pub fn open(
     ensures { λ r. ⌜ (r .sound ≡ true → OpenedStore (now (b .entry)) (r .survey) (r .places)) ⌝ }
 {
     let survey = Survey::of(b);
-    if !survey.whole {
-        return Opened {
-            sound: false,
-            survey,
-            places: [Places::none(); 64],
-        };
+    let mut sound = survey.whole;
+    let mut places = [Places::none(); 64];
+    if sound {
+        let fit = open_all(b, survey, sorted, spare);
+        places = fit.places;
+        sound = fit.all;
     }
-    let fit = open_all(b, survey);
-    let places = fit.places;
-    if !fit.all {
-        return Opened {
-            sound: false,
-            survey,
-            places,
-        };
+    if sound {
+        sound = are_apart(b, survey, places, at, sorted, spare, heads, keys);
     }
-    let sound = are_apart(b, survey, places, at, sorted, spare, heads, keys);
     Opened {
         sound,
         survey,
@@ -127,33 +120,62 @@ pub fn open(
     }
 }
 
-// Loads an image: appends its record to those of the first `used` bytes. A refusal changes no byte.
+// Loads an image: appends its record to those of the first `used` bytes. A refusal changes no byte. All questions after the first six are asked of the
+// manifest's canonical form, which is never longer than the manifest and gets the same answers.
 pub fn load(id: &[u8], manifest: &[u8], store: &mut [u8], used: usize) -> Answer
     ensures { λ r. ⌜ r .number ≡ loadNumber (now (id .entry)) (now (manifest .entry)) (now (store .entry)) used ⌝ }
     ensures { λ r. ⌜ r .value ≡ loadUsed (now (id .entry)) (now (manifest .entry)) (now (store .entry)) used ⌝ }
     ensures { λ _. ⌜ now (store .exit) ≡ loadBytes (now (id .entry)) (now (manifest .entry)) (now (store .entry)) used ⌝ }
 {
-    match manifest::check(manifest) {
+    let mut sorted = [0u16; 4096];
+    let mut spare = [0u16; 4096];
+    let mut form = [0u8; 16384];
+    let written = text::canonical_with(manifest, &mut form, &mut sorted, &mut spare);
+    let number = written.number;
+    if number != 0 {
+        return answer::refused(store, number);
+    }
+    let n = written.value;
+    load_form(id, &form[..n], store, used, &mut sorted, &mut spare)
+}
+
+// The same of a text that is its own canonical form.
+fn load_form(
+    id: &[u8],
+    text: &[u8],
+    store: &mut [u8],
+    used: usize,
+    sorted: &mut [u16],
+    spare: &mut [u16],
+) -> Answer
+    requires { ⌜ (isCanonical (now text) ≡ true) × NameArrays (now sorted) (now spare) ⌝ }
+    ensures { λ r. ⌜ Loads (loadNumber (now (id .entry)) (now (text .entry)) (now (store .entry)) used)
+        (imageOf (now (id .entry)) (now (text .entry))) (now (store .entry)) used r (now (store .exit)) ⌝ }
+{
+    match manifest::check_form(text, sorted, spare) {
         Checked::Refused(f) => answer::refused(store, f.number()),
         Checked::Good {
-            length,
+            length: _,
             canonical: _,
             places,
-        } => load_good(id, manifest, length, places, store, used),
+        } => load_good(id, text, places, store, used, sorted, spare),
     }
 }
 
-// The same of a good manifest, whose form has `size` bytes.
+// The same of a good manifest.
 fn load_good(
     id: &[u8],
-    manifest: &[u8],
-    size: usize,
+    text: &[u8],
     places: Places,
     store: &mut [u8],
     used: usize,
+    sorted: &mut [u16],
+    spare: &mut [u16],
 ) -> Answer
-    requires { ⌜ Readied (now manifest) size places ⌝ }
-    ensures { λ r. ⌜ Loads (lowest (imageQuestions (length (now (store .entry))) (held (now (store .entry)) used) (now (id .entry)) (now (manifest .entry)))) (imageOf (now (id .entry)) (now (manifest .entry))) (now (store .entry)) used r (now (store .exit)) ⌝ }
+    requires { ⌜ Readied (now text) places × NameArrays (now sorted) (now spare) ⌝ }
+    ensures { λ r. ⌜ Loads
+        (lowest (imageQuestions (length (now (store .entry))) (held (now (store .entry)) used) (now (id .entry)) (now (text .entry))))
+        (imageOf (now (id .entry)) (now (text .entry))) (now (store .entry)) used r (now (store .exit)) ⌝ }
 {
     match reference::id::read(id) {
         Id::Bad => answer::refused(store, 10),
@@ -171,11 +193,12 @@ fn load_good(
                 algorithm,
                 &signer_bytes[..n],
                 &digest_bytes[..n],
-                manifest,
-                size,
+                text,
                 places,
                 store,
                 used,
+                sorted,
+                spare,
             )
         }
     }
@@ -186,14 +209,18 @@ fn load_image(
     a: Algorithm,
     signer: &[u8],
     digest: &[u8],
-    manifest: &[u8],
-    size: usize,
+    text: &[u8],
     places: Places,
     store: &mut [u8],
     used: usize,
+    sorted: &mut [u16],
+    spare: &mut [u16],
 ) -> Answer
-    requires { ⌜ Readied (now manifest) size places × Digests a (now signer) (now digest) ⌝ }
-    ensures { λ r. ⌜ Loads (lowest (storeQuestions (length (now (store .entry))) (held (now (store .entry)) used) (imageWith a (now (signer .entry)) (now (digest .entry)) (now (manifest .entry))))) (imageWith a (now (signer .entry)) (now (digest .entry)) (now (manifest .entry))) (now (store .entry)) used r (now (store .exit)) ⌝ }
+    requires { ⌜ Readied (now text) places × Digests a (now signer) (now digest) × NameArrays (now sorted) (now spare) ⌝ }
+    ensures { λ r. ⌜ Loads
+        (lowest (storeQuestions (length (now (store .entry))) (held (now (store .entry)) used)
+        (imageWith a (now (signer .entry)) (now (digest .entry)) (now (text .entry)))))
+        (imageWith a (now (signer .entry)) (now (digest .entry)) (now (text .entry))) (now (store .entry)) used r (now (store .exit)) ⌝ }
 {
     if store.len() < used {
         return answer::refused(store, 11);
@@ -203,39 +230,40 @@ fn load_image(
         a,
         signer,
         digest,
-        manifest,
-        size,
+        text,
         places,
         &store[..used],
         left,
+        sorted,
+        spare,
     );
     if number != 0 {
         return answer::refused(store, number);
     }
-    append(a, signer, digest, manifest, size, store, used)
+    append(a, signer, digest, text, store, used)
 }
 
-// Questions 11 to 14 of the image, asked of the bytes b, after which `left` bytes are free; 0 where none applies. The arrays that the answers need are
-// made here, once.
+// Questions 11 to 14 of the image, asked of the bytes b, after which `left` bytes are free; 0 where none applies. The other arrays that the answers
+// need are made here, once.
 fn number_in(
     a: Algorithm,
     signer: &[u8],
     digest: &[u8],
-    manifest: &[u8],
-    size: usize,
+    text: &[u8],
     places: Places,
     b: &[u8],
     left: usize,
+    sorted: &mut [u16],
+    spare: &mut [u16],
 ) -> usize
-    requires { ⌜ Readied (now manifest) size places × Digests a (now signer) (now digest) ⌝ }
-    ensures { λ r. ⌜ r ≡ lowest (storeQuestions (length (now (b .entry)) + left) (readRecords mostImages (now (b .entry))) (imageWith a (now (signer .entry)) (now (digest .entry)) (now (manifest .entry)))) ⌝ }
+    requires { ⌜ Readied (now text) places × Digests a (now signer) (now digest) × NameArrays (now sorted) (now spare) ⌝ }
+    ensures { λ r. ⌜ r ≡ lowest (storeQuestions (length (now (b .entry)) + left) (readRecords mostImages (now (b .entry)))
+        (imageWith a (now (signer .entry)) (now (digest .entry)) (now (text .entry)))) ⌝ }
 {
     let mut at = [0usize; 4096];
-    let mut sorted = [0u16; 4096];
-    let mut spare = [0u16; 4096];
     let mut heads = [0u32; 4096];
     let mut keys = [0u16; 16384];
-    let opened = open(b, &mut at, &mut sorted, &mut spare, &mut heads, &mut keys);
+    let opened = open(b, &mut at, sorted, spare, &mut heads, &mut keys);
     if !opened.sound {
         return 11;
     }
@@ -245,19 +273,19 @@ fn number_in(
     }
     let all = opened.places;
     let clashing = store_clash::clashes_with_any(
-        manifest,
+        text,
         places,
         a,
         signer,
         b,
         survey,
         all,
-        &mut sorted,
-        &mut spare,
+        sorted,
+        spare,
         &mut heads,
         &mut keys,
     );
-    number_left(a, size, survey.count, left, clashing)
+    number_left(a, text.len(), survey.count, left, clashing)
 }
 
 // Questions 13 and 14, once 11 and 12 do not apply: whether the image clashes is known, and how many images there are.
@@ -282,18 +310,17 @@ fn append(
     a: Algorithm,
     signer: &[u8],
     digest: &[u8],
-    manifest: &[u8],
-    size: usize,
+    text: &[u8],
     store: &mut [u8],
     used: usize,
 ) -> Answer
-    requires { ⌜ (size ≡ length (form (now manifest))) × (manifestTextNumber (now manifest) ≡ 0)
-        × Digests a (now signer) (now digest) × Fits (imageWith a (now signer) (now digest) (now manifest)) (now store) used ⌝ }
-    ensures { λ r. ⌜ Loads 0 (imageWith a (now (signer .entry)) (now (digest .entry)) (now (manifest .entry)))
+    requires { ⌜ Storable a (now signer) (now digest) (now text) (now store) used ⌝ }
+    ensures { λ r. ⌜ Loads 0 (imageWith a (now (signer .entry)) (now (digest .entry)) (now (text .entry)))
         (now (store .entry)) used r (now (store .exit)) ⌝ }
 {
+    let size = text.len();
     let end = used + store_record::head_size(a, size) + size;
-    put_record(a, signer, digest, manifest, size, store, used);
+    put_record(a, signer, digest, text, store, used);
     Answer {
         number: 0,
         value: end,
@@ -305,35 +332,31 @@ fn put_record(
     a: Algorithm,
     signer: &[u8],
     digest: &[u8],
-    manifest: &[u8],
-    size: usize,
+    text: &[u8],
     store: &mut [u8],
     used: usize,
 )
-    requires { ⌜ (size ≡ length (form (now manifest))) × (manifestTextNumber (now manifest) ≡ 0)
-        × Digests a (now signer) (now digest) × Fits (imageWith a (now signer) (now digest) (now manifest)) (now store) used ⌝ }
+    requires { ⌜ Storable a (now signer) (now digest) (now text) (now store) used ⌝ }
     ensures { λ _. ⌜ now (store .exit)
-        ≡ appended (now (store .entry)) used (recordOf (imageWith a (now (signer .entry)) (now (digest .entry)) (now (manifest .entry)))) ⌝ }
+        ≡ appended (now (store .entry)) used (recordOf (imageWith a (now (signer .entry)) (now (digest .entry)) (now (text .entry)))) ⌝ }
 {
-    write_record(a, signer, digest, manifest, size, store, used);
+    write_record(a, signer, digest, text, store, used);
 }
 
-// Writes the record after the first `used` bytes: its start, and then the manifest's form.
+// Writes the record after the first `used` bytes: its start, and then the manifest.
 fn write_record(
     a: Algorithm,
     signer: &[u8],
     digest: &[u8],
-    manifest: &[u8],
-    size: usize,
+    text: &[u8],
     store: &mut [u8],
     used: usize,
 )
-    requires { ⌜ (size ≡ length (form (now manifest))) × (manifestTextNumber (now manifest) ≡ 0)
-        × Digests a (now signer) (now digest) × Fits (imageWith a (now signer) (now digest) (now manifest)) (now store) used ⌝ }
+    requires { ⌜ Storable a (now signer) (now digest) (now text) (now store) used ⌝ }
     ensures { λ _. ⌜ now (store .exit)
-        ≡ appended (now (store .entry)) used (recordOf (imageWith a (now (signer .entry)) (now (digest .entry)) (now (manifest .entry)))) ⌝ }
+        ≡ appended (now (store .entry)) used (recordOf (imageWith a (now (signer .entry)) (now (digest .entry)) (now (text .entry)))) ⌝ }
 {
-    let head = store_record::write_head(a, signer, digest, size, &mut store[used..]);
+    let head = store_record::write_head(a, signer, digest, text.len(), &mut store[used..]);
     let at = used + head;
-    text::write_taken(manifest, &mut store[at..]);
+    store_record::copy(text, &mut store[at..]);
 }

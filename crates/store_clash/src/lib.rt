@@ -9,7 +9,7 @@ use store_record::Record;
 use store_record::Survey;
 ghost use mathlib.Core.Path.{_≡_};
 ghost use Prim.Native.Nat.{_+_, _≤_, _<_};
-ghost use lib.ListN.{length, drop, getD};
+ghost use lib.ListN.{length, take, drop, getD};
 ghost use Rattle.laws.specs.Any.{anyOf, anyPair};
 ghost use Rattle.manifest_names.specs.Heads.{HeadsOf};
 ghost use Rattle.manifest.specs.Names.{NameSpace, SelfSorted, ContentsSorted};
@@ -159,28 +159,23 @@ fn shares_from(
     shares_with_any(s, &sorted[..n], heads, a, signer, b, v, places, i)
 }
 
-// Some image of the store from index i on is of that signer and has an alias of a layer that the manifest s has for another object. What the arrays
-// hold is overwritten.
-fn conflicts_from(
+// Puts the positions of the aliases of layers of the manifest s, sorted by name, at the start of `sorted`, with their heads and the positions of their
+// keys; answers how many there are. It takes no part of the store, so that its callers' copy of that is the only one.
+fn sort_layers(
     s: &[u8],
     p: Places,
-    a: Algorithm,
-    signer: &[u8],
-    b: &[u8],
-    v: Survey,
-    places: [Places; 64],
-    i: ImageIndex,
     sorted: &mut [u16],
     spare: &mut [u16],
     heads: &mut [u32],
     keys: &mut [u16],
-) -> bool
-    requires { ⌜ Opens (now s) p × OpenedStore (now b) v places × ClashSpace (now sorted) (now spare) (now heads) (now keys) ⌝ }
-    ensures { λ r. ⌜ r ≡ anyOf (conflictsWith a (now (signer .entry)) (now (s .entry))) (drop (i .0) (imagesIn (now (b .entry)) v)) ⌝ }
+) -> usize
+    requires { ⌜ Opens (now s) p × ClashSpace (now sorted) (now spare) (now heads) (now keys) ⌝ }
+    ensures { λ r. ⌜ (r ≤ length (now (sorted .exit))) × ContentsSorted (now (s .entry)) (take r (now (sorted .exit))) (now (keys .exit))
+        × HeadsOf (now (s .entry)) (take r (now (sorted .exit))) (now (heads .exit)) ⌝ }
 {
     let n = names::sort_contents(s, p, sorted, spare, keys);
     names::fill_heads(s, &sorted[..n], heads);
-    conflicts_with_any(s, &sorted[..n], heads, keys, a, signer, b, v, places, i)
+    n
 }
 
 // The image of that algorithm and signer with the manifest s clashes with one of the store's images. What the arrays hold is overwritten.
@@ -207,7 +202,8 @@ pub fn clashes_with_any(
     if shares_from(s, p, a, signer, b, v, places, i, sorted, spare, heads) {
         return true;
     }
-    conflicts_from(s, p, a, signer, b, v, places, i, sorted, spare, heads, keys)
+    let n = sort_layers(s, p, sorted, spare, heads, keys);
+    conflicts_with_any(s, &sorted[..n], heads, keys, a, signer, b, v, places, i)
 }
 
 // The store's image with index i has an alias of a layer for another object than a later image of its signer.
@@ -238,7 +234,8 @@ fn conflicts_later(
     let p = all[k];
     let s = &b[start..end];
     let signer = &b[from..to];
-    conflicts_from(s, p, a, signer, b, v, all, next, sorted, spare, heads, keys)
+    let n = sort_layers(s, p, sorted, spare, heads, keys);
+    conflicts_with_any(s, &sorted[..n], heads, keys, a, signer, b, v, all, next)
 }
 
 // Some two images of the store have one layer key for different objects.

@@ -184,7 +184,7 @@ fn broken() -> Survey
 }
 
 // Writes bytes at the start of `out`; what follows stays.
-fn copy(from: &[u8], out: &mut [u8])
+pub fn copy(from: &[u8], out: &mut [u8])
     requires { ⌜ length (now from) ≤ length (now out) ⌝ }
     ensures { λ _. ⌜ now (out .exit) ≡ now (from .entry) ++ drop (length (now (from .entry))) (now (out .entry)) ⌝ }
 {

@@ -29,7 +29,8 @@ use Rattle.manifest_values.specs.Values.{isArrayOf, isSome, entries, isBoolean,
 use Rattle.manifest_fields.specs.Rules.{membersOf, isObject, countFields, everyMember, isObjectOf, namesPass, groupPasses, policyPasses, fieldPasses, memberPasses, isFound, foundEntries, foundMembers, allRequired, wellFielded}
 use Rattle.manifest_fields.specs.Accessors.{fieldOf, acceptsField, rejectsField, contentsField, selfField, layersOf, acceptsOf, contentsOf, selfOf, textOf, texts, namesOf}
 use Rattle.manifest_repeat.specs.Repeated.{repeated as repeatedName, repeatedAlias}
-use Rattle.manifest_forms.specs.Questions.{badField, contentsForm, selfForm, badForm, manifestNumber}
+use Rattle.manifest_fields.specs.Forms.{contentsForm, selfForm}
+use Rattle.manifest_forms.specs.Questions.{badField, badForm, manifestNumber}
 use Rattle.reference.specs.References.{digestLayer, aliasLayer, layerOf, layer}
 use Rattle.store_varint.specs.Varint.{groups, varint, grouped, readVarint}
 use Rattle.store_record.specs.Record.{idBytes, idsBytes, bodyOf, recordOf}

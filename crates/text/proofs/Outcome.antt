@@ -6,10 +6,12 @@ use mathlib.Core.Bool.{Bool, true, false}
 use native.Mathlib.Omega.{arith}
 use borrow.Author.Tests.{eq-eqb, ne-eqb, lt-ltb, le-ltb, eqb-true}
 use lib.Dec.{ltb, eqb}
-use lib.ListN.{length, drop}
+use lib.ListN.{length, take, drop}
+use lib.Seq.{take-at}
 use Rattle.laws.specs.Order.{same}
-use Rattle.laws.proofs.Order.{by-test}
+use Rattle.laws.proofs.Order.{by-test, same-eq}
 use Rattle.text_utf8.specs.Utf8.{verdict}
+use Rattle.text_utf8.proofs.Ranges.{and-both}
 use Rattle.text_utf8.specs.declared.Verdict.{Verdict}
 use Rattle.text_utf8.specs.declared.Verdict.the-variants.{WellFormed, Bad}
 use Rattle.text_json.specs.Syntax.{Syntax}
@@ -144,6 +146,23 @@ number-small s m =
 pub zero-taken : (s : List ℕ) (m : ℕ) → canonicalNumber s m ≡ 0 → textNumber s ≡ 0
 zero-taken s m h = by-test (eqb (textNumber s) 0) (λ e. eqb-true (textNumber s) 0 e) (λ e. rw e at (rw (canonical-lowest s m) at h))
 
+-- 20 is never given with a buffer as long as a text can be
+pub number-unbounded : (s : List ℕ) (m : ℕ) → 16384 ≤ m → canonicalNumber s m ≡ textNumber s
+number-unbounded s m h =
+    canonical-lowest s m
+    ∙ by-test (eqb (textNumber s) 0)
+    (λ e. let z = eqb-true (textNumber s) 0 e in
+    let p = taken s z in
+    rw (e, le-ltb m (length (form s)) (omega (arith, form-short s p, p .short))) (sym z))
+    (λ e. rw e)
+
+-- where 0 is given, the form stands at the start of the buffer, and its length is told
+pub form-first : (s out : List ℕ) → canonicalNumber s (length out) ≡ 0 → take (canonicalLength s (length out)) (canonicalBytes s out) ≡ form s
+unfolding canonicalLength canonicalBytes
+form-first s out e =
+    let z = eq-eqb (canonicalNumber s (length out)) 0 e in
+    rw (z, canonicalLength) (rw (z, canonicalBytes) (take-at (form s) _ _ refl))
+
 pub length-small : (s : List ℕ) (m : ℕ) → canonicalLength s m ≤ 16384
 unfolding canonicalLength
 length-small s m =
@@ -165,3 +184,20 @@ accepted-flag s n c e =
 pub refused-flag : (s : List ℕ) (f : Fault) → checked s ≡ Refused f → isCanonical s ≡ false
 unfolding isCanonical
 refused-flag s f e = rw (not-zero s [] f e)
+
+-- a text that is its own form has that form,
+pub canonical-own : (s : List ℕ) → isCanonical s ≡ true → form s ≡ s
+unfolding isCanonical
+canonical-own s e = same-eq (form s) s (and-both (eqb (textNumber s) 0) (same (form s) s) e .1)
+
+-- and is taken as one.
+pub canonical-checked : (s : List ℕ) → isCanonical s ≡ true → checked s ≡ Accepted (length s) true
+unfolding isCanonical
+canonical-checked s e = by-outcome (checked s) (number-checked s) (outcome s)
+  where
+    parts : (eqb (textNumber s) 0 ≡ true) × (same (form s) s ≡ true)
+    parts = and-both (eqb (textNumber s) 0) (same (form s) s) e
+
+    by-outcome : (x : Checked) → numberOf x ≡ textNumber s → Outcome s (form s) x → x ≡ Accepted (length s) true
+    by-outcome x n (is-refused {x = f}) = absurd (omega (arith, fault-positive f, eqb-true (textNumber s) 0 (parts .0)))
+    by-outcome x n is-accepted = rw (parts .1, canonical-own s e)

@@ -86,7 +86,7 @@ fn refusal(fault: Fault) -> Known
 }
 
 // Checks a text with the arrays that it is lent for the keys of its objects, so that the writer gets the keys that are left in them.
-fn check_with(text: &[u8], keys: &mut [u16], spare: &mut [u16]) -> Known
+pub fn check_with(text: &[u8], keys: &mut [u16], spare: &mut [u16]) -> Known
     requires { ⌜ KeyRoom (now keys) (now spare) ⌝ }
     ensures { λ r. ⌜ r .answer ≡ checked (now (text .entry)) ⌝ }
     ensures { λ r. ⌜ RootKeys (now (text .entry)) (r .answer) (r .count) (now (keys .exit)) ⌝ }
@@ -172,7 +172,17 @@ pub fn canonical(text: &[u8], out: &mut [u8]) -> Answer
 {
     let mut keys = [0u16; 4096];
     let mut spare = [0u16; 4096];
-    let known = check_with(text, &mut keys, &mut spare);
+    canonical_with(text, out, &mut keys, &mut spare)
+}
+
+// The same with the arrays that it is lent, so that a caller that needs them again makes them once; what they hold is overwritten.
+pub fn canonical_with(text: &[u8], out: &mut [u8], keys: &mut [u16], spare: &mut [u16]) -> Answer
+    requires { ⌜ KeyRoom (now keys) (now spare) ⌝ }
+    ensures { λ r. ⌜ r .number ≡ canonicalNumber (now (text .entry)) (length (now (out .entry))) ⌝ }
+    ensures { λ r. ⌜ r .value ≡ canonicalLength (now (text .entry)) (length (now (out .entry))) ⌝ }
+    ensures { λ _. ⌜ now (out .exit) ≡ canonicalBytes (now (text .entry)) (now (out .entry)) ⌝ }
+{
+    let known = check_with(text, keys, spare);
     let answer = known.answer;
     match answer {
         Checked::Refused(fault) => answer::refused(out, fault.number()),
@@ -183,7 +193,7 @@ pub fn canonical(text: &[u8], out: &mut [u8]) -> Answer
             if out.len() < length {
                 return answer::refused(out, 20);
             }
-            write_form(text, known.count, out, &mut keys, &mut spare)
+            write_form(text, known.count, out, keys, spare)
         }
     }
 }
@@ -218,18 +228,6 @@ fn write_value(
     ensures { λ r. ⌜ WritesValue (now (text .entry)) at 8 (now (out .entry)) (now (out .exit)) r ⌝ }
 {
     text_canonical::write_root(text, at, count, out, keys, spare)
-}
-
-// Writes the canonical form of a text that is taken at the start of `out`, and answers its length; what follows stays. No question is asked again.
-pub fn write_taken(text: &[u8], out: &mut [u8]) -> usize
-    requires { ⌜ (textNumber (now text) ≡ 0) × (length (form (now text)) ≤ length (now out)) ⌝ }
-    ensures { λ r. ⌜ r ≡ length (form (now (text .entry))) ⌝ }
-    ensures { λ _. ⌜ now (out .exit) ≡ form (now (text .entry)) ++ drop (length (form (now (text .entry)))) (now (out .entry)) ⌝ }
-{
-    let mut keys = [0u16; 4096];
-    let mut spare = [0u16; 4096];
-    let at = text_view::value::root(text);
-    text_canonical::write_value(text, at, 8, out, &mut keys, &mut spare)
 }
 
 // The text is taken and is its own canonical form.

@@ -11,34 +11,12 @@ use Rattle.text_json.specs.Syntax.{Syntax, Elements, Members, no-elements, elem
 use Rattle.text_json.specs.Grammar
 use Rattle.text_json.specs.Content.{unescape}
 use Rattle.text_content.specs.Value.{Value, Values, Fields, null, boolean, number, string, array, object, no-values, value, no-fields, field, content, contents, fields, Same, SameValues, SameFields, Inserted, same-null, same-boolean, same-number, same-string, same-array, same-object, same-none, same-value, same-empty, same-field, here, there}
+use Rattle.text_content.specs.Distinct.{Fresh, fresh-none, fresh-field, Distinct, distinct-null, distinct-boolean, distinct-number, distinct-string, distinct-array, distinct-object, DistinctValues, distinct-none, distinct-value, DistinctFields, distinct-empty, distinct-field}
 use Rattle.text_content.specs.Canonical.{insertField, sorted, sortedValues, sortedFields}
 use Rattle.text_content.specs.Fault.{mark, among, repeated, keyFault, keyFaults, memberKeyFaults}
 use Rattle.text_content.proofs.Basic.{max-left, max-right}
 use Rattle.text_content.proofs.Formed.{Formed, FormedElements, FormedMembers, formed-null, formed-boolean, formed-number, formed-string, formed-array, formed-object, formed-none, formed-element, formed-empty, formed-member, formed, unmarked}
 use Rattle.text_content.proofs.Same.{same-sorted, same-sorted-fields, insert-swap, insert-before, insert-after, strictly}
-
--- no member has the key k
-pub data Fresh (k : List ℕ) : Fields → Type 0 where
-  fresh-none : Fresh k no-fields
-  fresh-field : {j : List ℕ} {v : Value} {fs : Fields} → (k ≡ j → ⊥) → Fresh k fs → Fresh k (field j v fs)
-
--- no object has a key twice
-mutual
-  pub data Distinct : Value → Type 0 where
-    distinct-null : Distinct null
-    distinct-boolean : {b : Bool} → Distinct (boolean b)
-    distinct-number : {n : Bool} {ds : List ℕ} → Distinct (number n ds)
-    distinct-string : {s : List ℕ} → Distinct (string s)
-    distinct-array : {vs : Values} → DistinctValues vs → Distinct (array vs)
-    distinct-object : {fs : Fields} → DistinctFields fs → Distinct (object fs)
-
-  pub data DistinctValues : Values → Type 0 where
-    distinct-none : DistinctValues no-values
-    distinct-value : {v : Value} {vs : Values} → Distinct v → DistinctValues vs → DistinctValues (value v vs)
-
-  pub data DistinctFields : Fields → Type 0 where
-    distinct-empty : DistinctFields no-fields
-    distinct-field : {k : List ℕ} {v : Value} {fs : Fields} → Fresh k fs → Distinct v → DistinctFields fs → DistinctFields (field k v fs)
 
 -- contents that are the same have the same keys
 fresh-inserted : {k j : List ℕ} {v : Value} {fs gs : Fields} → Inserted j v fs gs → (k ≡ j → ⊥) → Fresh k fs → Fresh k gs

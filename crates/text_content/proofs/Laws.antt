@@ -13,7 +13,8 @@ use Rattle.text_content.proofs.NotLonger.{not-longer}
 use Rattle.text_content.proofs.InRange.{InRange, content-in-range, range-sorted}
 use Rattle.text_content.proofs.ReadBack.{ReadsText, canonical-reads-back}
 use Rattle.text_content.proofs.Same.{same-of-sorted, sorted-twice}
-use Rattle.text_content.proofs.Distinct.{Distinct, Rising, content-distinct, distinct-sorted, distinct-unmarked, sorted-same, rising-sorted}
+use Rattle.text_content.specs.Distinct.{Distinct}
+use Rattle.text_content.proofs.Distinct.{Rising, content-distinct, distinct-sorted, distinct-unmarked, sorted-same, rising-sorted}
 
 -- a text in which no string is refused and no object has a key twice (questions 4 and 6)
 pub record Clean (d : ℕ) (s : List ℕ) (t : Syntax) : Type 0 where

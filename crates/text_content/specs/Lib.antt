@@ -1,3 +1,4 @@
 pub mod Value
 pub mod Canonical
 pub mod Fault
+pub mod Distinct

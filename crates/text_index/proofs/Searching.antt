@@ -11,7 +11,7 @@ use Rattle.text_strings.specs.Compare.{order}
 use Rattle.text_strings.specs.declared.Order.{Order}
 use Rattle.text_strings.specs.declared.Order.the-variants.{Less, Equal, Greater}
 use Rattle.text_strings.proofs.Orders.{Ordered, is-less, is-equal, is-greater, ordered}
-use Rattle.text_index.specs.Index.{entryText, Entry, SomeIndex, comesBefore, Before}
+use Rattle.text_index.specs.Index.{entryText, Entry, SomeIndex, comesBefore, Counted, Before}
 use Rattle.text_index.proofs.Indexing.{index-rising}
 
 -- what `comesBefore` says
@@ -83,46 +83,57 @@ higher-after : (equal : Bool) (x y c : List ℕ) → leq x y ≡ true → comesB
 higher-after equal x y c l e =
     by-test (comesBefore equal y c) (λ f. false-true (sym e ∙ lower-before equal x y c l f)) (λ f. f)
 
--- The strings before place `low` come before c, and those from place `high` on do not.
-pub record Counted (b at order : List ℕ) (equal : Bool) (c : List ℕ) (low high : ℕ) : Type 0 where
-  pub rising : low ≤ high
-  pub within : high ≤ length order
-  pub before : (i : ℕ) → i < low → comesBefore equal (entryText b at (getD order i 0)) c ≡ true
-  pub after : (i : ℕ) → high ≤ i → i < length order → comesBefore equal (entryText b at (getD order i 0)) c ≡ false
+-- where equal ones do not count, what comes before c comes before it where they do
+strict-before : (x c : List ℕ) → comesBefore false x c ≡ true → comesBefore true x c ≡ true
+unfolding comesBefore
+strict-before x c e = leq-total c x (before-false x c e)
 
-module _ (b at order : List ℕ) (equal : Bool) (c : List ℕ) where
+after-strict : (x c : List ℕ) → comesBefore true x c ≡ false → comesBefore false x c ≡ false
+after-strict x c e = by-test (comesBefore false x c) (λ f. false-true (sym e ∙ strict-before x c f)) (λ f. f)
+
+module _ (b at order : List ℕ) where
   -- At first nothing is known.
-  pub count-started : Counted b at order equal c 0 (length order)
-  count-started = record { rising = omega arith; within = omega arith; before = λ i l. absurd (omega arith); after = λ i l h. absurd (omega arith) }
+  pub count-started : (below above : Bool) (c : List ℕ) → Counted b at order below above c 0 (length order)
+  count-started below above c =
+      record { rising = omega arith; within = omega arith; before = λ i l. absurd (omega arith); after = λ i l h. absurd (omega arith) }
 
-  module _ (low high : ℕ) (p : Counted b at order equal c low high) where
-    -- At last no place is left between them.
-    pub counted : high ≤ low → Before b at order equal c low
-    counted l =
-        record { within = omega (arith, p .rising, p .within); before = p .before; after = λ i j h. p .after i (omega (arith, p .rising)) h }
+  -- At last no place is left between them.
+  pub counted : (equal : Bool) (c : List ℕ) (low high : ℕ) → Counted b at order equal equal c low high → high ≤ low → Before b at order equal c low
+  counted equal c low high p l =
+      record { within = omega (arith, p .rising, p .within); before = p .before; after = λ i j h. p .after i (omega (arith, p .rising)) h }
 
-    module _ (x : SomeIndex b at order) (mid : ℕ) (l : low ≤ mid) (h : mid < high) where
-      -- The string in the middle stands in the byte list.
-      pub mid-entry : Entry b at (getD order mid 0)
-      mid-entry = x .index .entries mid (omega (arith, p .within))
+  -- Where equal ones count above and not below, no string has the content.
+  pub none-counted : (c : List ℕ) (low high : ℕ) → Counted b at order false true c low high → high ≤ low → (equal : Bool) → Before b at order equal c low
+  none-counted c low high p l true =
+      counted true c low high (record { rising = p .rising; within = p .within; before = λ i j. strict-before _ c (p .before i j); after = p .after }) l
+  none-counted c low high p l false =
+      counted false c low high (record { rising = p .rising; within = p .within; before = p .before; after = λ i j h. after-strict _ c (p .after i j h) }) l
 
-      -- The middle comes before c, and so does what stands before the middle.
-      pub goes-up : {r : Bool} → r ≡ comesBefore equal (entryText b at (getD order mid 0)) c → r ≡ true → Counted b at order equal c (mid + 1) high
-      goes-up e t =
-          record {
-            rising = omega arith;
-            within = p .within;
-            before = λ i j. lower-before equal _ (entryText b at (getD order mid 0)) c
-                (index-rising b at (x .index) i mid (omega arith) (omega (arith, p .within))) (sym e ∙ t);
-            after = p .after;
-          }
+  module _ (below above : Bool) (c : List ℕ) (low high : ℕ) (p : Counted b at order below above c low high) (x : SomeIndex b at order) (mid : ℕ)
+      (l : low ≤ mid) (h : mid < high) where
+    -- The string in the middle stands in the byte list.
+    pub mid-entry : Entry b at (getD order mid 0)
+    mid-entry = x .index .entries mid (omega (arith, p .within))
 
-      -- The middle does not, and neither does what stands behind it.
-      pub goes-down : {r : Bool} → r ≡ comesBefore equal (entryText b at (getD order mid 0)) c → r ≡ false → Counted b at order equal c low mid
-      goes-down e t =
-          record {
-            rising = l;
-            within = omega (arith, p .within);
-            before = p .before;
-            after = λ i j k. higher-after equal (entryText b at (getD order mid 0)) _ c (index-rising b at (x .index) mid i j k) (sym e ∙ t);
-          }
+    -- The middle comes before c, and so does what stands before the middle.
+    pub goes-up : (equal : Bool) {r : Bool} → r ≡ comesBefore equal (entryText b at (getD order mid 0)) c → r ≡ true
+        → Counted b at order equal above c (mid + 1) high
+    goes-up equal e t =
+        record {
+          rising = omega arith;
+          within = p .within;
+          before = λ i j. lower-before equal _ (entryText b at (getD order mid 0)) c
+              (index-rising b at (x .index) i mid (omega arith) (omega (arith, p .within))) (sym e ∙ t);
+          after = p .after;
+        }
+
+    -- The middle does not, and neither does what stands behind it.
+    pub goes-down : (equal : Bool) {r : Bool} → r ≡ comesBefore equal (entryText b at (getD order mid 0)) c → r ≡ false
+        → Counted b at order below equal c low mid
+    goes-down equal e t =
+        record {
+          rising = l;
+          within = omega (arith, p .within);
+          before = p .before;
+          after = λ i j k. higher-after equal (entryText b at (getD order mid 0)) _ c (index-rising b at (x .index) mid i j k) (sym e ∙ t);
+        }

@@ -37,6 +37,13 @@ unfoldable pub comesBefore : Bool → List ℕ → List ℕ → Bool
 comesBefore true x c = leq x c
 comesBefore false x c = not (leq c x)
 
+-- the strings before place `low` come before c, and those from place `high` on do not; at either end equal ones count or not
+pub record Counted (b at order : List ℕ) (below above : Bool) (c : List ℕ) (low high : ℕ) : Type 0 where
+  pub rising : low ≤ high
+  pub within : high ≤ length order
+  pub before : (i : ℕ) → i < low → comesBefore below (entryText b at (getD order i 0)) c ≡ true
+  pub after : (i : ℕ) → high ≤ i → i < length order → comesBefore above (entryText b at (getD order i 0)) c ≡ false
+
 -- the first r strings of the index come before c, and no others
 pub record Before (b at order : List ℕ) (equal : Bool) (c : List ℕ) (r : ℕ) : Type 0 where
   pub within : r ≤ length order

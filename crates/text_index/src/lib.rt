@@ -6,7 +6,7 @@ ghost use mathlib.Core.List.{List, _∷_};
 ghost use Prim.Native.Nat.{ℕ, _+_, _≤_, _<_};
 ghost use lib.ListN.{length, getD, take, drop};
 ghost use Rattle.text_strings.specs.InString.{Inside, contentFrom};
-ghost use Rattle.text_index.specs.Index.{Entry, Index, SomeIndex, comesBefore, Before, Holds, Moved};
+ghost use Rattle.text_index.specs.Index.{Entry, Index, SomeIndex, comesBefore, Counted, Before, Holds, Moved};
 
 // A part of the index: the places from `from` to `to`, the last not included.
 pub struct Range {
@@ -26,13 +26,24 @@ fn is_before(b: &[u8], p: usize, t: &[u8], q: usize, equal: bool) -> bool
     }
 }
 
-// How many strings of the index come before the content from position q of t on; with `equal`, those that have that content count too.
-fn count_before(b: &[u8], at: &[usize], order: &[u16], t: &[u8], q: usize, equal: bool) -> usize
-    requires { ⌜ SomeIndex (now b) (now at) (now order) × Inside (now t) q ⌝ }
+// How many strings of the index come before the content from position q of t on; with `equal`, those that have that content count too. All before place
+// `from` are known to come before it, and all from place `to` on are known not to.
+fn count_between(
+    b: &[u8],
+    at: &[usize],
+    order: &[u16],
+    t: &[u8],
+    q: usize,
+    equal: bool,
+    from: usize,
+    to: usize,
+) -> usize
+    requires { ⌜ SomeIndex (now b) (now at) (now order) × Inside (now t) q
+        × Counted (now b) (now at) (now order) equal equal (contentFrom (now t) q) from to ⌝ }
     ensures { λ r. ⌜ Before (now (b .entry)) (now (at .entry)) (now (order .entry)) equal (contentFrom (now (t .entry)) q) r ⌝ }
 {
-    let mut low = 0;
-    let mut high = order.len();
+    let mut low = from;
+    let mut high = to;
     while low < high {
         let mid = low + (high - low) / 2;
         let e = order[mid] as usize;
@@ -45,14 +56,36 @@ fn count_before(b: &[u8], at: &[usize], order: &[u16], t: &[u8], q: usize, equal
     low
 }
 
-// The places of the strings that have the content from position q of t on.
+// The same where nothing is known.
+fn count_before(b: &[u8], at: &[usize], order: &[u16], t: &[u8], q: usize, equal: bool) -> usize
+    requires { ⌜ SomeIndex (now b) (now at) (now order) × Inside (now t) q ⌝ }
+    ensures { λ r. ⌜ Before (now (b .entry)) (now (at .entry)) (now (order .entry)) equal (contentFrom (now (t .entry)) q) r ⌝ }
+{
+    count_between(b, at, order, t, q, equal, 0, order.len())
+}
+
+// The places of the strings that have the content from position q of t on. Most contents that are looked up are not in the index, so one search has to do
+// for them; where it meets the content, the first and the last place of it are in what the search has left.
 pub fn find(b: &[u8], at: &[usize], order: &[u16], t: &[u8], q: usize) -> Range
     requires { ⌜ SomeIndex (now b) (now at) (now order) × Inside (now t) q ⌝ }
     ensures { λ r. ⌜ Holds (now (b .entry)) (now (at .entry)) (now (order .entry)) (contentFrom (now (t .entry)) q) r ⌝ }
 {
-    let from = count_before(b, at, order, t, q, false);
-    let to = count_before(b, at, order, t, q, true);
-    Range { from, to }
+    let mut low = 0;
+    let mut high = order.len();
+    while low < high {
+        let mid = low + (high - low) / 2;
+        let e = order[mid] as usize;
+        match text_strings::compare(b, at[e], t, q) {
+            Order::Less => low = mid + 1,
+            Order::Greater => high = mid,
+            Order::Equal => {
+                let from = count_between(b, at, order, t, q, false, low, mid);
+                let to = count_between(b, at, order, t, q, true, mid + 1, high);
+                return Range { from, to };
+            }
+        }
+    }
+    Range { from: low, to: low }
 }
 
 // Moves the numbers from place k up to place n by one place, so that place k is free.

@@ -2,7 +2,7 @@
 use Prim.Native.Nat.{ℕ, _+_, _-_, _<_, _≤_}
 use mathlib.Core.Path.{_≡_, refl, sym, ap, _∙_}
 use mathlib.Core.Logic.{inl, inr, ⊎-elim}
-use mathlib.Core.List.{List, _∷_}
+use mathlib.Core.List.{List, [], _∷_}
 use mathlib.Core.Bool.{Bool, true, false}
 use native.Mathlib.Omega.{arith}
 use lib.ListN.{length, drop, getD, length-drop}
@@ -12,17 +12,27 @@ use Rattle.text_json.proofs.Grammar.Ends.{inside-length, ends-length}
 use Rattle.text_json.proofs.Grammar.Rests.{space-ends, word-inside}
 use Rattle.text_content.specs.Value.{content}
 use Rattle.text_view.specs.Place.{Readable, EndsAt, ScalarAt}
-use Rattle.text_view.specs.Listed.{Tree, valueTree, DerivesItem, openMark, endMark, ListAt, SomeList, AnyList, ListEndsAt, SomeItem, ItemValue, Gives, Peeks}
+use Rattle.text_view.specs.Listed.{Tree, valueTree, DerivesItem, openMark, endMark, ListAt, SomeList, AnyList, ListEndsAt, SomeItem, ItemValue, ItemAt, SomeItemEnd, NoItems, Gives, Peeks}
 use Rattle.text_view.specs.declared.value.Item.the-variants.{At, End}
 use Rattle.text_view.specs.declared.value.Peek.the-variants.{At as PeekAt, End as PeekEnd}
-use Rattle.text_view.proofs.Values.{value-within, opened, is-scalar}
+use Rattle.text_view.proofs.Values.{value-within, opened, is-scalar, kindAt, openKind, open-kind, opened-as}
 use Rattle.text_view.proofs.Nesting.{Opens}
-use Rattle.text_view.proofs.Items.{item-inside, Started, ended, item, Next, at-mark, at-comma, next}
+use Rattle.text_view.proofs.Items.{item-inside, Started, started, ended, item, Next, at-mark, at-comma, next}
 
 -- a value: its items, or that it is a scalar
 module _ (s : List ℕ) (at d : ℕ) where
   pub readable-within : Readable s at d → at < length s
   readable-within p = let h = p .here in value-within s at d (h .tree) (h .rest) (h .derives)
+
+  -- a value whose first byte opens an array or an object ends with its items
+  pub kind-ends : (object : Bool) → kindAt (getD s at 0) ≡ openKind object → (e : ℕ) → ListEndsAt s (at + 1) (d - 1) object e → EndsAt s at d e
+  kind-ends object k e l =
+      let later = l .later in
+      record {
+        later = omega arith;
+        within = l .within;
+        rest = λ t r p _. let o = opened-as s at d t r p object k in l .rest (o .trees) r (o .items);
+      }
 
   module _ (object : Bool) (mark : getD s at 0 ≡ openMark object) where
     readable-list : Readable s at d → SomeList s (at + 1) (d - 1) object
@@ -32,13 +42,7 @@ module _ (s : List ℕ) (at d : ℕ) where
         record { trees = o .trees; rest = h .rest; here = o .items }
 
     list-ends : (e : ℕ) → ListEndsAt s (at + 1) (d - 1) object e → EndsAt s at d e
-    list-ends e l =
-        let later = l .later in
-        record {
-          later = omega arith;
-          within = l .within;
-          rest = λ t r p _. let o = opened s at d t r p object mark in l .rest (o .trees) r (o .items);
-        }
+    list-ends e l = kind-ends object (ap kindAt mark ∙ open-kind object) e l
 
   -- either opening mark
   pub readable-nested : Opens (getD s at 0) → Readable s at d → AnyList s (at + 1)
@@ -88,9 +92,18 @@ module _ (s : List ℕ) (p d : ℕ) (object : Bool) where
   gives-end at ts r a e (ended w f g) = (omega arith, omega arith, g)
   gives-end at ts r a e (item l w n h i j) = absurd (n e)
 
-  pub peeks-end : (ts : List (Tree object)) (r : List ℕ) → getD s p 0 ≡ endMark object → Started s p d object ts r → Peeks s d object ts PeekEnd
-  peeks-end ts r e (ended w f g) = tt
-  peeks-end ts r e (item l w n h i j) = absurd (n e)
+  pub peeks-end : (at : ℕ) (ts : List (Tree object)) (r : List ℕ) → getD s p 0 ≡ endMark object → Started s p d object ts r
+      → Peeks s at d object ts PeekEnd
+  peeks-end at ts r e (ended w f g) = tt
+  peeks-end at ts r e (item l w n h i j) = absurd (n e)
+
+  -- where the end mark stands no item is left, and the list ends after it
+  pub ended-here : (r : List ℕ) → Started s p d object [] r → (p < length s) × (getD s p 0 ≡ endMark object)
+  ended-here r (ended w e f) = (w, e)
+
+  pub ended-rest : getD s p 0 ≡ endMark object → (ts : List (Tree object)) (r : List ℕ) → Started s p d object ts r → r ≡ drop (p + 1) s
+  ended-rest e ts r (ended w f g) = g
+  ended-rest e ts r (item l w n h i j) = absurd (n e)
 
   module _ (more : getD s p 0 ≡ endMark object → ⊥) where
     pub some-item : (ts : List (Tree object)) (r : List ℕ) → Started s p d object ts r → SomeItem s p object
@@ -106,9 +119,17 @@ module _ (s : List ℕ) (p d : ℕ) (object : Bool) where
             here = record { tree = valueTree object t; rest = l; derives = here .value d t l h; stops = i; means = refl };
           }
 
-      pub peeks-item : (ts : List (Tree object)) (r : List ℕ) → Started s p d object ts r → Peeks s d object ts (PeekAt p v)
-      peeks-item ts r (ended w e f) = absurd (more e)
-      peeks-item ts r (item {t = t} l w n h i j) = record { after = l; derives = h; value = here .value d t l h; stops = i }
+      pub peeks-item : (at : ℕ) → at ≤ p → spaces (drop at s) ≡ drop p s → (ts : List (Tree object)) (r : List ℕ) → Started s p d object ts r
+          → Peeks s at d object ts (PeekAt p v)
+      peeks-item at a e ts r (ended w f g) = absurd (more f)
+      peeks-item at a e ts r (item {t = t} l w n h i j) =
+          record {
+            place = record { reached = a; start = e; more = more; value = here };
+            after = l;
+            derives = h;
+            value = here .value d t l h;
+            stops = i;
+          }
 
       pub take : (e q : ℕ) → EndsAt s v d e → spaces (drop e s) ≡ drop q s → (ts : List (Tree object)) (r : List ℕ) → Started s p d object ts r
           → Taken s p v q d object ts r
@@ -148,3 +169,38 @@ module _ (s : List ℕ) (p v q d : ℕ) (object : Bool) where
   gives-last at ts r a e (taken {ts = us} l h x i n) =
       let w = next-within us r n in
       record { after = l; derives = h; value = x; stops = i; others = at-end us r e n; later = a; within = omega arith }
+
+-- What stands at position q, after the value of an item that ends at position e and spaces.
+module _ (s : List ℕ) (at d : ℕ) (object : Bool) (p v : ℕ) (place : ItemAt s at object p v) (e : ℕ) (ends : EndsAt s v d e) where
+  module _ (q : ℕ) (past : spaces (drop e s) ≡ drop q s) where
+    pub item-taken : (ts : List (Tree object)) (r : List ℕ) → ListAt s at d object ts r → Taken s p v q d object ts r
+    item-taken ts r h =
+        take s p d object (place .more) v (place .value) e q ends past ts r (started s p d object at ts r (place .start) h)
+
+    pub item-next : e ≤ q → (ts : List (Tree object)) (r : List ℕ) → ListAt s at d object ts r → (q < length s) × (at < q)
+    item-next l ts r h =
+        let a = place .reached in
+        let b = place .value .later in
+        let c = ends .later in
+        (taken-within s p v q d object ts r (item-taken ts r h), omega arith)
+
+-- the same where some items are known
+pub some-next : (s : List ℕ) (e : ℕ) (o : SomeItemEnd s e) (q : ℕ) → e ≤ q → spaces (drop e s) ≡ drop q s → q < length s
+some-next s e o q l h =
+    let k = o .list in
+    item-next s (o .at) (o .depth) (o .object) (o .first) (o .value) (o .place) e (o .ends) q h l (k .trees) (k .rest) (k .here) .0
+
+-- An end mark at position p, after spaces, ends the list that has no item from position `at` on.
+module _ (s : List ℕ) (at p : ℕ) (reached : at ≤ p) (start : spaces (drop at s) ≡ drop p s) where
+  pub empty-within : NoItems s at → p < length s
+  empty-within n = ended-here s p (n .depth) (n .object) (n .rest) (started s p (n .depth) (n .object) at [] (n .rest) start (n .here)) .0
+
+  pub empty-ends : (d : ℕ) (object : Bool) (r : List ℕ) → ListAt s at d object [] r → ListEndsAt s at d object (p + 1)
+  empty-ends d object r h =
+      let x = ended-here s p d object r (started s p d object at [] r start h) in
+      let w = x .0 in
+      record {
+        later = omega arith;
+        within = omega arith;
+        rest = λ ts l k. ended-rest s p d object (x .1) ts l (started s p d object at ts l start k);
+      }

@@ -181,8 +181,11 @@ module _ (s : List ℕ) (at d : ℕ) (t : Syntax) (r : List ℕ) (p : Derives d 
   pub opened-kind : (object : Bool) → kindOf (content t) ≡ openKind object → Opened s at d object t r
   opened-kind object k = opened-list s at object d (drop at s) t r refl k p
 
+  pub opened-as : (object : Bool) → kindAt (getD s at 0) ≡ openKind object → Opened s at d object t r
+  opened-as object e = opened-kind object (sym (kind-tree s at d t r p) ∙ e)
+
   pub opened : (object : Bool) → getD s at 0 ≡ openMark object → Opened s at d object t r
-  opened object e = opened-kind object (sym (kind-tree s at d t r p) ∙ ap kindAt e ∙ open-kind object)
+  opened object e = opened-as object (ap kindAt e ∙ open-kind object)
 
 -- without an opening mark a value is a scalar
 scalar-list : (s : List ℕ) (at d : ℕ) (l : List ℕ) (t : Syntax) (r : List ℕ) → drop at s ≡ l → (getD s at 0 ≡ 0x5B → ⊥) → (getD s at 0 ≡ 0x7B → ⊥)

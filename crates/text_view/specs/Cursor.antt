@@ -2,12 +2,14 @@
 use Prim.Native.Nat.{ℕ, _+_, _<_, _≤_}
 use mathlib.Core.Path.{_≡_}
 use mathlib.Core.List.{List}
+use mathlib.Core.Bool.{true, false}
 use lib.ListN.{length, drop}
 use Rattle.text_json.specs.Syntax.{Syntax, elements, members, Member as MemberTree}
 use Rattle.text_json.specs.Grammar.{Listed, Pair, Value as Derives}
 use Rattle.text_content.specs.Value.{Value, Values, no-values, value, Fields, no-fields, field, array, object, contents, fields}
 use Rattle.text_strings.specs.InString.{InString}
-use Rattle.text_view.specs.Place.{ValueAt}
+use Rattle.text_view.specs.Place.{ValueAt, EndsAt}
+use Rattle.text_view.specs.Listed.{ItemAt, ListEndsAt}
 use Rattle.text_view.specs.declared.Elements.{Elements}
 use Rattle.text_view.specs.declared.Element.{Element}
 use Rattle.text_view.specs.declared.Element.the-variants.{At as ElementAt, End as NoElement}
@@ -32,7 +34,8 @@ pub record SomeElements (s : List ℕ) (c : Elements) : Type 0 where
   pub values : Values
   pub left : ElementsLeft s c values
 
--- The first of the elements vs stands at position p, and the others before the cursor d, which is further on than the cursor c.
+-- The first of the elements vs stands at position p, and the others before the cursor d, which is further on than the cursor c and before
+-- the same end mark.
 pub record NextElement (s : List ℕ) (c : Elements) (vs : Values) (p : ℕ) (d : Elements) : Type 0 where
   pub first : Value
   pub others : Values
@@ -42,6 +45,7 @@ pub record NextElement (s : List ℕ) (c : Elements) (vs : Values) (p : ℕ) (d 
   pub depth : d .depth ≡ c .depth
   pub later : c .at < d .at
   pub within : d .at ≤ length s
+  pub ends : (e : ℕ) → ListEndsAt s (d .at) (d .depth) false e → ListEndsAt s (c .at) (c .depth) false e
 
 -- what is given of the elements vs: the first with a cursor, or the end where there is none
 abbrev pub GivesElement : List ℕ → Elements → Values → Element → Type 0
@@ -64,7 +68,7 @@ pub record SomeMembers (s : List ℕ) (c : Members) : Type 0 where
   pub left : MembersLeft s c fields
 
 -- The first of the members fs has its key's quotation mark at position p and its value at position q, and the others stand before
--- the cursor d, which is further on than the cursor c.
+-- the cursor d, which is further on than the cursor c and before the same end mark.
 pub record NextMember (s : List ℕ) (c : Members) (fs : Fields) (p q : ℕ) (d : Members) : Type 0 where
   pub key : List ℕ
   pub first : Value
@@ -76,6 +80,7 @@ pub record NextMember (s : List ℕ) (c : Members) (fs : Fields) (p q : ℕ) (d 
   pub depth : d .depth ≡ c .depth
   pub later : c .at < d .at
   pub within : d .at ≤ length s
+  pub ends : (e : ℕ) → ListEndsAt s (d .at) (d .depth) true e → ListEndsAt s (c .at) (c .depth) true e
 
 -- what is given of the members fs, likewise
 abbrev pub GivesMember : List ℕ → Members → Fields → Member → Type 0
@@ -90,6 +95,16 @@ pub record FirstMember (s : List ℕ) (c : Members) (fs : Fields) (p q : ℕ) : 
   pub split : fs ≡ field key first others
   pub name : InString s (p + 1) key
   pub here : ValueAt s q (c .depth) first
+  pub place : ItemAt s (c .at) true p q
+
+-- Position e is the one after the value of the first member before the cursor.
+pub record SomeMemberEnd (s : List ℕ) (c : Members) (e : ℕ) : Type 0 where
+  pub fields : Fields
+  pub left : MembersLeft s c fields
+  pub key : ℕ
+  pub value : ℕ
+  pub first : FirstMember s c fields key value
+  pub ends : EndsAt s value (c .depth) e
 
 abbrev pub GivesHead : List ℕ → Members → Fields → Head → Type 0
 GivesHead s c fs (HeadAt p q) = FirstMember s c fs p q

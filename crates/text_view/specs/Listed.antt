@@ -3,9 +3,11 @@ use Prim.Native.Nat.{ℕ, _<_, _≤_}
 use mathlib.Core.Path.{_≡_}
 use mathlib.Core.List.{List, [], _∷_}
 use mathlib.Core.Bool.{Bool, true, false}
-use lib.ListN.{length, drop}
+use lib.ListN.{length, drop, getD}
 use Rattle.text_json.specs.Syntax.{Syntax, Member}
 use Rattle.text_json.specs.Grammar.{Listed, Pair, Value as Derives, Stops}
+use Rattle.text_json.specs.Read.{spaces}
+use Rattle.text_view.specs.Place.{EndsAt}
 use Rattle.text_view.specs.declared.value.Item.{Item}
 use Rattle.text_view.specs.declared.value.Item.the-variants.{At, End}
 use Rattle.text_view.specs.declared.value.Peek.{Peek}
@@ -65,6 +67,31 @@ pub record ItemValue (s : List ℕ) (p : ℕ) (object : Bool) (v : ℕ) : Type 0
   pub later : p ≤ v
   pub value : (depth : ℕ) (t : Tree object) (r : List ℕ) → DerivesItem object depth (drop p s) t r → Derives depth (drop v s) (valueTree object t) r
 
+-- Of the items from position `at` on there is one: it stands at position p, after spaces, and its value at position v.
+pub record ItemAt (s : List ℕ) (at : ℕ) (object : Bool) (p v : ℕ) : Type 0 where
+  pub reached : at ≤ p
+  pub start : spaces (drop at s) ≡ drop p s
+  pub more : getD s p 0 ≡ endMark object → ⊥
+  pub value : ItemValue s p object v
+
+-- Position e is the one after the value of the first of some items.
+pub record SomeItemEnd (s : List ℕ) (e : ℕ) : Type 0 where
+  pub at : ℕ
+  pub depth : ℕ
+  pub object : Bool
+  pub list : SomeList s at depth object
+  pub first : ℕ
+  pub value : ℕ
+  pub place : ItemAt s at object first value
+  pub ends : EndsAt s value depth e
+
+-- From position `at` on stands an end mark, and no item.
+pub record NoItems (s : List ℕ) (at : ℕ) : Type 0 where
+  pub depth : ℕ
+  pub object : Bool
+  pub rest : List ℕ
+  pub here : ListAt s at depth object [] rest
+
 -- The first of the items from position `at` on is t, at position p with its value at position v, and the others stand from
 -- position n on.
 pub record FirstAt (s : List ℕ) (at depth : ℕ) (object : Bool) (t : Tree object) (ts : List (Tree object)) (r : List ℕ) (p v n : ℕ) : Type 0 where
@@ -83,16 +110,17 @@ Gives s at depth object [] r (At p v n) = ⊥
 Gives s at depth object (t ∷ ts) r (End e) = ⊥
 Gives s at depth object (t ∷ ts) r (At p v n) = FirstAt s at depth object t ts r p v n
 
--- the item t stands at position p with its value at position v
-pub record HeadOf (s : List ℕ) (depth : ℕ) (object : Bool) (t : Tree object) (p v : ℕ) : Type 0 where
+-- the first of the items from position `at` on is t, at position p with its value at position v
+pub record HeadOf (s : List ℕ) (at depth : ℕ) (object : Bool) (t : Tree object) (p v : ℕ) : Type 0 where
+  pub place : ItemAt s at object p v
   pub after : List ℕ
   pub derives : DerivesItem object depth (drop p s) t after
   pub value : Derives depth (drop v s) (valueTree object t) after
   pub stops : Stops after
 
 -- the same of the first of the items ts, and nothing of the others
-abbrev pub Peeks : List ℕ → ℕ → (object : Bool) → List (Tree object) → Peek → Type 0
-Peeks s depth object [] PeekEnd = Unit {0}
-Peeks s depth object [] (PeekAt p v) = ⊥
-Peeks s depth object (t ∷ ts) PeekEnd = ⊥
-Peeks s depth object (t ∷ ts) (PeekAt p v) = HeadOf s depth object t p v
+abbrev pub Peeks : List ℕ → ℕ → ℕ → (object : Bool) → List (Tree object) → Peek → Type 0
+Peeks s at depth object [] PeekEnd = Unit {0}
+Peeks s at depth object [] (PeekAt p v) = ⊥
+Peeks s at depth object (t ∷ ts) PeekEnd = ⊥
+Peeks s at depth object (t ∷ ts) (PeekAt p v) = HeadOf s at depth object t p v

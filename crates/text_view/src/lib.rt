@@ -1,10 +1,12 @@
 // The values of a JSON text in place: a position stands for the value whose first byte it is, and a cursor for what is left of an
 // array or an object. The text was checked before; it need not be canonical.
 ghost use mathlib.Core.Path.{_≡_};
-ghost use Prim.Native.Nat.{_-_};
-ghost use Rattle.text_content.specs.Value.{Values, Fields, array, object};
-ghost use Rattle.text_view.specs.Place.{ValueAt};
-ghost use Rattle.text_view.specs.Cursor.{SomeArray, SomeElements, ElementsLeft, GivesElement, SomeObject, SomeMembers, MembersLeft, GivesMember, GivesHead};
+ghost use mathlib.Core.Bool.{true, false};
+ghost use Prim.Native.Nat.{ℕ, _-_};
+ghost use Rattle.text_content.specs.Value.{Values, no-values, Fields, no-fields, array, object};
+ghost use Rattle.text_view.specs.Place.{ValueAt, EndsAt};
+ghost use Rattle.text_view.specs.Listed.{ListEndsAt};
+ghost use Rattle.text_view.specs.Cursor.{SomeArray, SomeElements, ElementsLeft, GivesElement, SomeObject, SomeMembers, MembersLeft, GivesMember, GivesHead, FirstMember, NextMember, SomeMemberEnd};
 
 // What a value is; a boolean is told apart already.
 pub enum Kind {
@@ -42,6 +44,7 @@ impl Elements {
         requires { ⌜ SomeArray (now s) at depth ⌝ }
         ensures { λ r. ⌜ ((vs : Values) → ValueAt (now (s .entry)) at depth (array vs) → ElementsLeft (now (s .entry)) r vs) ⌝ }
         ensures { λ r. ⌜ r .depth ≡ depth - 1 ⌝ }
+        ensures { λ r. ⌜ ((e : ℕ) → ListEndsAt (now (s .entry)) (r .at) (r .depth) false e → EndsAt (now (s .entry)) at depth e) ⌝ }
     {
         Elements {
             at: at + 1,
@@ -62,6 +65,14 @@ impl Elements {
             } => Element::At(value, Elements { at: next, depth }),
             value::Item::End(_) => Element::End,
         }
+    }
+
+    // The position after the array, of which no element is left.
+    pub fn end(self, s: &[u8]) -> usize
+        requires { ⌜ ElementsLeft (now s) self no-values ⌝ }
+        ensures { λ r. ⌜ ListEndsAt (now (s .entry)) (self .at) (self .depth) false r ⌝ }
+    {
+        value::list_end(s, self.at)
     }
 }
 
@@ -93,6 +104,7 @@ impl Members {
         requires { ⌜ SomeObject (now s) at depth ⌝ }
         ensures { λ r. ⌜ ((fs : Fields) → ValueAt (now (s .entry)) at depth (object fs) → MembersLeft (now (s .entry)) r fs) ⌝ }
         ensures { λ r. ⌜ r .depth ≡ depth - 1 ⌝ }
+        ensures { λ r. ⌜ ((e : ℕ) → ListEndsAt (now (s .entry)) (r .at) (r .depth) true e → EndsAt (now (s .entry)) at depth e) ⌝ }
     {
         Members {
             at: at + 1,
@@ -109,6 +121,25 @@ impl Members {
             value::Peek::At { first, value } => Head::At { key: first, value },
             value::Peek::End => Head::End,
         }
+    }
+
+    // What is left after the first member, whose value ends at `end`: who has read the value need not pass it again.
+    pub fn after(self, s: &[u8], end: usize) -> Members
+        requires { ⌜ SomeMemberEnd (now s) self end ⌝ }
+        ensures { λ r. ⌜ ((fs : Fields) (p q : ℕ) → MembersLeft (now (s .entry)) self fs → FirstMember (now (s .entry)) self fs p q
+            → EndsAt (now (s .entry)) q (self .depth) end → NextMember (now (s .entry)) self fs p q r) ⌝ }
+    {
+        let depth = self.depth;
+        let at = value::after_value(s, end);
+        Members { at, depth }
+    }
+
+    // The position after the object, of which no member is left.
+    pub fn end(self, s: &[u8]) -> usize
+        requires { ⌜ MembersLeft (now s) self no-fields ⌝ }
+        ensures { λ r. ⌜ ListEndsAt (now (s .entry)) (self .at) (self .depth) true r ⌝ }
+    {
+        value::list_end(s, self.at)
     }
 
     pub fn next(self, s: &[u8]) -> Member

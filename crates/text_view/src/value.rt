@@ -14,7 +14,9 @@ ghost use Rattle.text_json.specs.Content.{decimal};
 ghost use Rattle.text_strings.specs.InString.{Inside, EscapeAt};
 ghost use Rattle.text_content.specs.Value.{Value, number, content};
 ghost use Rattle.text_view.specs.Place.{ValueAt, Readable, SomeValue, SmallNumber, kindOf, EndsAt, StringEndsAt, CharEndsAt, unmarkedRun, ScalarAt, endOf};
-ghost use Rattle.text_view.specs.Listed.{Tree, ListAt, SomeList, AnyList, ListEndsAt, SomeItem, ItemValue, Gives, Peeks, endMark};
+ghost use Rattle.text_view.specs.Listed.{Tree, ListAt, SomeList, AnyList, ListEndsAt, SomeItem, ItemAt, SomeItemEnd, NoItems, ItemValue, Gives, Peeks, endMark};
+ghost use Rattle.text_view.specs.declared.value.Item.the-variants.{At as ItemIs};
+ghost use mathlib.Core.List.{[]};
 
 // The value of a whole text: it stands after the first spaces.
 pub fn root(s: &[u8]) -> usize
@@ -213,7 +215,7 @@ pub fn skip(s: &[u8], at: usize, depth: usize) -> usize
 // The first of the items from `at` on, where what follows it is not asked, and so its value need not be passed.
 pub fn peek_item(s: &[u8], at: usize, depth: usize, object: bool) -> Peek
     requires { ⌜ SomeList (now s) at depth object ⌝ }
-    ensures { λ r. ⌜ ((ts : List (Tree object)) (rest : List ℕ) → ListAt (now (s .entry)) at depth object ts rest → Peeks (now (s .entry)) depth object ts r) ⌝ }
+    ensures { λ r. ⌜ ((ts : List (Tree object)) (rest : List ℕ) → ListAt (now (s .entry)) at depth object ts rest → Peeks (now (s .entry)) at depth object ts r) ⌝ }
 {
     let first = text_json::space::skip_spaces(s, at);
     if s[first] == end_mark(object) {
@@ -233,19 +235,29 @@ pub fn read_item(s: &[u8], at: usize, depth: usize, object: bool) -> Item
         return Item::End(first + 1);
     }
     let value = item_value(s, first, object);
-    let end = text_json::space::skip_spaces(s, skip(s, value, depth));
-    if s[end] == b',' {
-        return Item::At {
-            first,
-            value,
-            next: end + 1,
-        };
+    let next = after_value(s, skip(s, value, depth));
+    Item::At { first, value, next }
+}
+
+// The position from which on the items stand after one whose value ends at `end`: spaces are passed, and a comma.
+pub fn after_value(s: &[u8], end: usize) -> usize
+    requires { ⌜ SomeItemEnd (now s) end ⌝ }
+    ensures { λ r. ⌜ ((at depth : ℕ) (object : Bool) (ts : List (Tree object)) (rest : List ℕ) (p v : ℕ) → ListAt (now (s .entry)) at depth object ts rest
+        → ItemAt (now (s .entry)) at object p v → EndsAt (now (s .entry)) v depth end → Gives (now (s .entry)) at depth object ts rest (ItemIs p v r)) ⌝ }
+{
+    let next = text_json::space::skip_spaces(s, end);
+    if s[next] == b',' {
+        return next + 1;
     }
-    Item::At {
-        first,
-        value,
-        next: end,
-    }
+    next
+}
+
+// The position after the end mark, where no item is left from `at` on.
+pub fn list_end(s: &[u8], at: usize) -> usize
+    requires { ⌜ NoItems (now s) at ⌝ }
+    ensures { λ r. ⌜ ((depth : ℕ) (object : Bool) (rest : List ℕ) → ListAt (now (s .entry)) at depth object [] rest → ListEndsAt (now (s .entry)) at depth object r) ⌝ }
+{
+    text_json::space::skip_spaces(s, at) + 1
 }
 
 fn end_mark(object: bool) -> u8

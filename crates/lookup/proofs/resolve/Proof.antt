@@ -24,21 +24,21 @@ use Rattle.lookup.proofs.resolve.Tie as tie
 -- where the bytes in use were opened
 module _ (o : tie.After-open-store) where
   abbrev start : tie.Start
-  start = o .before .before .before .before .before .before .before .before .before .before .before
+  start = o .before .before .before .before .before .before .before .before .before .before
 
   abbrev bytes : List ℕ
   bytes = take (start .args .used) (now (start .args .store))
 
   within : start .args .used ≤ length (now (start .args .store))
-  within = o .before .before .before .before .before .before .before .if1 .left
+  within = o .before .before .before .before .before .before .if1 .left
 
   small : (k : ℕ) → getD (now (start .args .store)) k 0 < 256
-  small k = omega (arith, o .before .before .before .before .before .before .before .before .before .before .shared-slice-known .given k)
+  small k = omega (arith, o .before .before .before .before .before .before .before .before .before .shared-slice-known .given k)
 
 -- 11 does not apply
 module _ (e : tie.Else2) where
   abbrev opening : tie.After-open-store
-  opening = e .before .before .before .before .before .before .before
+  opening = e .before .before .before .before .before .before
 
   opened : OpenedStore (bytes opening) (opening .open-store .result .survey) (opening .open-store .result .places)
   opened = opening .open-store .ensures .1 (not-false _ (e .if2 .left))
@@ -86,11 +86,8 @@ slice-aggregate-open-store-3 c = search needs
 slice-aggregate-open-store-4 : tie.Need-slice-aggregate-open-store-4
 slice-aggregate-open-store-4 c = search needs
 
-slice-aggregate-open-store-5 : tie.Need-slice-aggregate-open-store-5
-slice-aggregate-open-store-5 c = search needs
-
 open-store-requires : tie.Need-open-store-requires
-open-store-requires c κs = (refl, refl, refl, refl, refl)
+open-store-requires c κs = (refl, refl, refl, refl)
 
 refused-requires-2 : tie.Need-refused-requires-2
 refused-requires-2 c κs = search needs
@@ -101,7 +98,7 @@ same-length-2 c = search needs
 returns-2 : tie.Need-returns-2
 returns-2 c =
     let t = c .before .before .before .before in
-    let o = t .before .before .before .before .before .before .before in
+    let o = t .before .before .before .before .before .before in
     let r = c .before .before .refused2 .ensures in
     let b = not-false _ (sym (o .open-store .ensures .0) ∙ not-true _ (t .if2 .taken)) in
     refused-resolves (number-broken _ _ _ _ _ (within o) (small o) b) (λ z. omega arith) (λ f z. omega (arith, failure-bounds f)) (r .0) (r .1)
@@ -167,7 +164,7 @@ resolve-in-requires c κs =
       at-room = n .0;
       order-room = n .1 .0;
       names-room = omega (arith, n .1 .1 .0);
-      owners-room = omega (arith, n .1 .1 .1 .1 .0);
+      owners-room = omega (arith, n .1 .1 .1 .0);
     }
 
 same-length-5 : tie.Need-same-length-5
@@ -197,7 +194,6 @@ resolve-spec =
     slice-aggregate-open-store-2
     slice-aggregate-open-store-3
     slice-aggregate-open-store-4
-    slice-aggregate-open-store-5
     open-store-requires
     refused-requires-2
     same-length-2

@@ -1,8 +1,10 @@
--- `lookup_outcome::check_all` meets its contract. The loop's invariant: the layers before the reference e were found. The measure is how many are left.
+-- `lookup_outcome::check_all` meets its contract. The loop's invariant: the layers before the reference e were found, or the first that fails is one of
+-- them, and then none is left to ask. The measure is how many are left.
 -- Assumes nothing.
-use Prim.Native.Nat.{_+_, _-_, _≤_, _<_}
+use Prim.Native.Nat.{_+_, _-_, _*_, _≤_, _<_}
 use mathlib.Core.Path.{_≡_, refl, _∙_}
 use mathlib.Core.List.{List}
+use mathlib.Core.Logic.{⊎-elim}
 use native.Mathlib.Omega.{arith}
 use borrow.Author.Needs.{needs}
 use denote.Ref.{now}
@@ -15,18 +17,18 @@ use Rattle.lookup_layers.proofs.Listing.{read-sized}
 use Rattle.lookup_paths.specs.Follow.{endOf}
 use Rattle.lookup_outcome.specs.Outcome.{fate}
 use Rattle.lookup_outcome.specs.Resolving.{Resolving, FoundAt}
-use Rattle.lookup_outcome.proofs.Checking.{CheckedTo, checked-none, checked-fails, checked-next, checked-all}
+use Rattle.lookup_outcome.proofs.Checking.{Told, all-found, checked-none, entry-small, told-fails, told-next, told-first, told-all}
 use Rattle.lookup_outcome.proofs.check_all.Statement.{statement}
 use Rattle.lookup_outcome.proofs.check_all.Tie as tie
 
 abbrev Inv-loop : tie.InvT-loop
-Inv-loop b keys next objects present numbers₀ length₀ e₀ numbers n e =
-    (objects ≤ e) × (e ≤ length keys) × (length numbers ≡ length numbers₀)
+Inv-loop b keys next objects present numbers₀ n length₀ failing₀ why₀ e₀ numbers size failing why e =
+    (objects ≤ e) × (objects ≤ failing) × (failing ≤ length keys) × (length numbers ≡ length numbers₀) × (size ≤ 49 * (e - objects))
     × ((room : List Image) (refs : List Layer) (ds : List LayerDigest) → Resolving b keys next present objects room refs ds
-    → CheckedTo ds room refs objects e n numbers)
+    → Told ds room refs objects e size numbers failing why)
 
 abbrev μ-loop : tie.MeasureT-loop
-μ-loop b keys next objects present numbers₀ length₀ e₀ numbers n e = length keys - e
+μ-loop b keys next objects present numbers₀ n length₀ failing₀ why₀ e₀ numbers size failing why e = length keys - e
 
 -- a turn of the loop: the layer that it follows
 module _ (t : tie.In-loop Inv-loop μ-loop) where
@@ -34,13 +36,13 @@ module _ (t : tie.In-loop Inv-loop μ-loop) where
   start = t .before .before .before .before .before .before .before
 
   reached : t .before .loop .e < length (now (start .args .keys))
-  reached = t .loop-test .taken
+  reached = omega (arith, t .loop-test .taken, t .before .loop .inv .2)
 
   -- its place among the layers
   place-below : t .before .loop .e - start .args .objects < length (t .before .loop .numbers)
   place-below =
       let x = start .pre .0 .is in
-      omega (arith, reached, t .before .loop .inv .2, start .pre .1, x .layers-few, stand-length (x .stand))
+      omega (arith, reached, t .before .loop .inv .3, start .pre .1, x .layers-few, stand-length (x .stand))
 
   -- its number is small
   e-below : t .before .loop .e < 4160
@@ -49,29 +51,20 @@ module _ (t : tie.In-loop Inv-loop μ-loop) where
 loop-holds : tie.Need-loop-holds Inv-loop μ-loop
 loop-holds c =
     let x = c .before .before .before .before .before .pre .0 .is in
-    let h = stand-length (x .stand) in
-    (omega (arith, x .few), omega (arith, x .few), refl, λ room refs ds y. checked-none ds room refs _ _)
+    let h = stand-length (x .stand) in (
+      omega arith,
+      omega (arith, x .few),
+      omega arith,
+      refl,
+      omega arith,
+      λ room refs ds y. let k = stand-length (y .stand) in all-found k (omega (arith, y .few)) (checked-none ds room refs _ _),
+    )
 
 fate-of-requires : tie.Need-fate-of-requires Inv-loop μ-loop
 fate-of-requires c κs = (start c .pre .0, reached c)
 
 enum-known-f : tie.Need-enum-known-f Inv-loop μ-loop
 enum-known-f c = search needs
-
-sub-t15 : tie.Need-sub-t15 Inv-loop μ-loop
-sub-t15 c = omega (arith, c .before .before .before .before .before .loop .inv .0)
-
-same-length : tie.Need-same-length Inv-loop μ-loop
-same-length c = c .before .before .before .before .before .loop .inv .2
-
-returns : tie.Need-returns Inv-loop μ-loop
-returns c = λ room refs ds x.
-    let f = c .before in
-    let r = f .before .before in
-    let t = r .before in
-    let l = t .before .loop in
-    checked-fails ds room refs _ (l .e) (l .length) (l .numbers) (l .inv .3 room refs ds x) (omega (arith, reached t, stand-length (x .stand))) _
-    (rw (f .f .given .1) at (r .fate-of .ensures room refs ds x))
 
 enum-known-number : tie.Need-enum-known-number Inv-loop μ-loop
 enum-known-number c = search needs
@@ -93,16 +86,11 @@ module _ (k : tie.After-number Inv-loop μ-loop) where
       let x = start turn .pre .0 .is in
       omega (arith, found-here _ _ _ x .at .within, x .links .few)
 
-  -- it is found after the others
-  next : (room : List Image) (refs : List Layer) (ds : List LayerDigest)
-      → Resolving (now (start turn .args .b)) (now (start turn .args .keys)) (now (start turn .args .next)) (now (start turn .args .present))
-      (start turn .args .objects) room refs ds
-      → CheckedTo ds room refs (start turn .args .objects) (turn .before .loop .e + 1) (turn .before .loop .length + k .number .given .0 .1 .0)
-      (set (turn .before .loop .numbers) (turn .before .loop .e - start turn .args .objects) (k .number .given .0 .0))
-  next room refs ds x =
-      let l = turn .before .loop in
-      checked-next ds room refs _ (l .e) (l .length) (l .numbers) (l .inv .3 room refs ds x) (read-sized _ ds (x .list))
-      (omega (arith, reached turn, stand-length (x .stand))) _ _ (found-here room refs ds x) (place-below turn)
+  -- and so is its entry
+  size-below : k .number .given .0 .1 .0 ≤ 49
+  size-below =
+      let x = start turn .pre .0 .is in
+      entry-small _ _ _ _ _ (read-sized _ _ (x .list)) (found-here _ _ _ x)
 
 cast-numbers : tie.Need-cast-numbers Inv-loop μ-loop
 cast-numbers c = omega (arith, number-below (c .before))
@@ -117,34 +105,62 @@ slice-write-numbers : tie.Need-slice-write-numbers Inv-loop μ-loop
 slice-write-numbers c = place-below (turn (c .before))
 
 add-length : tie.Need-add-length Inv-loop μ-loop
-add-length c =
-    let t = turn (c .before) in
-    let y = next (c .before) _ _ _ (start t .pre .0 .is) in
-    omega (arith, y .few, y .count, e-below t)
+add-length c = let t = turn (c .before) in omega (arith, t .before .loop .inv .4, size-below (c .before), e-below t)
 
 add-e : tie.Need-add-e Inv-loop μ-loop
-add-e c = omega (arith, e-below (turn (c .before)))
+add-e c = omega (arith, e-below (c .before .before))
 
 loop-less : tie.Need-loop-less Inv-loop μ-loop
-loop-less c = omega (arith, reached (turn (c .before)))
+loop-less c = omega (arith, reached (c .before .before))
 
 loop-again : tie.Need-loop-again Inv-loop μ-loop
 loop-again c =
-    let t = turn (c .before) in
-    let l = t .before .loop in (
+    let t = c .before .before in
+    let l = t .before .loop in
+    ⊎-elim
+    (λ w. rw (w .3, w .4, w .5, w .6) (
       omega (arith, l .inv .0),
+      l .inv .0,
       omega (arith, reached t),
-      length-set (l .numbers) _ _ ∙ l .inv .2,
-      next (c .before),
-    )
+      l .inv .3,
+      omega (arith, l .inv .4, l .inv .0),
+      λ room refs ds x. told-fails ds room refs _ (l .e) (l .length) (l .numbers) (l .failing) (l .why) (l .inv .5 room refs ds x) (t .loop-test .taken) _
+          (rw (w .1 .given .1) at (c .before .fate-of .ensures room refs ds x)),
+    ))
+    (λ w. let k : tie.After-number Inv-loop μ-loop = record { before = record { before = c .before; match = w .0 }; number = w .1 } in
+    rw (w .3, w .4, w .5, w .6) (
+      omega (arith, l .inv .0),
+      l .inv .1,
+      l .inv .2,
+      length-set (l .numbers) _ _ ∙ l .inv .3,
+      omega (arith, l .inv .4, l .inv .0, size-below k),
+      λ room refs ds x. told-next ds room refs _ (l .e) (l .length) (l .numbers) (l .failing) (l .why) (l .inv .5 room refs ds x) (t .loop-test .taken) _ _
+          (found-here k room refs ds x) (place-below t),
+    ))
+    (c .match .came)
+
+sub-t22 : tie.Need-sub-t22 Inv-loop μ-loop
+sub-t22 c = omega (arith, c .before .before .loop .inv .1)
+
+same-length : tie.Need-same-length Inv-loop μ-loop
+same-length c = c .before .before .loop .inv .3
+
+returns : tie.Need-returns Inv-loop μ-loop
+returns c =
+    λ room refs ds x.
+    let l = c .before .before .loop in
+    told-first ds room refs _ (l .e) (l .length) (l .numbers) (l .failing) (l .why) (l .inv .5 room refs ds x)
+    (omega (arith, c .if1 .taken, stand-length (x .stand)))
 
 same-length-2 : tie.Need-same-length-2 Inv-loop μ-loop
-same-length-2 c = c .before .loop .inv .2
+same-length-2 c = c .before .before .loop .inv .3
 
 returns-2 : tie.Need-returns-2 Inv-loop μ-loop
-returns-2 c = λ room refs ds x.
-    let l = c .before .loop in
-    checked-all ds room refs _ (l .e) (l .length) (l .numbers) (l .inv .3 room refs ds x) (omega (arith, c .loop-test .left, stand-length (x .stand)))
+returns-2 c =
+    λ room refs ds x.
+    let l = c .before .before .loop in
+    told-all ds room refs _ (l .e) (l .length) (l .numbers) (l .failing) (l .why) (l .inv .5 room refs ds x)
+    (omega (arith, c .if1 .left, stand-length (x .stand))) (c .before .loop-test .left)
 
 pub check-all-spec : {M : Type 1} → statement M
 check-all-spec =
@@ -155,9 +171,6 @@ check-all-spec =
     loop-holds
     fate-of-requires
     enum-known-f
-    sub-t15
-    same-length
-    returns
     enum-known-number
     cast-numbers
     sub-numbers
@@ -167,5 +180,8 @@ check-all-spec =
     add-e
     loop-less
     loop-again
+    sub-t22
+    same-length
+    returns
     same-length-2
     returns-2)

@@ -12,16 +12,16 @@ enum-told c = search needs
 enum-known-group : tie.Need-enum-known-group
 enum-known-group c = search needs
 
+returns : tie.Need-returns
+returns c =
+    let a = c .before .before .before .before .before in
+    (omega arith, refl, refl, nothing-listed _ _ (a .pre .0) (c .enum-told .given .1))
+
 list-group-requires : tie.Need-list-group-requires
 list-group-requires c κs =
     let g = c .before .before .before in
     let a = g .before .before .before .before .before in
     listable-group _ _ (a .pre .0) _ (g .group .given .1) _ _ (a .pre .1) (a .pre .2)
-
-returns : tie.Need-returns
-returns c =
-    let a = c .before .before .before .before .before in
-    (omega arith, refl, refl, nothing-listed _ _ (a .pre .0) (c .enum-told .given .1))
 
 same-length : tie.Need-same-length
 same-length c = search needs

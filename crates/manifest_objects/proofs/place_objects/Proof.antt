@@ -11,8 +11,8 @@ use Rattle.manifest_objects.proofs.place_objects.Tie as tie
 enum-told : tie.Need-enum-told
 enum-told c = search needs
 
-enum-known-group : tie.Need-enum-known-group
-enum-known-group c = search needs
+enum-known-objects : tie.Need-enum-known-objects
+enum-known-objects c = search needs
 
 sub-place-keys : tie.Need-sub-place-keys
 sub-place-keys c = search needs
@@ -27,7 +27,7 @@ place-keys-requires : tie.Need-place-keys-requires
 place-keys-requires c κs =
     let g = c .before .before .before in
     let a = g .before .before .before .before in
-    placeable-group _ _ (a .pre .2) _ (g .group .given .1) _ _ (a .pre .3) (omega (arith, part-end (now (a .args .b)) (a .args .start) (a .args .end) (a .pre .0) (a .pre .1), a .pre .1))
+    placeable-group _ _ (a .pre .2) _ (g .objects .given .1) _ _ (a .pre .3) (omega (arith, part-end (now (a .args .b)) (a .args .start) (a .args .end) (a .pre .0) (a .pre .1), a .pre .1))
 
 returns : tie.Need-returns
 returns c =
@@ -42,7 +42,7 @@ returns-2 c =
     let f = c .before .before in
     let g = f .before .before .before .before in
     let a = g .before .before .before .before in
-    let w = objects-placed _ _ (a .pre .2) _ (g .group .given .1) (f .place-keys .ensures .2) in
+    let w = objects-placed _ _ (a .pre .2) _ (g .objects .given .1) (f .place-keys .ensures .2) in
     (f .place-keys .ensures .0, f .place-keys .ensures .1, w .rest, w .stand _ (a .args .end - a .args .start) refl)
 
 pub place-objects-spec : {M : Type 1} → statement M
@@ -50,7 +50,7 @@ place-objects-spec =
     tie.close
     (tie.spec
     enum-told
-    enum-known-group
+    enum-known-objects
     sub-place-keys
     part-place-keys-start
     part-place-keys-end

@@ -2,15 +2,14 @@
 use Prim.Native.Nat.{ℕ, _+_, _≤_}
 use mathlib.Core.Path.{_≡_, refl, sym, ap, _∙_}
 use native.Mathlib.Omega.{arith}
-use borrow.Author.Needs.{needs}
 use denote.Ref.{now}
 use lib.ListN.{length}
 use Rattle.store_record.specs.Image.{Image}
 use Rattle.store_record.specs.Record.{recordOf}
 use Rattle.store.specs.Load.{usedAfter, bytesAfter}
 use Rattle.store.specs.Loading.{imageWith}
-use Rattle.store.proofs.Appending.{form-small}
 use Rattle.store.proofs.Numbering.{record-size}
+use borrow.Author.Needs.{needs}
 use Rattle.store.proofs.append.Statement.{statement}
 use Rattle.store.proofs.append.Tie as tie
 
@@ -18,30 +17,28 @@ abbrev begin : tie.After-head-size → tie.Start
 begin c = c .before .before .before .before .before
 
 abbrev its-image : tie.Start → Image
-its-image a = imageWith (a .args .a) (now (a .args .signer)) (now (a .args .digest)) (now (a .args .manifest))
+its-image a = imageWith (a .args .a) (now (a .args .signer)) (now (a .args .digest)) (now (a .args .text))
 
-needed : (c : tie.After-head-size) → length (recordOf (its-image (begin c))) ≡ c .head-size .result + begin c .args .size
+needed : (c : tie.After-head-size) → length (recordOf (its-image (begin c))) ≡ c .head-size .result + length (now (begin c .args .text))
 needed c =
     let a = begin c in
-    record-size (a .args .a) (now (a .args .signer)) (now (a .args .digest)) (now (a .args .manifest)) (a .pre .1) (a .pre .2) (a .args .size) (a .pre .0)
-    ∙ ap (λ (k : ℕ). k + a .args .size) (sym (c .head-size .ensures))
+    record-size (a .args .a) (now (a .args .signer)) (now (a .args .digest)) (now (a .args .text)) (a .pre .digests)
+    ∙ ap (λ (k : ℕ). k + length (now (a .args .text))) (sym (c .head-size .ensures))
 
-within : (c : tie.After-head-size) → begin c .args .used + c .head-size .result + begin c .args .size ≤ length (now (begin c .args .store))
-within c = omega (arith, needed c, begin c .pre .3 .within, begin c .pre .3 .space)
+within : (c : tie.After-head-size) → begin c .args .used + c .head-size .result + length (now (begin c .args .text)) ≤ length (now (begin c .args .store))
+within c = omega (arith, needed c, begin c .pre .fits .within, begin c .pre .fits .space)
 
 head-size-requires : tie.Need-head-size-requires
-head-size-requires c κs =
-    let a = c .before .before .before .before in
-    omega (arith, form-small (now (a .args .manifest)) (a .pre .1), a .pre .0)
+head-size-requires c κs = search needs
 
 add-end : tie.Need-add-end
-add-end c = omega (arith, within c, begin c .good .1 .1 .1 .1 .1 .0 .0)
+add-end c = omega (arith, within c, begin c .good .1 .1 .1 .1 .0 .0)
 
 add-end-2 : tie.Need-add-end-2
-add-end-2 c = omega (arith, within c, begin c .good .1 .1 .1 .1 .1 .0 .0)
+add-end-2 c = omega (arith, within c, begin c .good .1 .1 .1 .1 .0 .0)
 
 put-record-requires : tie.Need-put-record-requires
-put-record-requires c κs = begin (c .before) .pre
+put-record-requires c κs = search needs
 
 same-length : tie.Need-same-length
 same-length c = search needs
@@ -49,9 +46,10 @@ same-length c = search needs
 returns : tie.Need-returns
 unfolding usedAfter bytesAfter
 returns c =
-    let f = c .before .before in
-    let h = f .before .before in
-    record { number = refl; new-used = omega (arith, needed h); bytes = f .put-record .ensures }
+    let p = c .before .before in
+    record { number = refl; new-used = omega (arith, needed (p .before .before)); bytes = p .put-record .ensures }
 
 pub append-spec : {M : Type 1} → statement M
-append-spec = tie.close (tie.spec head-size-requires add-end add-end-2 put-record-requires same-length returns)
+append-spec =
+    tie.close
+    (tie.spec head-size-requires add-end add-end-2 put-record-requires same-length returns)

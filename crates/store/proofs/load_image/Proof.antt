@@ -1,12 +1,30 @@
 -- `store::load_image` meets its contract. Assumes nothing.
-use mathlib.Core.Path.{refl, sym, _∙_}
+use mathlib.Core.Path.{_≡_, refl, sym, _∙_}
 use native.Mathlib.Omega.{arith}
 use denote.Ref.{now}
+use lib.ListN.{length}
 use lib.Seq.{length-take-le}
+use Rattle.text.specs.Question.{lowest}
+use Rattle.manifest.proofs.Opening.{opened-short}
+use Rattle.store_record.specs.Image.{Image}
+use Rattle.store.specs.Held.{held}
+use Rattle.store.specs.Load.{storeQuestions}
+use Rattle.store.specs.Loading.{imageWith}
 use Rattle.store.proofs.Steps.{refused-loads, loads-as, past-number, number-within, fits}
 use borrow.Author.Needs.{needs}
 use Rattle.store.proofs.load_image.Statement.{statement}
 use Rattle.store.proofs.load_image.Tie as tie
+
+abbrev begin : tie.After-number-in → tie.Start
+begin c = c .before .before .before .before .before .before .before .before .before .before .before
+
+abbrev its-image : tie.Start → Image
+its-image a = imageWith (a .args .a) (now (a .args .signer)) (now (a .args .digest)) (now (a .args .text))
+
+-- the number that was found is that of questions 11 to 14
+asked : (c : tie.After-number-in) → let a = begin c in
+    c .number-in .result ≡ lowest (storeQuestions (length (now (a .args .store))) (held (now (a .args .store)) (a .args .used)) (its-image a))
+asked c = c .number-in .ensures ∙ number-within _ (now (begin c .args .store)) (begin c .args .used) (c .before .before .before .before .if1 .left) _ refl
 
 refused-requires : tie.Need-refused-requires
 refused-requires c κs = search needs
@@ -16,7 +34,7 @@ same-length c = search needs
 
 returns : tie.Need-returns
 returns c =
-    let a = c .before .before .before .before .before .before .before .before .before .args in
+    let a = c .before .before .before .before .before .before .before .before .before .before .before .args in
     let r = c .before .before .refused .ensures in
     refused-loads (sym (past-number _ (now (a .store)) (a .used) (c .before .before .before .before .if1 .taken))) (λ z. omega arith) (r .0) (r .1)
 
@@ -38,26 +56,42 @@ refused-requires-2 c κs = search needs
 same-length-2 : tie.Need-same-length-2
 same-length-2 c = search needs
 
-returns-2 : tie.Need-returns-2
-returns-2 c =
-    let a = c .before .before .before .before .before .before .before .before .before .before .before .before .args in
-    let r = c .before .before .refused2 .ensures in
-    refused-loads (c .before .before .before .before .before .number-in .ensures ∙ number-within _ (now (a .store)) (a .used) (c .before .before .before .before .before .before .before .if1 .left) _ refl) (c .before .before .before .before .if2 .taken) (r .0) (r .1)
-
-append-requires : tie.Need-append-requires
-append-requires c κs =
-    let s = c .before .before .before .before .before .before .before .before .before in
-    let h = c .before .before .before .before .if1 .left in
-    let e = c .before .before .number-in .ensures ∙ number-within _ (now (s .args .store)) (s .args .used) h _ refl in
-    (s .pre .0 .size, s .pre .0 .opens .good, s .pre .1, fits _ (now (s .args .store)) (s .args .used) h (λ k. c .before .before .before .before .before .slice-known .given k .fits) (sym e ∙ c .before .if2 .left))
-
 same-length-3 : tie.Need-same-length-3
 same-length-3 c = search needs
 
+same-length-4 : tie.Need-same-length-4
+same-length-4 c = search needs
+
+returns-2 : tie.Need-returns-2
+returns-2 c =
+    let t = c .before .before .before .before in
+    let r = c .before .before .refused2 .ensures in
+    refused-loads (asked (t .before .before .before .before .before)) (t .if2 .taken) (r .0) (r .1)
+
+append-requires : tie.Need-append-requires
+append-requires c κs =
+    let k = c .before .before .before .before .before .before in
+    let a = begin k in
+    record {
+      short = opened-short _ _ (a .pre .0 .opens);
+      digests = a .pre .1;
+      fits = fits _ (now (a .args .store)) (a .args .used) (k .before .before .before .before .if1 .left)
+          (λ j. k .before .before .before .before .before .before .before .slice-known .given j .fits) (sym (asked k) ∙ c .before .if2 .left);
+    }
+
+same-length-5 : tie.Need-same-length-5
+same-length-5 c = search needs
+
+same-length-6 : tie.Need-same-length-6
+same-length-6 c = search needs
+
+same-length-7 : tie.Need-same-length-7
+same-length-7 c = search needs
+
 returns-3 : tie.Need-returns-3
 returns-3 c =
-    let a = c .before .before .before .before .before .before .before .before .before .before .before .before .args in
-    loads-as (sym (c .before .before .before .before .if2 .left) ∙ c .before .before .before .before .before .number-in .ensures ∙ number-within _ (now (a .store)) (a .used) (c .before .before .before .before .before .before .before .if1 .left) _ refl) (c .before .before .append .ensures)
+    let e = c .before .before .before .before in
+    loads-as (sym (e .if2 .left) ∙ asked (e .before .before .before .before .before)) (c .before .before .append .ensures)
 
 pub load-image-spec : {M : Type 1} → statement M
 load-image-spec =
@@ -72,7 +106,11 @@ load-image-spec =
     number-in-requires
     refused-requires-2
     same-length-2
+    same-length-3
+    same-length-4
     returns-2
     append-requires
-    same-length-3
+    same-length-5
+    same-length-6
+    same-length-7
     returns-3)

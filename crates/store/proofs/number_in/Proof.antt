@@ -1,18 +1,17 @@
 -- `store::number_in` meets its contract: the questions are asked in the order of their numbers.
 use Prim.Native.Nat.{ℕ, _+_, _≤_, _<_}
-use mathlib.Core.Path.{_≡_, refl, sym, ap, _∙_}
+use mathlib.Core.Path.{_≡_, sym, ap, _∙_}
 use mathlib.Core.List.{List}
 use mathlib.Core.Bool.{false}
 use mathlib.Core.Option.{Option}
 use native.Mathlib.Omega.{arith}
-use borrow.Author.Needs.{needs}
 use borrow.Author.Tests.{not-true, not-false}
 use denote.Ref.{now}
 use lib.ListN.{length, getD}
 use Rattle.laws.specs.Any.{anyOf}
+use Rattle.manifest.proofs.Opening.{opened-short}
 use Rattle.store_record.specs.Image.{Image}
 use Rattle.store_record.specs.Ids.{shareId}
-use Rattle.store_record.specs.Record.{headSize, recordOf}
 use Rattle.store_record.specs.Store.{mostImages, readRecords}
 use Rattle.store_record.specs.Reading.{imagesIn}
 use Rattle.store_record.proofs.Walks.{records-size, images-length}
@@ -21,16 +20,19 @@ use Rattle.store_names.specs.Opened.{OpenedStore}
 use Rattle.store.specs.Held.{isBroken}
 use Rattle.store.specs.Load.{among}
 use Rattle.store.specs.Loading.{imageWith}
-use Rattle.store.proofs.Appending.{form-small}
 use Rattle.store.proofs.Numbering.{room-broken, shares-held, clashes-held, record-size, size-small, read-among, number-11, number-12, number-rest}
+use borrow.Author.Needs.{needs}
 use Rattle.store.proofs.number_in.Statement.{statement}
 use Rattle.store.proofs.number_in.Tie as tie
 
 abbrev begin : tie.After-open → tie.Start
-begin o = o .before .before .before .before .before .before .before .before .before .before
+begin o = o .before .before .before .before .before .before .before .before .before .before .before .before
 
 abbrev bytes : tie.Start → List ℕ
 bytes a = now (a .args .b)
+
+abbrev text : tie.Start → List ℕ
+text a = now (a .args .text)
 
 abbrev size : tie.Start → ℕ
 size a = length (bytes a) + a .args .left
@@ -39,17 +41,17 @@ abbrev images : tie.Start → Option (List Image)
 images a = readRecords mostImages (bytes a)
 
 abbrev its-image : tie.Start → Image
-its-image a = imageWith (a .args .a) (now (a .args .signer)) (now (a .args .digest)) (now (a .args .manifest))
+its-image a = imageWith (a .args .a) (now (a .args .signer)) (now (a .args .digest)) (text a)
 
 small : (o : tie.After-open) (j : ℕ) → getD (bytes (begin o)) j 0 < 256
-small o j = omega (arith, o .before .before .before .before .before .before .shared-slice-known4 .given j)
+small o j = omega (arith, o .before .before .before .before .before .before .before .before .shared-slice-known4 .given j)
 
 same-broken : (o : tie.After-open) → isBroken (size (begin o)) (images (begin o)) ≡ isBroken (length (bytes (begin o))) (images (begin o))
 same-broken o = room-broken (bytes (begin o)) (small o) (size (begin o)) (omega arith)
 
 -- 11 does not apply: the store is opened
 abbrev opening : tie.Else1 → tie.After-open
-opening c = c .before .before .before .before .before .before .before
+opening c = c .before .before .before .before .before .before .before .before .before
 
 sound : (c : tie.Else1) → isBroken (size (begin (opening c))) (images (begin (opening c))) ≡ false
 sound c = same-broken (opening c) ∙ not-true _ (sym (opening c .«open» .ensures .0) ∙ not-false _ (c .if1 .left))
@@ -72,7 +74,7 @@ asked-12 c =
     let e = c .before .before in
     let a = begin (opening e) in
     ap (anyOf (shareId (its-image a))) (held e)
-    ∙ shares-held (a .args .a) (now (a .args .signer)) (now (a .args .digest)) (now (a .args .manifest)) _ ∙ sym (c .is-held .ensures)
+    ∙ shares-held (a .args .a) (now (a .args .signer)) (now (a .args .digest)) (text a) _ ∙ sym (c .is-held .ensures)
 
 -- once an ID was not found
 abbrev known : tie.After-clashes-with-any → tie.Else1
@@ -83,18 +85,14 @@ asked-13 c =
     let e = known c in
     let a = begin (opening e) in
     ap (anyOf (clash (its-image a))) (held e)
-    ∙ clashes-held (a .args .a) (now (a .args .signer)) (now (a .args .digest)) (now (a .args .manifest)) (a .pre .0 .opens .good) (bytes a) _
+    ∙ clashes-held (a .args .a) (now (a .args .signer)) (now (a .args .digest)) (text a) (a .pre .0) (bytes a) _
     ∙ sym (c .clashes-with-any .ensures)
 
 other : (c : tie.Else2) → let a = begin (opening (c .before .before .before)) in anyOf (shareId (its-image a)) (among (images a)) ≡ false
 other c = asked-12 (c .before) ∙ c .if2 .left
 
--- the length of its record, and that it is small
-needed : (a : tie.Start) → length (recordOf (its-image a)) ≡ headSize (a .args .a) (a .args .size) + a .args .size
-needed a = record-size (a .args .a) (now (a .args .signer)) (now (a .args .digest)) (now (a .args .manifest)) (a .pre .0 .opens .good) (a .pre .1) (a .args .size) (a .pre .0 .size)
-
-small-record : (a : tie.Start) → headSize (a .args .a) (a .args .size) + a .args .size ≤ 16484
-small-record a = size-small (a .args .a) (now (a .args .signer)) (now (a .args .digest)) (now (a .args .manifest)) (a .pre .0 .opens .good) (a .pre .1) (a .args .size) (a .pre .0 .size)
+short : (a : tie.Start) → length (text a) ≤ 16384
+short a = opened-short (text a) (a .args .places) (a .pre .0 .opens)
 
 slice-aggregate-open : tie.Need-slice-aggregate-open
 slice-aggregate-open c = search needs
@@ -105,22 +103,28 @@ slice-aggregate-open-2 c = search needs
 slice-aggregate-open-3 : tie.Need-slice-aggregate-open-3
 slice-aggregate-open-3 c = search needs
 
-slice-aggregate-open-4 : tie.Need-slice-aggregate-open-4
-slice-aggregate-open-4 c = search needs
-
-slice-aggregate-open-5 : tie.Need-slice-aggregate-open-5
-slice-aggregate-open-5 c = search needs
-
 open-requires : tie.Need-open-requires
-open-requires c κs = (refl, record { names = record { room = omega arith; sorting = omega arith }; heads-room = omega arith; keys-room = omega arith })
+open-requires c κs = search needs
+
+same-length : tie.Need-same-length
+same-length c = search needs
+
+same-length-2 : tie.Need-same-length-2
+same-length-2 c = search needs
 
 returns : tie.Need-returns
 returns c =
-    let o = c .before .before .before .before .before .before .before in
+    let o = c .before .before .before .before .before .before .before .before .before in
     number-11 (size (begin o)) (images (begin o)) (its-image (begin o)) (same-broken o ∙ not-false _ (sym (o .«open» .ensures .0) ∙ not-true _ (c .if1 .taken)))
 
 is-held-requires : tie.Need-is-held-requires
 is-held-requires c κs = opened (c .before) .fills
+
+same-length-3 : tie.Need-same-length-3
+same-length-3 c = search needs
+
+same-length-4 : tie.Need-same-length-4
+same-length-4 c = search needs
 
 returns-2 : tie.Need-returns-2
 returns-2 c =
@@ -134,38 +138,42 @@ slice-aggregate-clashes-with-any c = search needs
 slice-aggregate-clashes-with-any-2 : tie.Need-slice-aggregate-clashes-with-any-2
 slice-aggregate-clashes-with-any-2 c = search needs
 
-slice-aggregate-clashes-with-any-3 : tie.Need-slice-aggregate-clashes-with-any-3
-slice-aggregate-clashes-with-any-3 c = search needs
-
-slice-aggregate-clashes-with-any-4 : tie.Need-slice-aggregate-clashes-with-any-4
-slice-aggregate-clashes-with-any-4 c = search needs
-
 clashes-with-any-requires : tie.Need-clashes-with-any-requires
 clashes-with-any-requires c κs =
     let e = c .before .before .before .before .before .before .before .before in
-    let n = opening e .«open» .kept .1 .1 in (
-      begin (opening e) .pre .0 .opens,
+    let a = begin (opening e) in
+    let n = opening e .«open» .kept .1 .1 in
+    let l = a .pre .2 in (
+      a .pre .0 .opens,
       opened e,
       record {
-        names = record { room = omega (arith, n .0); sorting = omega (arith, n .0, n .1 .0) };
-        heads-room = omega (arith, n .0, n .1 .1 .0);
+        names = record { room = omega (arith, n .0, l .names-size); sorting = omega (arith, n .0, n .1 .0, l .names-size, l .spare-size) };
+        heads-room = omega (arith, n .0, n .1 .1 .0, l .names-size);
         keys-room = omega (arith, n .1 .1 .1 .0);
       },
     )
 
 number-left-requires : tie.Need-number-left-requires
 number-left-requires c κs =
-    let a = begin (opening (known (c .before .before .before .before))) in
-    (omega (arith, form-small (now (a .args .manifest)) (a .pre .0 .opens .good), a .pre .0 .size), small-record a)
+    let a = begin (opening (known (c .before .before .before .before .before .before))) in
+    (short a, size-small (a .args .a) (now (a .args .signer)) (now (a .args .digest)) (text a) (a .pre .1) (short a))
+
+same-length-5 : tie.Need-same-length-5
+same-length-5 c = search needs
+
+same-length-6 : tie.Need-same-length-6
+same-length-6 c = search needs
 
 returns-3 : tie.Need-returns-3
 returns-3 c =
-    let k = c .before .before .before .before .before in
+    let k = c .before .before .before .before .before .before .before in
     let e = known k in
     let o = opening e in
     let a = begin o in
-    number-rest (bytes a) (small o) _ (opened e .fills .images) (a .args .left) (its-image a) (sound e) (other (k .before .before .before .before .before .before)) (asked-13 k)
-    _ _ _ (needed a) (count e) (opened e .fills .few) (c .number-left .ensures)
+    number-rest (bytes a) (small o) _ (opened e .fills .images) (a .args .left) (its-image a) (sound e)
+    (other (k .before .before .before .before .before .before)) (asked-13 k) _ _ _
+    (record-size (a .args .a) (now (a .args .signer)) (now (a .args .digest)) (text a) (a .pre .1)) (count e) (opened e .fills .few)
+    (c .number-left .ensures)
 
 pub number-in-spec : {M : Type 1} → statement M
 number-in-spec =
@@ -174,16 +182,18 @@ number-in-spec =
     slice-aggregate-open
     slice-aggregate-open-2
     slice-aggregate-open-3
-    slice-aggregate-open-4
-    slice-aggregate-open-5
     open-requires
+    same-length
+    same-length-2
     returns
     is-held-requires
+    same-length-3
+    same-length-4
     returns-2
     slice-aggregate-clashes-with-any
     slice-aggregate-clashes-with-any-2
-    slice-aggregate-clashes-with-any-3
-    slice-aggregate-clashes-with-any-4
     clashes-with-any-requires
     number-left-requires
+    same-length-5
+    same-length-6
     returns-3)

@@ -2,13 +2,14 @@
 use Prim.Native.Nat.{_+_}
 use mathlib.Core.Path.{sym, _∙_}
 use native.Mathlib.Omega.{arith}
-use borrow.Author.Needs.{needs}
 use borrow.Author.Tests.{not-true}
 use denote.Ref.{now}
 use lib.ListN.{getD}
+use lib.Seq.{length-take-le}
 use Rattle.store_record.specs.Reading.{between, noRecord, RecordIn}
 use Rattle.store_names.proofs.Opened.{opened-at}
 use Rattle.store_clash.proofs.Walking.{layers-none, layers-held}
+use borrow.Author.Needs.{needs}
 use Rattle.store_clash.proofs.conflicts_later.Statement.{statement}
 use Rattle.store_clash.proofs.conflicts_later.Tie as tie
 
@@ -24,13 +25,13 @@ inside : (a : tie.Start) → RecordIn (now (a .args .b)) (getD (a .args .t2 .rec
 inside a = a .pre .0 .fills .each (a .args .i .0) (a .pre .1)
 
 mul-r : tie.Need-mul-r
-mul-r c = let p = c .before .before .before .before .before .pre in omega (arith, p .0 .fills .few, p .1)
+mul-r c = search needs
 
 element-copy-out-r : tie.Need-element-copy-out-r
-element-copy-out-r c = let p = c .before .before .before .before .before .pre in omega (arith, p .0 .fills .few, p .1)
+element-copy-out-r c = search needs
 
 add-has-signer : tie.Need-add-has-signer
-add-has-signer c = let p = start c .pre in omega (arith, p .0 .fills .few, p .1)
+add-has-signer c = search needs
 
 sub-has-signer : tie.Need-sub-has-signer
 sub-has-signer c = let r = inside (start c) in omega (arith, r .signer)
@@ -42,7 +43,7 @@ part-has-signer-end : tie.Need-part-has-signer-end
 part-has-signer-end c = let r = inside (start c) in omega (arith, r .manifest, r .text, r .within)
 
 has-signer-requires : tie.Need-has-signer-requires
-has-signer-requires c κs = start (c .before) .pre .0 .fills
+has-signer-requires c κs = search needs
 
 returns : tie.Need-returns
 unfolding between
@@ -52,10 +53,10 @@ returns c =
     ∙ layers-none (now (a .b)) (a .t2) (a .i .0 + 1) _ _ _ (sym (c .before .has-signer .ensures) ∙ not-true _ (c .if1 .taken)))
 
 mul-p : tie.Need-mul-p
-mul-p c = let p = start (read c) .pre in omega (arith, p .0 .fills .few, p .1)
+mul-p c = search needs
 
 array-copy-out-p : tie.Need-array-copy-out-p
-array-copy-out-p c = let p = start (read c) .pre in omega (arith, p .0 .fills .few, p .1)
+array-copy-out-p c = search needs
 
 sub-s : tie.Need-sub-s
 sub-s c = let r = inside (start (read (c .before))) in omega (arith, r .text)
@@ -75,11 +76,19 @@ part-signer-start c = let r = inside (start (read (c .before .before))) in omega
 part-signer-end : tie.Need-part-signer-end
 part-signer-end c = let r = inside (start (read (c .before .before))) in omega (arith, r .manifest, r .text, r .within)
 
-conflicts-from-requires : tie.Need-conflicts-from-requires
+sort-layers-requires : tie.Need-sort-layers-requires
 unfolding between
-conflicts-from-requires c κs =
-    let p = start (read (c .before .before .before .before .before .before .before)) .pre in
-    (opened-at _ _ _ (p .0) _ (p .1) _, p .0, p .2)
+sort-layers-requires c κs = let p = start (read (c .before .before .before .before .before .before .before)) .pre in (opened-at _ _ _ (p .0) _ (p .1) _, p .2)
+
+slice-reshare-prefix-conflicts-with-any : tie.Need-slice-reshare-prefix-conflicts-with-any
+slice-reshare-prefix-conflicts-with-any c = search needs
+
+slice-aggregate-conflicts-with-any : tie.Need-slice-aggregate-conflicts-with-any
+slice-aggregate-conflicts-with-any c =
+    sym (length-take-le _ _ (c .before .before .before .before .before .before .before .before .before .sort-layers .ensures .0))
+
+conflicts-with-any-requires : tie.Need-conflicts-with-any-requires
+conflicts-with-any-requires c κs = search needs
 
 same-length : tie.Need-same-length
 same-length c = search needs
@@ -96,9 +105,9 @@ same-length-4 c = search needs
 returns-2 : tie.Need-returns-2
 unfolding between
 returns-2 c =
-    let k = c .before .before .before .before .before .before .before .before in
-    let a = start (read (k .before .before .before .before .before .before .before .before)) .args in
-    k .conflicts-from .ensures ∙ sym (layers-held (now (a .b)) (a .t2) (a .i .0 + 1) _)
+    let f = c .before .before .before .before .before .before .before .before .before .before .before .before in
+    let a = start (read (f .before .before .before .before .before .before .before .before)) .args in
+    c .conflicts-with-any .ensures ∙ sym (layers-held (now (a .b)) (a .t2) (a .i .0 + 1) _)
 
 pub conflicts-later-spec : {M : Type 1} → statement M
 conflicts-later-spec =
@@ -120,7 +129,10 @@ conflicts-later-spec =
     sub-signer
     part-signer-start
     part-signer-end
-    conflicts-from-requires
+    sort-layers-requires
+    slice-reshare-prefix-conflicts-with-any
+    slice-aggregate-conflicts-with-any
+    conflicts-with-any-requires
     same-length
     same-length-2
     same-length-3

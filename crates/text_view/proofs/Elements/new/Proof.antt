@@ -3,7 +3,7 @@ use mathlib.Core.Path.{refl}
 use native.Mathlib.Omega.{arith}
 use denote.Ref.{now}
 use Rattle.text_view.proofs.Values.{within}
-use Rattle.text_view.proofs.Cursors.{array-elements}
+use Rattle.text_view.proofs.Cursors.{array-ends, array-elements}
 use Rattle.text_view.proofs.Elements.new.Statement.{statement}
 use Rattle.text_view.proofs.Elements.new.Tie as tie
 
@@ -14,7 +14,7 @@ sub-t5 : tie.Need-sub-t5
 sub-t5 c = let a = c .args in omega (arith, array-elements (now (a .s)) (a .at) (a .depth) (c .pre .values) (c .pre .here) .0)
 
 returns : tie.Need-returns
-returns c = (λ x v. array-elements _ _ _ x v .1, refl)
+returns c = let o = c .pre in (λ x v. array-elements _ _ _ x v .1, (refl, array-ends _ _ _ (o .values) (o .here)))
 
 pub new-spec : {M : Type 1} → statement M
 new-spec = tie.close (tie.spec add-t4 sub-t5 returns)

@@ -16,7 +16,7 @@ enum-told c = search needs
 returns : tie.Need-returns
 returns c =
     let d = c .before .before .before in
-    λ x l. gives-element _ _ x l _ _ _ (rw (c .before .value .given .1) at (d .read-item .ensures (l .trees) (l .rest) (l .derives)))
+    λ x l. gives-element _ _ x l _ _ _ (rw (c .before .value .given .1) at (d .read-item .ensures))
 
 returns-2 : tie.Need-returns-2
 returns-2 c =

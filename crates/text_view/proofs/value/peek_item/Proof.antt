@@ -38,7 +38,7 @@ end-mark-requires c κs = search needs
 returns : tie.Need-returns
 returns c =
     let d = c .before .before .before in
-    λ ts r h. peeks-end _ _ _ _ ts r (c .if1 .taken ∙ c .before .end-mark .ensures) (start d ts r h)
+    λ ts r h. peeks-end _ _ _ _ _ ts r (c .if1 .taken ∙ c .before .end-mark .ensures) (start d ts r h)
 
 item-value-requires : tie.Need-item-value-requires
 item-value-requires c κs =
@@ -49,7 +49,8 @@ item-value-requires c κs =
 returns-2 : tie.Need-returns-2
 returns-2 c =
     let e = c .before in
-    λ ts r h. peeks-item _ _ _ _ (no-mark e) _ (c .item-value .ensures) ts r (start (e .before .before .before) ts r h)
+    let d = e .before .before .before in
+    λ ts r h. peeks-item _ _ _ _ (no-mark e) _ (c .item-value .ensures) _ (d .skip-spaces .ensures .0) (d .skip-spaces .ensures .1 .1) ts r (start d ts r h)
 
 pub peek-item-spec : {M : Type 1} → statement M
 peek-item-spec =

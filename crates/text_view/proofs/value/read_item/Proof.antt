@@ -6,9 +6,9 @@ use mathlib.Core.List.{List}
 use native.Mathlib.Omega.{arith}
 use denote.Ref.{now}
 use lib.ListN.{getD}
-use Rattle.text_view.specs.Listed.{Tree, endMark, ListAt}
+use Rattle.text_view.specs.Listed.{Tree, endMark, ListAt, ItemAt}
 use Rattle.text_view.proofs.Items.{Started, started}
-use Rattle.text_view.proofs.Steps.{list-within, started-within, gives-end, some-item, item-readable, Taken, take, taken-within, gives-comma, gives-last}
+use Rattle.text_view.proofs.Steps.{list-within, started-within, gives-end, some-item, item-readable}
 use Rattle.text_view.proofs.value.read_item.Statement.{statement}
 use Rattle.text_view.proofs.value.read_item.Tie as tie
 
@@ -55,42 +55,31 @@ skip-requires c κs =
     let p = d .before .before .pre in
     item-readable _ _ _ _ (no-mark (c .before)) _ (c .item-value .ensures) (p .trees) (p .rest) (start d _ _ (p .here))
 
-skip-spaces-requires-2 : tie.Need-skip-spaces-requires-2
-skip-spaces-requires-2 c κs = c .skip .ensures .within
+-- where the item and its value stand
+place : (c : tie.After-item-value) → let d = c .before .before .before .before in let a = d .before .before .args in
+    ItemAt (now (a .s)) (a .at) (a .object) (d .skip-spaces .result) (c .item-value .result)
+place c =
+    let e = c .before .before .before .before .skip-spaces .ensures in
+    record { reached = e .0; start = e .1 .1; more = no-mark (c .before); value = c .item-value .ensures }
 
--- the item, its value and what comes after it
-item-taken : (c : tie.After-skip-spaces2) → let d = c .before .before .before .before .before .before in let a = d .before .before .args in
-    (ts : List (Tree (a .object))) (r : List ℕ) → ListAt (now (a .s)) (a .at) (a .depth) (a .object) ts r
-    → Taken (now (a .s)) (d .skip-spaces .result) (c .before .before .item-value .result) (c .skip-spaces2 .result) (a .depth) (a .object) ts r
-item-taken c ts r h =
-    let e = c .before .before .before in
-    take _ _ _ _ (no-mark e) _ (c .before .before .item-value .ensures) _ _ (c .before .skip .ensures) (c .skip-spaces2 .ensures .1 .1) ts r
-    (start (e .before .before .before) ts r h)
-
--- it ends after it starts
-item-later : (c : tie.After-skip-spaces2) → c .before .before .before .before .before .before .before .before .args .at < c .skip-spaces2 .result
-item-later c =
-    let l = c .before .skip .ensures .later in
-    let m = c .before .before .item-value .ensures .later in
-    omega arith
-
-shared-slice-read-if2 : tie.Need-shared-slice-read-if2
-shared-slice-read-if2 c =
-    let p = c .before .before .before .before .before .before .before .before .before .pre in
-    taken-within _ _ _ _ _ _ (p .trees) (p .rest) (item-taken (c .before) _ _ (p .here))
-
-add-t15 : tie.Need-add-t15
-add-t15 c = search needs
+after-value-requires : tie.Need-after-value-requires
+after-value-requires c κs =
+    let d = c .before in
+    record {
+      at = _;
+      depth = _;
+      object = _;
+      list = d .before .before .before .before .before .before .pre;
+      first = _;
+      value = _;
+      place = place d;
+      ends = c .skip .ensures;
+    }
 
 returns-2 : tie.Need-returns-2
 returns-2 c =
-    let d = c .before .before in
-    λ ts r h. gives-comma _ _ _ _ _ _ _ ts r (item-later d) (c .if2 .taken) (item-taken d ts r h)
-
-returns-3 : tie.Need-returns-3
-returns-3 c =
-    let d = c .before .before in
-    λ ts r h. gives-last _ _ _ _ _ _ _ ts r (item-later d) (c .if2 .left) (item-taken d ts r h)
+    let d = c .before in
+    λ ts r h. c .after-value .ensures _ _ _ ts r _ _ h (place (d .before)) (d .skip .ensures)
 
 pub read-item-spec : {M : Type 1} → statement M
 read-item-spec =
@@ -103,8 +92,5 @@ read-item-spec =
     returns
     item-value-requires
     skip-requires
-    skip-spaces-requires-2
-    shared-slice-read-if2
-    add-t15
-    returns-2
-    returns-3)
+    after-value-requires
+    returns-2)
