@@ -9,7 +9,6 @@ use borrow.Author.Tests.{lt-leb, le-ltb}
 use lib.ListN.{length, length-append}
 use Rattle.laws.specs.Any.{anyOf, anyPair}
 use Rattle.laws.proofs.Any.{or-none, any-both, any-pointwise}
-use Rattle.text.specs.Question.{lowest}
 use Rattle.reference.specs.References.{imageId}
 use Rattle.manifest.specs.Number.{manifestTextNumber}
 use Rattle.manifest.proofs.Asking.{nothing-asked, asked-none, asked-after}
@@ -20,10 +19,11 @@ use Rattle.store_record.specs.Store.{mostImages, storeOf, AllShaped}
 use Rattle.store_record.proofs.Sharing.{share-id-sym}
 use Rattle.store_record.proofs.Stores.{store-both}
 use Rattle.store_keys.specs.Clash.{clash, anyClash}
-use Rattle.store.specs.Held.{isUnfit, areUnsound, isBroken}
-use Rattle.store.specs.Load.{isNoId, among, noSpace, storeQuestions, imageQuestions, loadQuestions}
-use Rattle.store.proofs.Images.{shaped-image, shaped-single}
-use Rattle.store.proofs.Accepting.{sound-parts, parts-sound, pair-last, any-clash-sym, store-last}
+use Rattle.store_open.specs.Held.{isUnfit, areUnsound, isBroken, among}
+use Rattle.store.specs.Load.{isNoId, noSpace, storeQuestions, imageQuestions, loadQuestions}
+use Rattle.store_open.proofs.Holding.{shaped-single, sound-parts, parts-sound}
+use Rattle.store.proofs.Images.{shaped-image}
+use Rattle.store.proofs.Accepting.{pair-last, any-clash-sym, store-last}
 use Rattle.history.specs.Calls.{Call}
 use Rattle.history.specs.Ledger.{ledgerNumber}
 use Rattle.history.proofs.Stepping.{image, withImage}

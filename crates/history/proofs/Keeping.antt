@@ -10,9 +10,8 @@ use Rattle.store_record.specs.Image.{Image}
 use Rattle.store_record.specs.Ids.{idTwice}
 use Rattle.store_record.specs.Store.{storeOf, none-shaped}
 use Rattle.store_keys.specs.Clash.{anyClash}
-use Rattle.store.specs.Held.{held, isBroken, wellFormed}
-use Rattle.store.proofs.Accepting.{parts-sound}
-use Rattle.store.proofs.Loading.{used-is}
+use Rattle.store_open.specs.Held.{held, isBroken, wellFormed}
+use Rattle.store_open.proofs.Holding.{parts-sound, used-is}
 use Rattle.history.specs.Calls.{Call, State, after, start, numbersFrom, numbers, runFrom, run}
 use Rattle.history.specs.Ledger.{ledger, ledgerFrom, ledgerAfter, ledgerNumbers, ledgerNumbersFrom}
 use Rattle.history.specs.Demand3.{Kept}

@@ -2,8 +2,7 @@
 use Prim.Native.Nat.{ℕ}
 use mathlib.Core.Path.{_≡_, refl, sym, subst, _∙_}
 use mathlib.Core.Logic.{⊎-elim}
-use mathlib.Core.List.{List, [], _∷_, _++_, map, append-assoc, append-nil, List·Permᴰ as Permutation, Permᴰ·map}
-use mathlib.Core.List.{List·Memᴰ as In, List·Memᴰ·head, List·Memᴰ·tail, List·Memᴰ·not-nil, List·Memᴰ·cases-cons}
+use mathlib.Core.List.{List, [], _∷_, _++_, map, append-assoc, append-nil, List·Permᴰ as Permutation, Permᴰ·map, List·Memᴰ as In, List·Memᴰ·head, List·Memᴰ·tail, List·Memᴰ·not-nil, List·Memᴰ·cases-cons}
 use mathlib.Core.Bool.{false}
 use borrow.Author.Tests.{eqb-true, eqb-false}
 use lib.Dec.{eqb}
@@ -13,7 +12,7 @@ use Rattle.laws.proofs.Permutations.{same-elements}
 use Rattle.store_record.specs.Image.{Image}
 use Rattle.store_record.specs.Store.{AllShaped, none-shaped, shaped}
 use Rattle.store_record.proofs.Stores.{shaped-both}
-use Rattle.store.specs.Held.{areUnsound}
+use Rattle.store_open.specs.Held.{areUnsound}
 use Rattle.store.proofs.Images.{shaped-image}
 use Rattle.policy.proofs.Reordering.{unsound-permuted}
 use Rattle.history.specs.Calls.{Call, State, callNumber, after, start, acceptedFrom, accepted}

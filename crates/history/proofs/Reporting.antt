@@ -11,9 +11,8 @@ use Rattle.policy_marks.specs.Pairs.{Pair, reportOf, noReportSpace, pairsAfter,
 use Rattle.store_record.specs.Image.{Image}
 use Rattle.store_record.specs.Ids.{idTwice}
 use Rattle.store_record.specs.Store.{AllShaped}
-use Rattle.store.specs.Held.{isBroken}
-use Rattle.store.specs.Load.{among}
-use Rattle.store.proofs.Accepting.{sound-parts}
+use Rattle.store_open.specs.Held.{isBroken, among}
+use Rattle.store_open.proofs.Holding.{sound-parts}
 use Rattle.policy.specs.Chain.{At}
 use Rattle.policy.specs.Pairs.{pairs}
 use Rattle.policy.specs.Judge.{judgeQuestions, judgeNumber, heldPairs, judgePairs, judgeBytes}

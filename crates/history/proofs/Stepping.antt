@@ -14,11 +14,13 @@ use Rattle.store_record.specs.Image.{Image}
 use Rattle.store_record.specs.Record.{recordOf}
 use Rattle.store_record.specs.Store.{none-shaped, shaped}
 use Rattle.store_record.proofs.Stores.{shaped-both}
-use Rattle.store.specs.Held.{held, areUnsound}
-use Rattle.store.specs.Load.{imageOf, loadNumber, appended}
+use Rattle.store_open.specs.Held.{held, areUnsound}
+use Rattle.store.specs.Load.{imageOf, loadNumber}
+use Rattle.store_append.specs.Append.{appended}
 use Rattle.store.proofs.Images.{shaped-image}
 use Rattle.store.proofs.Accepting.{Accepted, accepted, store-last, next-sound}
-use Rattle.store.proofs.Loading.{Holds, holds-held, used-is, appended-first, appended-rest, appended-length, load-refused, used-accepted, bytes-accepted}
+use Rattle.store_open.proofs.Holding.{Holds, holds-held, used-is}
+use Rattle.store.proofs.Loading.{appended-first, appended-rest, appended-length, load-refused, used-accepted, bytes-accepted}
 use Rattle.history.specs.Calls.{Call, State, callNumber, after}
 use Rattle.history.specs.Ledger.{ledgerNumber, ledgerAfter}
 

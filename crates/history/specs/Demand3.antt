@@ -6,7 +6,7 @@ use mathlib.Core.Bool.{true}
 use mathlib.Core.List.{List, map, List·Permᴰ as Permutation}
 use lib.ListN.{length, take, drop}
 use Rattle.store_record.specs.Store.{storeOf}
-use Rattle.store.specs.Held.{wellFormed}
+use Rattle.store_open.specs.Held.{wellFormed}
 use Rattle.history.specs.Calls.{Call, State, run, numbers, accepted}
 use Rattle.history.specs.Ledger.{ledger, ledgerNumbers}
 use Rattle.history.specs.Reports.{SameReports}

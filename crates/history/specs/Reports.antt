@@ -7,8 +7,7 @@ use lib.ListN.{length, getD}
 use Rattle.reference.specs.References.{Id, no-id}
 use Rattle.policy_marks.specs.Pairs.{Pair}
 use Rattle.store_record.specs.Image.{Image}
-use Rattle.store.specs.Held.{held}
-use Rattle.store.specs.Load.{among}
+use Rattle.store_open.specs.Held.{held, among}
 use Rattle.policy.specs.Judge.{heldPairs, judgePairs, judgeBytes}
 use Rattle.history.specs.Calls.{State}
 

@@ -11,11 +11,13 @@ use Rattle.manifest.proofs.Asking.{asked-small}
 use Rattle.lookup_layers.specs.Layers.{LayerDigest, listOf}
 use Rattle.lookup_outcome.specs.Outcome.{Outcome, resolved, fails, failureNumber}
 use Rattle.lookup_outcome.specs.declared.Failure.{Failure}
-use Rattle.lookup.specs.Resolve.{layersAt, outcomeIn, outputOf, resolveQuestions, resolveNumber, heldOutcome, valueAfter, resolveValue}
+use Rattle.lookup.specs.Resolve.{resolveQuestions, resolveNumber, heldOutcome, resolveValue}
+use Rattle.lookup_image.specs.Layers.{layersAt, outcomeIn}
+use Rattle.lookup_answer.specs.Answers.{outputOf, valueAfter}
 use Rattle.lookup.specs.Found.{AllMeet, FirstFails, Asked}
-use Rattle.lookup.proofs.Answering.{layers-number-small}
+use Rattle.lookup_answer.proofs.Answering.{layers-number-small}
 use Rattle.lookup.proofs.Found.{resolved-exactly, fails-exactly, met-length, failing-within}
-use Rattle.lookup.proofs.Layers.{layers-at-few, list-short}
+use Rattle.lookup_image.proofs.Layers.{layers-at-few, list-short}
 use Rattle.lookup.proofs.Telling.{asked-sound, met-sized, zero-exactly, failure-exactly}
 
 -- an image of a well-formed store, and a layer list

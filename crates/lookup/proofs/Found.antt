@@ -18,7 +18,7 @@ use Rattle.lookup_paths.specs.Follow.{End, met, undefined, endless, endOf}
 use Rattle.lookup_paths.proofs.Ends.{met-exactly, lost-exactly, endless-exactly}
 use Rattle.lookup_outcome.specs.Outcome.{Fate, found, lost as not-found, ifListed, fate, Outcome, resolved, fails, before, outcome}
 use Rattle.lookup_outcome.specs.declared.Failure.{Failure}
-use Rattle.lookup.specs.Resolve.{layersAt, outcomeIn}
+use Rattle.lookup_image.specs.Layers.{layersAt, outcomeIn}
 use Rattle.lookup.specs.Found.{AllMeet, none-meets, meets-too, Fails, lost, goes-on, absent, FirstFails, first-fails, later-fails}
 
 module _ (room : List Image) (apart : anyClash room ≡ false) (present : List LayerDigest) where

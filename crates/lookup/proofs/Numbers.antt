@@ -13,13 +13,13 @@ use Rattle.manifest.proofs.Asking.{asked-first, asked-next}
 use Rattle.store_record.specs.Image.{Image}
 use Rattle.store_record.specs.Store.{mostImages, readRecords}
 use Rattle.store_keys.specs.Clash.{anyClash}
-use Rattle.store.specs.Held.{held, isBroken}
-use Rattle.store.specs.Load.{among}
-use Rattle.store.proofs.Accepting.{sound-parts}
-use Rattle.store.proofs.Numbering.{held-in-use, broken-in-use}
+use Rattle.store_open.specs.Held.{held, isBroken, among}
+use Rattle.store_open.proofs.Holding.{sound-parts, held-in-use, broken-in-use}
 use Rattle.lookup_layers.specs.Layers.{LayerDigest, layersIn, isGiven, isList}
 use Rattle.lookup_layers.specs.Reading.{SomeList}
-use Rattle.lookup.specs.Resolve.{presentIn, outcomeIn, layerQuestions, resolveQuestions, resolveNumber, heldOutcome}
+use Rattle.lookup.specs.Resolve.{resolveQuestions, resolveNumber, heldOutcome}
+use Rattle.lookup_image.specs.Layers.{presentIn, outcomeIn}
+use Rattle.lookup_answer.specs.Answers.{layerQuestions}
 
 -- Bytes that are a layer list are the list of some layers.
 pub some-list : (list : List ℕ) → isList list ≡ true → SomeList list

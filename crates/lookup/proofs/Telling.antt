@@ -14,20 +14,20 @@ use Rattle.laws.proofs.Order.{by-test, false-true}
 use Rattle.text.specs.Question.{Question, lowest}
 use Rattle.manifest.proofs.Asking.{asked-first, asked-next}
 use Rattle.store_record.specs.Image.{Image}
-use Rattle.store.specs.Held.{held, isBroken, wellFormed}
-use Rattle.store.specs.Load.{among}
-use Rattle.store.proofs.Accepting.{Sound, sound-parts}
+use Rattle.store_open.specs.Held.{held, isBroken, wellFormed, among}
+use Rattle.store_open.proofs.Holding.{Sound, sound-parts}
 use Rattle.lookup_layers.specs.Layers.{LayerDigest, listOf, AllSized, layersIn, isGiven}
 use Rattle.lookup_layers.proofs.Listing.{read-list, read-sized}
 use Rattle.lookup_outcome.specs.Outcome.{Outcome, resolved, fails, failureNumber}
 use Rattle.lookup_outcome.specs.declared.Failure.{Failure}
 use Rattle.lookup_outcome.specs.declared.Failure.the-variants.{Undefined, Endless, Absent}
-use Rattle.lookup.specs.Resolve.{layersAt, presentIn, outcomeIn, outputOf, layerQuestions, resolveQuestions, resolveNumber, heldOutcome}
-use Rattle.lookup.specs.Resolve.{valueAfter, bytesAfter, resolveValue, resolveBytes}
+use Rattle.lookup.specs.Resolve.{resolveQuestions, resolveNumber, heldOutcome, resolveValue, resolveBytes}
+use Rattle.lookup_image.specs.Layers.{layersAt, presentIn, outcomeIn}
+use Rattle.lookup_answer.specs.Answers.{outputOf, layerQuestions, valueAfter, bytesAfter}
 use Rattle.lookup.specs.Found.{AllMeet, FirstFails, Asked, Resolved, Unresolved}
-use Rattle.lookup.proofs.Answering.{failure-bounds, refused-bytes, fails-number, no-space, enough-space}
+use Rattle.lookup_answer.proofs.Answering.{failure-bounds, refused-bytes, fails-number, no-space, enough-space}
 use Rattle.lookup.proofs.Found.{resolved-exactly, fails-exactly, met-present}
-use Rattle.lookup.proofs.Layers.{all-sized}
+use Rattle.lookup_image.proofs.Layers.{all-sized}
 
 -- a question that does not give its number is passed over
 passed : (q : Question) (qs : List Question) → (lowest (q ∷ qs) ≡ q .number → ⊥) → (q .applies ≡ false) × (lowest (q ∷ qs) ≡ lowest qs)

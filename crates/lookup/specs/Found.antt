@@ -8,12 +8,13 @@ use lib.ListN.{length, drop}
 use Rattle.reference_digests.specs.declared.algorithm.Algorithm.{Algorithm}
 use Rattle.reference.specs.References.{Layer}
 use Rattle.store_record.specs.Image.{Image}
-use Rattle.store.specs.Held.{held, wellFormed}
+use Rattle.store_open.specs.Held.{held, wellFormed}
 use Rattle.lookup_layers.specs.Layers.{LayerDigest, listOf, layersIn}
 use Rattle.lookup_paths.specs.Path.{Meets, Lost}
 use Rattle.lookup_outcome.specs.declared.Failure.{Failure}
 use Rattle.lookup_outcome.specs.declared.Failure.the-variants.{Undefined, Endless, Absent}
-use Rattle.lookup.specs.Resolve.{layersAt, resolveValue, resolveBytes}
+use Rattle.lookup.specs.Resolve.{resolveValue, resolveBytes}
+use Rattle.lookup_image.specs.Layers.{layersAt}
 
 -- the paths from the layers ls meet the digests ds, one by one, and each of these is present
 pub data AllMeet (room : List Image) (present : List LayerDigest) : List Layer → List LayerDigest → Type 0 where

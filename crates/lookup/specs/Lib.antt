@@ -1,3 +1,2 @@
 pub mod Resolve
-pub mod Answers
 pub mod Found

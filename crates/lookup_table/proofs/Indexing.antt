@@ -11,8 +11,8 @@ use borrow.Author.Tests.{eq-eqb, ne-eqb, eqb-true, eqb-false, ltb-true, lt-ltb}
 use Rattle.laws.specs.Any.{anyOf}
 use Rattle.laws.proofs.Order.{by-test, false-true}
 use Rattle.reference.specs.References.{Layer, layer-digest, layer-alias, no-layer}
-use Rattle.manifest.specs.Index.{NumberOf, NameIndex, SomeNameIndex}
-use Rattle.manifest.proofs.Indexing.{no-names, some-index, index-any}
+use Rattle.manifest_index.specs.Index.{NumberOf, NameIndex, SomeNameIndex}
+use Rattle.manifest_index.proofs.Indexing.{no-names, some-index, index-any}
 use Rattle.manifest_objects.specs.Objects.{AllStand}
 use Rattle.store_keys.specs.Keys.{Key}
 use Rattle.lookup_links.specs.Links.{undefinedMark, AliasLink, undefined, linked, Link, Links}

@@ -17,8 +17,8 @@ use Rattle.laws.proofs.Order.{by-test}
 use Rattle.reference_digests.specs.Algorithms.{byteOf}
 use Rattle.reference_digests.specs.declared.algorithm.Algorithm.{Algorithm}
 use Rattle.reference.specs.References.{Layer, layer-digest, layer-alias, no-layer}
-use Rattle.manifest.specs.Index.{nameAt}
-use Rattle.manifest.specs.declared.index.Range.{Range}
+use Rattle.manifest_index.specs.Index.{nameAt}
+use Rattle.manifest_index.specs.declared.Range.{Range}
 use Rattle.manifest_objects.specs.Objects.{isAliasOf, Named}
 use Rattle.manifest_objects.proofs.Naming.{named-any}
 use Rattle.store_keys.specs.Keys.{Key, LayerKey}

@@ -8,7 +8,7 @@ use lib.Dec.{eqb}
 use lib.ListN.{length, getD, set}
 use Rattle.laws.specs.Any.{anyOf}
 use Rattle.reference.specs.References.{Layer, layer-digest, layer-alias, no-layer}
-use Rattle.manifest.specs.Index.{nameAt, NumberOf, SomeNameIndex}
+use Rattle.manifest_index.specs.Index.{nameAt, NumberOf, SomeNameIndex}
 use Rattle.manifest_objects.specs.Objects.{AllStand}
 use Rattle.lookup_links.specs.Links.{digestMark, undefinedMark, badMark}
 

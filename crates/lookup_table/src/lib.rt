@@ -4,7 +4,6 @@ use lookup_links::BAD;
 use lookup_links::DIGEST;
 use lookup_links::UNDEFINED;
 use manifest::Places;
-use manifest::index;
 use reference::ImageIndex;
 use reference::layer::Layer;
 use reference_digests::algorithm::Algorithm;
@@ -15,7 +14,7 @@ ghost use mathlib.Core.List.{List, [], _∷_, _++_};
 ghost use Prim.Native.Nat.{ℕ, _+_, _≤_, _<_};
 ghost use lib.ListN.{length, getD, take};
 ghost use Rattle.reference.specs.References.{Layer as LayerReference, no-layer};
-ghost use Rattle.manifest.specs.Index.{NumberOf, NameIndex};
+ghost use Rattle.manifest_index.specs.Index.{NumberOf, NameIndex};
 ghost use Rattle.manifest.specs.Manifest.{layers};
 ghost use Rattle.manifest.specs.Names.{objects};
 ghost use Rattle.manifest_objects.specs.Objects.{StandsAt, SomeReference, AllStand, NameStands, SomeName};
@@ -77,7 +76,7 @@ pub fn index_refs(b: &[u8], at: &[usize], next: &[u16], order: &mut [u16]) -> us
     let mut e = 0;
     while e < next.len() {
         if next[e] == UNDEFINED {
-            index::add(b, at, order, n, e as u16);
+            manifest_index::add(b, at, order, n, e as u16);
             n += 1;
         }
         e += 1;

@@ -5,13 +5,8 @@ pub mod Canonical
 pub mod Checking
 pub mod Goods
 pub mod Groups
-pub mod Indexing
 pub mod Limits
-pub mod Naming
-pub mod Objects
 pub mod Opened
 pub mod Opening
-pub mod Placing
 pub mod Questions
-pub mod RulePlaces
 pub mod Taken

@@ -1,11 +1,11 @@
 -- The value of a text that is taken stands at its root. Assumes nothing.
 use Prim.Native.Nat.{ℕ, _≤_}
 use mathlib.Core.Path.{_≡_, sym, ap, _∙_}
-use mathlib.Core.List.{List, []}
+use mathlib.Core.List.{List}
 use mathlib.Core.Bool.{Bool}
 use native.Mathlib.Omega.{arith}
 use lib.ListN.{length}
-use Rattle.text_content.specs.Value.{Value, content}
+use Rattle.text_content.specs.Value.{content}
 use Rattle.text_json.specs.Syntax.{Syntax}
 use Rattle.text_json.specs.Grammar.{Text}
 use Rattle.text.specs.Answer.{checked, numberOf}

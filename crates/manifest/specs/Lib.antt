@@ -1,7 +1,6 @@
 pub mod Answer
-pub mod Index
+pub mod Asks
 pub mod Manifest
 pub mod Names
 pub mod Number
 pub mod Opened
-pub mod RulePlaces

@@ -2,15 +2,15 @@
 use Prim.Native.Nat.{ℕ, _+_, _<_}
 use mathlib.Core.Path.{_≡_, refl, sym, ap, subst, _∙_}
 use mathlib.Core.List.{List, [], _∷_, _++_}
-use mathlib.Core.Bool.{Bool, true, false, not, _&&_, _||_}
+use mathlib.Core.Bool.{Bool, true, false, not, _||_}
 use native.Mathlib.Omega.{arith}
 use lib.ListN.{length, getD}
 use Rattle.laws.specs.Order.{same}
 use Rattle.laws.proofs.Order.{by-test, false-true, same-refl, same-eq, same-sym}
 use Rattle.text_content.specs.Value.{Fields, no-fields, field}
-use Rattle.text_strings.specs.InString.{InString, Inside, contentFrom, keyLe}
+use Rattle.text_strings.specs.InString.{Inside, contentFrom, keyLe}
 use Rattle.text_strings.proofs.Contents.{content-from}
-use Rattle.text_strings.proofs.Orders.{inside-within}
+use Rattle.text_strings.proofs.Cursors.{inside-within}
 use Rattle.reference.specs.Matches.{isOneOf}
 use Rattle.manifest_fields.specs.Accessors.{texts, namesOf}
 use Rattle.manifest_values.specs.Values.{entries}

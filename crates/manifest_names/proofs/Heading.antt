@@ -8,7 +8,7 @@ use lib.Dec.{eqb}
 use lib.ListN.{length, getD, set}
 use lib.Seq.{getD-set-same, getD-set-other}
 use Rattle.laws.proofs.Order.{by-test}
-use Rattle.text_strings.specs.Head.{headOf}
+use Rattle.text_names.specs.Head.{headOf}
 use Rattle.text_strings.specs.InString.{Inside, contentFrom}
 use Rattle.text_keys.proofs.Keys.{keys-get}
 use Rattle.manifest_names.specs.Placed.{SomeNames}

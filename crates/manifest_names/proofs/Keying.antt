@@ -12,9 +12,9 @@ use lib.Seq.{take-suc-set, getD-set-same, getD-set-other}
 use Rattle.laws.specs.Sort.{sort}
 use Rattle.laws.proofs.Order.{by-test}
 use Rattle.text_content.specs.Value.{Values, no-values, Fields, no-fields, array, object}
-use Rattle.text_strings.specs.InString.{InString, Inside, contentFrom, keyLe}
+use Rattle.text_strings.specs.InString.{InString, Inside, contentFrom}
 use Rattle.text_strings.proofs.Contents.{content-from, inside-content}
-use Rattle.text_strings.proofs.Orders.{inside-within}
+use Rattle.text_strings.proofs.Cursors.{inside-within}
 use Rattle.text_view.specs.Place.{ValueAt}
 use Rattle.text_view.specs.Cursor.{SomeArray, SomeElements, ElementsLeft, NextElement, SomeObject, SomeMembers, MembersLeft, NextMember}
 use Rattle.text_view.specs.declared.Elements.{Elements}
@@ -26,7 +26,6 @@ use Rattle.manifest_fields.specs.Rules.{countFields, everyMember, namesPass}
 use Rattle.manifest_values.specs.declared.entry.Entry.the-variants.{Text}
 use Rattle.manifest_values.proofs.Counting.{one-array}
 use Rattle.manifest_fields.proofs.Finding.{one-object}
-use Rattle.manifest_repeat.specs.Names.{Collectable}
 use Rattle.laws.specs.Any.{anyOf}
 use Rattle.manifest_names.specs.Contents.{Named, namedUnder, namedIn, isElsewhere, standsElsewhere, conflict}
 use Rattle.manifest_names.specs.Keyed.{Keyable, AddsKeyed, KeyableGroup}

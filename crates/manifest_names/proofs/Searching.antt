@@ -1,8 +1,8 @@
 -- Looking a name up among sorted ones by halves. Assumes nothing.
 use Prim.Native.Nat.{ℕ, zero, suc, _+_, _<_, _≤_}
 use mathlib.Core.Path.{_≡_, refl, sym, ap, subst, _∙_}
-use mathlib.Core.List.{List, [], _∷_, _++_}
-use mathlib.Core.Bool.{Bool, true, false}
+use mathlib.Core.List.{List, _∷_, _++_}
+use mathlib.Core.Bool.{true, false}
 use native.Mathlib.Omega.{arith}
 use borrow.Author.Tests.{ltb-true, ltb-false}
 use lib.Dec.{ltb}
@@ -13,11 +13,11 @@ use Rattle.laws.specs.Sort.{sort}
 use Rattle.laws.proofs.Order.{by-test, false-true, leq-refl, leq-antisym, same-refl, same-eq}
 use Rattle.laws.proofs.Rising.{Rising, rising-none, rising-one, rising-more, sort-rising}
 use Rattle.text_strings.specs.InString.{InString, Inside, contentFrom, keyLe}
-use Rattle.text_strings.specs.Compare.{order}
-use Rattle.text_strings.specs.declared.Order.{Order}
-use Rattle.text_strings.specs.declared.Order.the-variants.{Less, Equal, Greater}
+use Rattle.text_order.specs.Compare.{order}
+use Rattle.text_order.specs.declared.Order.{Order}
+use Rattle.text_order.specs.declared.Order.the-variants.{Less, Equal, Greater}
 use Rattle.text_strings.proofs.Contents.{content-from, inside-content}
-use Rattle.text_strings.proofs.Orders.{Ordered, is-less, is-equal, is-greater, ordered}
+use Rattle.text_order.proofs.Orders.{Ordered, is-less, is-equal, is-greater, ordered}
 use Rattle.text_keys.specs.Keys.{KeysAt}
 use Rattle.text_keys.proofs.Keys.{keys-get, keys-sort, keys-order}
 use Rattle.reference.specs.Matches.{isOneOf}
@@ -25,9 +25,7 @@ use Rattle.manifest_repeat.specs.Names.{NamesAt, no-names, name-at}
 use Rattle.manifest_repeat.proofs.Repeating.{names-keys}
 use Rattle.laws.specs.Any.{anyOf}
 use Rattle.manifest_names.specs.Placed.{Placed, no-place, placed, SortedNames, SomeNames}
-use Rattle.manifest_names.specs.Searches.{Stands, Looks}
-use Rattle.manifest_names.specs.declared.sorted.Search.{Search}
-use Rattle.manifest_names.specs.declared.sorted.Search.the-variants.{At, Missing}
+use Rattle.manifest_names.specs.Searches.{Stands}
 use Rattle.manifest_names.proofs.Any.{one-of-any, any-at, none-at, Reordered, sort-placed}
 
 -- names in rising order, by their indices

@@ -3,7 +3,7 @@ use Prim.Native.Nat.{ℕ, _+_, _<_, _≤_}
 use mathlib.Core.Path.{_≡_}
 use mathlib.Core.List.{List}
 use lib.ListN.{length, getD}
-use Rattle.text_strings.specs.Head.{headOf}
+use Rattle.text_names.specs.Head.{headOf}
 use Rattle.text_strings.specs.InString.{contentFrom}
 
 -- `heads` begins with the heads of the names that have the positions ks

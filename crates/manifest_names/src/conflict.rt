@@ -9,7 +9,6 @@ use text_view::Members;
 ghost use mathlib.Core.Path.{_≡_};
 ghost use mathlib.Core.List.{List};
 ghost use mathlib.Core.Option.{Option};
-ghost use Prim.Native.Nat.{ℕ};
 ghost use Rattle.text_content.specs.Value.{Value, Values, Fields, array, object};
 ghost use Rattle.text_strings.specs.InString.{Inside, contentFrom};
 ghost use Rattle.text_view.specs.Place.{ValueAt};
@@ -38,7 +37,7 @@ fn is_elsewhere(
         Search::Missing => false,
         Search::At(p) => {
             let own = keys[p] as usize;
-            !text_strings::name::equal(t, k, s, own + 1)
+            !text_names::name::equal(t, k, s, own + 1)
         }
     }
 }

@@ -1,8 +1,8 @@
 // Looking a name up among sorted ones that have their heads beside them: a step compares two numbers, and only where these are equal the names.
 use crate::sorted::Search;
-use text_strings::Order;
-use text_strings::head::compare_headed;
-use text_strings::head::head;
+use text_names::head::compare_headed;
+use text_names::head::head;
+use text_order::Order;
 ghost use mathlib.Core.Path.{_≡_};
 ghost use mathlib.Core.List.{List};
 ghost use Prim.Native.Nat.{ℕ, _≤_};

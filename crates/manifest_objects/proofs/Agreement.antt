@@ -21,7 +21,7 @@ use Rattle.manifest_names.proofs.Any.{one-of-any}
 use Rattle.manifest.specs.Manifest.{manifestOf, Alias, aliasesTo, aliasesOf, contents}
 use Rattle.manifest.specs.Names.{conflict, keysOf, objects}
 use Rattle.manifest.proofs.Aliases.{contents-unrepeated}
-use Rattle.manifest.proofs.Objects.{aliases-named, conflict-keys}
+use Rattle.manifest_aliases.proofs.Objects.{aliases-named, conflict-keys}
 
 module _ {A : Type 0} (p : A → Bool) where
   -- Where no element passes a test, an element does not.

@@ -26,7 +26,7 @@ use Rattle.manifest.specs.Names.{keysOf, objects}
 use Rattle.manifest.specs.Opened.{Opens}
 use Rattle.manifest.specs.declared.Places.{Places}
 use Rattle.manifest.proofs.Groups.{contents-grouped, contents-space}
-use Rattle.manifest.proofs.Objects.{few-objects}
+use Rattle.manifest_aliases.proofs.Objects.{few-objects}
 use Rattle.manifest.proofs.Opened.{layers-rule, layers-read}
 use Rattle.manifest.proofs.Questions.{good}
 use Rattle.manifest_objects.specs.Objects.{AllStand, none-stands, Listed, none-listed}

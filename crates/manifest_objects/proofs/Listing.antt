@@ -10,7 +10,7 @@ use lib.Seq.{take-suc-set, getD-append-seam}
 use Rattle.text_content.specs.Value.{Values, no-values, Fields, no-fields, array, object}
 use Rattle.text_strings.specs.InString.{contentFrom}
 use Rattle.text_strings.proofs.Contents.{inside-content}
-use Rattle.text_strings.proofs.Orders.{inside-within}
+use Rattle.text_strings.proofs.Cursors.{inside-within}
 use Rattle.text_view.specs.Place.{ValueAt}
 use Rattle.text_view.specs.Cursor.{SomeArray, SomeElements, ElementsLeft, NextElement, SomeObject, SomeMembers, MembersLeft, NextMember}
 use Rattle.text_view.specs.declared.Elements.{Elements}

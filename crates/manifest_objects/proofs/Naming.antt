@@ -9,17 +9,17 @@ use Rattle.laws.specs.Any.{anyOf}
 use Rattle.laws.specs.Order.{same}
 use Rattle.text_strings.specs.InString.{InString, Inside, contentFrom}
 use Rattle.text_strings.proofs.Contents.{content-from}
-use Rattle.text_strings.proofs.Orders.{inside-within}
+use Rattle.text_strings.proofs.Cursors.{inside-within}
 use Rattle.text_index.specs.Index.{entryText, Holds}
 use Rattle.text_index.proofs.Lists.{filter-any}
 use Rattle.text_index.proofs.Parts.{in-part}
 use Rattle.reference_digests.specs.declared.algorithm.Algorithm.{Algorithm}
 use Rattle.reference.specs.References.{Layer, layer-digest, layer-alias, no-layer}
 use Rattle.reference.specs.declared.layer.Layer.the-variants.{Digest, Alias as ReadAlias, Bad}
-use Rattle.manifest.specs.Index.{nameAt, NumberOf}
+use Rattle.manifest_index.specs.Index.{nameAt, NumberOf}
 use Rattle.manifest.specs.Manifest.{Alias}
 use Rattle.manifest.specs.Opened.{Denotes}
-use Rattle.manifest.specs.declared.index.Range.{Range}
+use Rattle.manifest_index.specs.declared.Range.{Range}
 use Rattle.manifest_objects.specs.Objects.{AliasAt, NameStands, Named, AliasNamed}
 
 -- The name of an alias of a manifest stands in the bytes in which the manifest stands.

@@ -10,7 +10,7 @@ use lib.Seq.{take-suc-set, drop-set-lt, drop-drop}
 use Rattle.text_content.specs.Value.{Values, no-values, Fields, no-fields, array, object}
 use Rattle.text_strings.specs.InString.{InString, contentFrom}
 use Rattle.text_strings.proofs.Contents.{content-from, inside-content}
-use Rattle.text_strings.proofs.Orders.{inside-within}
+use Rattle.text_strings.proofs.Cursors.{inside-within}
 use Rattle.text_index.proofs.Parts.{in-part}
 use Rattle.text_view.specs.Place.{ValueAt}
 use Rattle.text_view.specs.Cursor.{SomeArray, SomeElements, ElementsLeft, NextElement, SomeObject, SomeMembers, MembersLeft, NextMember}

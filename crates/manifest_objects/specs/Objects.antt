@@ -12,10 +12,10 @@ use Rattle.reference_digests.specs.declared.algorithm.Algorithm.{Algorithm}
 use Rattle.text_strings.specs.InString.{InString, Inside, contentFrom}
 use Rattle.text_index.specs.Index.{filter}
 use Rattle.reference.specs.References.{Layer, layer, layer-digest, layer-alias, no-layer}
-use Rattle.manifest.specs.Index.{nameAt, NumberOf}
+use Rattle.manifest_index.specs.Index.{nameAt, NumberOf}
 use Rattle.manifest.specs.Manifest.{Alias}
 use Rattle.manifest.specs.Names.{objects}
-use Rattle.manifest.specs.declared.index.Range.{Range}
+use Rattle.manifest_index.specs.declared.Range.{Range}
 
 -- from position k of b on a string goes on that is a reference to the layer l
 pub record StandsAt (b : List ℕ) (k : ℕ) (l : Layer) : Type 0 where

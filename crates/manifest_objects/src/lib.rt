@@ -1,8 +1,8 @@
 // The objects of a manifest by number, in the text's order: what following aliases through the images of a store needs. Positions are those in the
 // byte list b in which the manifest stands from `start` to `end`, so that references of many manifests are kept in one array.
 use manifest::Places;
-use manifest::index::Range;
 use manifest_fields::member::Found;
+use manifest_index::Range;
 use reference::layer::Layer;
 use reference_digests::algorithm::Algorithm;
 use text_view::Element;
@@ -16,7 +16,7 @@ ghost use lib.ListN.{length, take, drop};
 ghost use Rattle.reference.specs.References.{Layer as LayerReference};
 ghost use Rattle.text_content.specs.Value.{Values, Fields, array, object};
 ghost use Rattle.text_view.specs.Place.{ValueAt};
-ghost use Rattle.manifest.specs.Index.{SomeNameIndex};
+ghost use Rattle.manifest_index.specs.Index.{SomeNameIndex};
 ghost use Rattle.manifest.specs.Manifest.{aliasesOf, layers, contents};
 ghost use Rattle.manifest.specs.Names.{keysOf, objects};
 ghost use Rattle.manifest.specs.Opened.{Opens, Denotes};

@@ -12,10 +12,8 @@ use lib.ListN.{length, getD, drop}
 use Rattle.laws.proofs.Order.{by-test, false-true}
 use Rattle.manifest.proofs.Asking.{nothing-asked, asked-none, asked-small, none-asked}
 use Rattle.store_record.specs.Image.{Image}
-use Rattle.store.specs.Held.{held, isBroken, wellFormed}
-use Rattle.store.specs.Load.{among}
-use Rattle.store.proofs.Accepting.{Sound, sound-parts}
-use Rattle.store.proofs.Loading.{held-holds}
+use Rattle.store_open.specs.Held.{held, isBroken, wellFormed, among}
+use Rattle.store_open.proofs.Holding.{Sound, sound-parts, held-holds}
 use Rattle.policy_marks.specs.Pairs.{Pair, noReportSpace, reportOf, pairsAfter, reportAfter}
 use Rattle.policy.specs.Pairs.{pairs}
 use Rattle.policy.specs.Judge.{judgeQuestions, judgeNumber, heldPairs, judgePairs, judgeBytes, Admitted}

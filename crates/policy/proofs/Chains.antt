@@ -11,7 +11,7 @@ use Rattle.laws.specs.Any.{anyOf, anyPair}
 use Rattle.laws.proofs.Any.{or-none}
 use Rattle.laws.proofs.Order.{by-test, false-true, same-refl}
 use Rattle.reference_digests.specs.Algorithms.{byteOf}
-use Rattle.reference.specs.References.{Rule, Id}
+use Rattle.reference.specs.References.{Rule}
 use Rattle.reference.specs.Matches.{matches}
 use Rattle.manifest.specs.Manifest.{rules, selfNames}
 use Rattle.manifest.proofs.Accepting.{accepts-any}
@@ -22,7 +22,7 @@ use Rattle.store_record.specs.Store.{AllShaped, shaped}
 use Rattle.policy_marks.specs.Marks.{mark}
 use Rattle.policy_marks.proofs.Closing.{Leads, one, more}
 use Rattle.policy.specs.Chain.{Accepts, by-rule, Chain, alone, onward, At, first, later}
-use Rattle.policy_table.specs.Accepting.{acceptsImage, isGuard, guards, marks}
+use Rattle.policy_rows.specs.Accepting.{acceptsImage, isGuard, guards, marks}
 
 module _ {A : Type 0} where
   -- What stands at a place of a list stands in it.

@@ -16,7 +16,7 @@ use Rattle.policy_marks.specs.Pairs.{Ordered, isReported, pairsIn, pairsOf}
 use Rattle.policy_marks.proofs.Closing.{closed-leads, leads-closed}
 use Rattle.policy_marks.proofs.Pairs.{pair-in, pairs-rising, reported-few}
 use Rattle.policy.specs.Chain.{Guard, Chain, At}
-use Rattle.policy_table.specs.Accepting.{isGuard, guards, marks}
+use Rattle.policy_rows.specs.Accepting.{isGuard, guards, marks}
 use Rattle.policy.specs.Pairs.{pairs}
 use Rattle.policy.specs.Exact.{Unreached, Exact}
 use Rattle.policy.proofs.Chains.{at-below, guard-at, guards-length, leads-chain, chain-leads}

@@ -1,6 +1,6 @@
 -- What judge answers: of bytes that are no store, and of the images of a store.
 use Prim.Native.Nat.{ℕ, _≤_, _<_}
-use mathlib.Core.Path.{_≡_, refl, sym, ap, ap₂, _∙_, subst₂}
+use mathlib.Core.Path.{_≡_, sym, ap, ap₂, _∙_, subst₂}
 use mathlib.Core.Bool.{true, false}
 use mathlib.Core.List.{List, [], _∷_}
 use mathlib.Core.Option.{some}
@@ -18,10 +18,9 @@ use Rattle.answer.specs.declared.Answer.{Answer}
 use Rattle.policy_marks.specs.declared.Table.{Table}
 use Rattle.store_record.specs.Image.{Image}
 use Rattle.store_record.specs.Store.{mostImages, readRecords}
-use Rattle.store.specs.Held.{held, isBroken}
-use Rattle.store.proofs.Loading.{first-bytes}
-use Rattle.store.proofs.Numbering.{room-broken}
-use Rattle.policy_table.specs.Accepting.{guards, marks}
+use Rattle.store_open.specs.Held.{held, isBroken}
+use Rattle.store_open.proofs.Holding.{first-bytes, room-broken}
+use Rattle.policy_rows.specs.Accepting.{guards, marks}
 use Rattle.policy.specs.Pairs.{pairs}
 use Rattle.policy.specs.Judge.{judgeQuestions, judgeNumber, heldPairs}
 use Rattle.policy.proofs.Admitting.{held-pairs}

@@ -7,8 +7,7 @@ use lib.ListN.{length}
 use Rattle.text.specs.Question.{Question, lowest}
 use Rattle.policy_marks.specs.Pairs.{Pair, noReportSpace, pairsAfter, reportAfter}
 use Rattle.store_record.specs.Image.{Image}
-use Rattle.store.specs.Held.{held, isBroken}
-use Rattle.store.specs.Load.{among}
+use Rattle.store_open.specs.Held.{held, isBroken, among}
 use Rattle.policy.specs.Pairs.{pairs}
 
 -- of the images in a buffer of the first length, for a report buffer of the second

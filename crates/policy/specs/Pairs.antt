@@ -2,7 +2,7 @@
 -- That these are the pairs which document 01 speaks of is the law `exact` (Exact).
 use mathlib.Core.List.{List}
 use Rattle.policy_marks.specs.Pairs.{Pair, pairsOf}
-use Rattle.policy_table.specs.Accepting.{guards, marks}
+use Rattle.policy_rows.specs.Accepting.{guards, marks}
 use Rattle.store_record.specs.Image.{Image}
 
 unfoldable pub pairs : List Image → List Pair

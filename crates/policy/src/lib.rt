@@ -23,7 +23,7 @@ pub fn judge(store: &[u8], used: usize, report: &mut [u8]) -> Answer
     let mut spare = [0u16; 4096];
     let mut heads = [0u32; 4096];
     let mut keys = [0u16; 16384];
-    let opened = store::open(b, &mut at, &mut sorted, &mut spare, &mut heads, &mut keys);
+    let opened = store_open::open(b, &mut at, &mut sorted, &mut spare, &mut heads, &mut keys);
     if !opened.sound {
         return answer::refused(report, BROKEN);
     }

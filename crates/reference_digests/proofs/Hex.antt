@@ -19,7 +19,7 @@ use Rattle.text_strings.specs.InString.{Inside, contentFrom}
 use Rattle.text_strings.specs.declared.Cursor.{Cursor}
 use Rattle.text_strings.specs.declared.Next.{Next}
 use Rattle.text_strings.proofs.Contents.{content-from}
-use Rattle.text_strings.proofs.Orders.{given-end, given-byte, inside-within}
+use Rattle.text_strings.proofs.Cursors.{given-end, given-byte, inside-within}
 use Rattle.text_strings.proofs.Positions.{ends, goes-on}
 use Rattle.reference_parts.specs.Hex.{isLowerHex}
 use Rattle.reference_parts.specs.Parts.{firstPart}

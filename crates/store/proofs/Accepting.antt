@@ -5,7 +5,7 @@ use mathlib.Core.List.{List, [], _∷_, _++_, append-nil}
 use mathlib.Core.Bool.{Bool, true, false, _||_}
 use mathlib.Core.Option.{Option, none, some}
 use native.Mathlib.Omega.{arith}
-use borrow.Author.Tests.{eqb-true, eqb-false, leb-false, ltb-false, le-ltb, eq-eqb}
+use borrow.Author.Tests.{eqb-true, eqb-false, leb-false, ltb-false, eq-eqb}
 use lib.Dec.{eqb}
 use lib.ListN.{length, length-append}
 use Rattle.laws.specs.Any.{anyOf, anyPair}
@@ -27,9 +27,10 @@ use Rattle.store_record.proofs.Sharing.{share-id-sym}
 use Rattle.store_record.proofs.Stores.{store-both}
 use Rattle.store_keys.specs.Clash.{clash, anyClash}
 use Rattle.store_clash.proofs.Clashing.{Single, clash-sym}
-use Rattle.store.specs.Held.{isUnfit, tooMany, areUnsound, isBroken}
-use Rattle.store.specs.Load.{imageOf, isNoId, among, noSpace, storeQuestions, imageQuestions, loadQuestions}
-use Rattle.store.proofs.Images.{shaped-image, shaped-single}
+use Rattle.store_open.specs.Held.{isUnfit, areUnsound, isBroken, among}
+use Rattle.store.specs.Load.{imageOf, isNoId, noSpace, storeQuestions, imageQuestions, loadQuestions}
+use Rattle.store_open.proofs.Holding.{shaped-single, parts-sound, sound-parts}
+use Rattle.store.proofs.Images.{shaped-image}
 
 -- what is known of a load that gets the number 0, of images in a buffer of that size
 pub record Accepted (size : ℕ) (xs : List Image) (id manifest : List ℕ) : Type 0 where
@@ -107,36 +108,6 @@ pub any-clash-sym : {x : Image} → Single x → {xs : List Image} → AllShaped
 unfolding anyOf
 any-clash-sym h none-shaped = refl
 any-clash-sym h (shaped s t) = λ i. clash-sym (shaped-single s) h i || any-clash-sym h t i
-
--- what a sound store is, part by part
-pub record Sound (size : ℕ) (xs : List Image) : Type 0 where
-  pub few : length xs ≤ 64
-  pub fits : length (storeOf xs) ≤ size
-  pub fit : anyOf isUnfit xs ≡ false
-  pub ids : idTwice xs ≡ false
-  pub names : anyClash xs ≡ false
-
--- A store that is not unsound has all of these parts.
-pub sound-parts : (size : ℕ) (xs : List Image) → areUnsound size xs ≡ false → Sound size xs
-unfolding areUnsound tooMany
-sound-parts size xs e =
-    let a = or-none _ _ e in
-    let b = or-none _ _ (a .0) in
-    let c = or-none _ _ (a .1) in
-    let d = or-none _ _ (c .1) in
-    record {
-      few = ltb-false mostImages (length xs) (b .0);
-      fits = ltb-false size (length (storeOf xs)) (b .1);
-      fit = c .0;
-      ids = d .0;
-      names = d .1;
-    }
-
--- A store that has all of these parts is not unsound.
-pub parts-sound : (size : ℕ) (xs : List Image) → Sound size xs → areUnsound size xs ≡ false
-unfolding areUnsound tooMany
-parts-sound size xs p =
-    rw (le-ltb mostImages (length xs) (p .few), le-ltb size (length (storeOf xs)) (p .fits), p .fit, p .ids) (p .names)
 
 -- The store of some images and one more.
 pub store-last : (xs : List Image) (x : Image) → storeOf (xs ++ (x ∷ [])) ≡ storeOf xs ++ recordOf x

@@ -21,11 +21,12 @@ use Rattle.store_record.specs.Image.{Image}
 use Rattle.store_record.specs.Record.{recordOf}
 use Rattle.store_record.specs.Store.{storeOf, AllShaped, none-shaped, shaped}
 use Rattle.store_record.proofs.Records.{record-short}
-use Rattle.store.specs.Held.{held, isUnfit}
+use Rattle.store_open.specs.Held.{held, isUnfit}
 use Rattle.store.specs.Load.{imageOf, storeQuestions, imageQuestions, loadQuestions, loadNumber, loadUsed}
 use Rattle.store.proofs.Images.{shaped-image}
-use Rattle.store.proofs.Accepting.{sound-parts, fit-image}
-use Rattle.store.proofs.Loading.{held-holds, used-is, load-refused, used-accepted, load-accepted, load-keeps}
+use Rattle.store_open.proofs.Holding.{sound-parts, held-holds, used-is}
+use Rattle.store.proofs.Accepting.{fit-image}
+use Rattle.store.proofs.Loading.{load-refused, used-accepted, load-accepted, load-keeps}
 
 -- A manifest that is fit for a store has 16384 bytes at most.
 pub fit-short : (x : Image) → isUnfit x ≡ false → length (x .text) ≤ 16384

@@ -1,6 +1,6 @@
 -- The image that a load is given is one as a record holds it. Assumes nothing.
 use Prim.Native.Nat.{ℕ}
-use mathlib.Core.Path.{_≡_, sym, ap, subst}
+use mathlib.Core.Path.{_≡_, sym, ap}
 use mathlib.Core.List.{List, [], _∷_}
 use mathlib.Core.Bool.{false, _&&_, and-eq-true-iff}
 use lib.ListN.{length}
@@ -12,9 +12,7 @@ use Rattle.reference_digests.specs.declared.algorithm.Known.{Known}
 use Rattle.reference_digests.specs.declared.algorithm.Known.the-variants.{Is, Unknown}
 use Rattle.reference_digests.proofs.Digests.{digest-length}
 use Rattle.reference.specs.References.{Id, image-id, idUnder, idOf, imageId}
-use Rattle.store_record.specs.Image.{Image}
 use Rattle.store_record.specs.Record.{Shaped}
-use Rattle.store_clash.proofs.Clashing.{Single, single}
 use Rattle.store.specs.Load.{imageOf, isNoId}
 
 -- an ID with digests of its algorithm
@@ -67,7 +65,3 @@ shaped-image id manifest e =
       signer-size = z .signer-size;
       manifest-size = z .manifest-size;
     }
-
--- An image as a record holds it has one ID.
-pub shaped-single : {x : Image} → Shaped x → Single x
-shaped-single {x} h = subst (λ (i : List Id). Single (record { ids = i; text = x .text })) (sym (h .ids)) single

@@ -5,55 +5,19 @@ use mathlib.Core.List.{List, [], _∷_, _++_, append-assoc}
 use mathlib.Core.Bool.{true}
 use mathlib.Core.Option.{Option, none, some}
 use native.Mathlib.Omega.{arith}
-use native.Mathlib.Decide.{decLt}
-use borrow.Author.Tests.{leb-true, le-leb, eq-eqb, ne-eqb}
-use lib.Dec.{leb}
-use lib.ListN.{length, take, drop, getD, length-append, length-take, length-drop, List·getD-eq-default}
-use lib.Seq.{take-at, drop-at, getD-take, length-take-le}
-use Rattle.laws.proofs.Order.{by-test}
+use borrow.Author.Tests.{eq-eqb, ne-eqb}
+use lib.ListN.{length, take, drop, getD, length-append, length-drop}
+use lib.Seq.{take-at, drop-at, length-take-le}
 use Rattle.store_record.specs.Image.{Image}
 use Rattle.store_record.specs.Record.{recordOf}
-use Rattle.store_record.specs.Store.{mostImages, storeOf, AllShaped, none-shaped, shaped}
-use Rattle.store_record.proofs.Stores.{read-store, store-read, shaped-both}
-use Rattle.store.specs.Held.{held, isBroken, wellFormed}
-use Rattle.store.specs.Load.{imageOf, loadNumber, appended, usedAfter, bytesAfter, loadUsed, loadBytes}
+use Rattle.store_record.specs.Store.{none-shaped, shaped}
+use Rattle.store_record.proofs.Stores.{shaped-both}
+use Rattle.store_open.specs.Held.{held, isBroken, wellFormed}
+use Rattle.store.specs.Load.{imageOf, loadNumber, usedAfter, bytesAfter, loadUsed, loadBytes}
+use Rattle.store_append.specs.Append.{appended}
 use Rattle.store.proofs.Images.{shaped-image}
 use Rattle.store.proofs.Accepting.{Accepted, accepted, unread-refused, store-last, next-sound}
-
--- The first bytes of a buffer of bytes are bytes.
-pub first-bytes : (buffer : List ℕ) (n : ℕ) → ((k : ℕ) → getD buffer k 0 < 256) → (k : ℕ) → getD (take n buffer) k 0 < 256
-first-bytes buffer n h k = by-place (decLt k n)
-  where
-    by-place : Dec (k < n) → getD (take n buffer) k 0 < 256
-    by-place (yes l) = rw (getD-take n buffer k 0 l) (h k)
-    by-place (no l) = rw (List·getD-eq-default (take n buffer) 0 {n = k} (omega (arith, length-take n buffer))) (omega arith)
-
--- the first `used` bytes of a buffer are the store of those images
-pub record Holds (buffer : List ℕ) (used : ℕ) (xs : List Image) : Type 0 where
-  pub within : used ≤ length buffer
-  pub bytes : take used buffer ≡ storeOf xs
-  pub few : length xs ≤ 64
-  pub each : AllShaped xs
-
-module _ (buffer : List ℕ) (used : ℕ) (xs : List Image) where
-  -- Images that a buffer of bytes holds are the store in its first bytes.
-  pub held-holds : ((k : ℕ) → getD buffer k 0 < 256) → held buffer used ≡ some xs → Holds buffer used xs
-  unfolding held
-  held-holds h e =
-      by-test (leb used (length buffer))
-      (λ f. let r = store-read mostImages (take used buffer) xs (first-bytes buffer used h) (rw (f, held) at e) in
-      record { within = leb-true used (length buffer) f; bytes = r .0; few = r .1; each = r .2 })
-      (λ f. let g : none ≡ some xs = rw (f, held) at e in
-      let z : _≡_ {A = ℕ} 0 1 = cc in absurd (omega arith))
-
-  -- A buffer whose first bytes are the store of some images holds them.
-  pub holds-held : Holds buffer used xs → held buffer used ≡ some xs
-  unfolding held
-  holds-held h = rw (le-leb used (length buffer) (h .within), held) (rw (h .bytes) (read-store mostImages xs (h .each) (h .few)))
-
-  -- They fill exactly the bytes in use.
-  pub used-is : Holds buffer used xs → used ≡ length (storeOf xs)
-  used-is h = sym (length-take-le used buffer (h .within)) ∙ ap length (h .bytes)
+use Rattle.store_open.proofs.Holding.{Holds, held-holds, holds-held, used-is}
 
 -- bytes put after the first ones
 module _ (buffer : List ℕ) (used : ℕ) (bytes : List ℕ) (h : used + length bytes ≤ length buffer) where

@@ -8,7 +8,6 @@ use native.Mathlib.Omega.{arith}
 use borrow.Author.Tests.{lt-ltb, le-ltb, le-leb, lt-leb, eqb-true, eqb-false, ltb-true, ltb-false}
 use lib.Dec.{eqb, leb, ltb}
 use lib.ListN.{length, take, getD}
-use lib.Seq.{length-take-le}
 use Rattle.laws.specs.Any.{anyOf}
 use Rattle.laws.proofs.Any.{any-map, any-pointwise}
 use Rattle.laws.proofs.Order.{by-test}
@@ -29,35 +28,11 @@ use Rattle.store_record.proofs.Stores.{store-read}
 use Rattle.store_keys.specs.Clash.{clash}
 use Rattle.store_keys.specs.Signed.{one}
 use Rattle.store_clash.proofs.Clashing.{Single, single, clash-form}
-use Rattle.store.specs.Held.{held, isBroken}
-use Rattle.store.specs.Load.{among, noSpace, storeQuestions}
-use Rattle.store.specs.Loading.{imageWith, Readied, Digests, NumberLeft}
-use Rattle.store.proofs.Appending.{record-length}
-use Rattle.store.proofs.Loading.{first-bytes}
-use Rattle.store.proofs.Opening.{unread-broken, read-broken}
-
--- How large a buffer that holds the records is makes no difference to whether they are a store.
-pub room-broken :
-    (b : List ℕ) → ((j : ℕ) → getD b j 0 < 256) → (size : ℕ) → length b ≤ size
-    → isBroken size (readRecords mostImages b) ≡ isBroken (length b) (readRecords mostImages b)
-room-broken b bytes size h = by-images (readRecords mostImages b) refl
-  where
-    by-images : (o : Option (List Image)) → readRecords mostImages b ≡ o → isBroken size (readRecords mostImages b) ≡ isBroken (length b) (readRecords mostImages b)
-    by-images none e = unread-broken b size e ∙ sym (unread-broken b (length b) e)
-    by-images (some xs) e = read-broken b size bytes h xs e ∙ sym (read-broken b (length b) bytes (omega arith) xs e)
-
-module _ (buffer : List ℕ) (used : ℕ) (h : used ≤ length buffer) where
-  -- A buffer holds the images that are read in its bytes in use.
-  pub held-in-use : held buffer used ≡ readRecords mostImages (take used buffer)
-  unfolding held
-  held-in-use = rw (le-leb used (length buffer) h, held)
-
-  -- It is no store exactly if these bytes are none.
-  pub broken-in-use : ((k : ℕ) → getD buffer k 0 < 256)
-      → isBroken (length buffer) (held buffer used) ≡ isBroken (length (take used buffer)) (readRecords mostImages (take used buffer))
-  broken-in-use bytes =
-      let l : length (take used buffer) ≤ length buffer = omega (arith, length-take-le used buffer h) in
-      ap (isBroken (length buffer)) held-in-use ∙ room-broken (take used buffer) (first-bytes buffer used bytes) (length buffer) l
+use Rattle.store_open.specs.Held.{isBroken, among}
+use Rattle.store.specs.Load.{noSpace, storeQuestions}
+use Rattle.store.specs.Loading.{Readied}
+use Rattle.store_append.specs.Append.{imageWith, Digests, NumberLeft}
+use Rattle.store_append.proofs.Appending.{record-length}
 
 module _ (a : Algorithm) (signer digest text : List ℕ) where
   -- The image shares its one ID with those that have it.

@@ -28,10 +28,11 @@ use Rattle.store_record.specs.Image.{Image}
 use Rattle.store_record.specs.Record.{recordOf}
 use Rattle.store_record.specs.Store.{mostImages, storeOf, readRecords}
 use Rattle.store_record.proofs.Stores.{store-read}
-use Rattle.store.proofs.Loading.{first-bytes}
-use Rattle.store.specs.Held.{held, isBroken}
-use Rattle.store.specs.Load.{imageOf, isNoId, among, noSpace, storeQuestions, imageQuestions, loadQuestions, loadNumber, usedAfter, bytesAfter, loadUsed, loadBytes}
-use Rattle.store.specs.Loading.{imageWith, Loads, Fits}
+use Rattle.store_open.proofs.Holding.{first-bytes}
+use Rattle.store_open.specs.Held.{held, isBroken, among}
+use Rattle.store.specs.Load.{imageOf, isNoId, noSpace, storeQuestions, imageQuestions, loadQuestions, loadNumber, usedAfter, bytesAfter, loadUsed, loadBytes}
+use Rattle.store.specs.Loading.{Loads}
+use Rattle.store_append.specs.Append.{imageWith, Fits}
 use Rattle.answer.specs.declared.Answer.{Answer}
 
 module _ {x : Image} {buffer : List ℕ} {used : ℕ} {r : Answer} {after : List ℕ} {m n : ℕ} where

@@ -1,3 +1,2 @@
-pub mod Held
 pub mod Load
 pub mod Loading

@@ -3,9 +3,9 @@
 use Prim.Native.Nat.{ℕ, _+_, _-_}
 use mathlib.Core.Bool.{Bool, true, false, _||_}
 use mathlib.Core.List.{List, [], _∷_, _++_}
-use mathlib.Core.Option.{Option, none, some}
+use mathlib.Core.Option.{Option}
 use lib.Dec.{leb, ltb, eqb}
-use lib.ListN.{length, take, drop}
+use lib.ListN.{length}
 use Rattle.laws.specs.Any.{anyOf}
 use Rattle.text.specs.Answer.{form}
 use Rattle.text.specs.Question.{Question, lowest}
@@ -16,7 +16,8 @@ use Rattle.store_record.specs.Ids.{shareId}
 use Rattle.store_record.specs.Record.{recordOf}
 use Rattle.store_record.specs.Store.{mostImages, storeOf}
 use Rattle.store_keys.specs.Clash.{clash}
-use Rattle.store.specs.Held.{held, isBroken}
+use Rattle.store_open.specs.Held.{held, isBroken, among}
+use Rattle.store_append.specs.Append.{appended}
 
 -- the image that load is given: the one ID, and the canonical form of the manifest
 unfoldable pub imageOf : List ℕ → List ℕ → Image
@@ -26,11 +27,6 @@ imageOf id manifest = record { ids = imageId id ∷ []; text = form manifest }
 unfoldable pub isNoId : Id → Bool
 isNoId (image-id a s m) = false
 isNoId no-id = true
-
--- the images that a store holds; none where it cannot be read, which question 11 has asked before
-unfoldable pub among : Option (List Image) → List Image
-among none = []
-among (some xs) = xs
 
 -- 14: 64 images already, or the record is longer than buffer length less used
 unfoldable pub noSpace : ℕ → List Image → Image → Bool
@@ -56,10 +52,6 @@ loadQuestions size images id manifest = questions manifest ++ imageQuestions siz
 
 unfoldable pub loadNumber : List ℕ → List ℕ → List ℕ → ℕ → ℕ
 loadNumber id manifest buffer used = lowest (loadQuestions (length buffer) (held buffer used) id manifest)
-
--- the buffer with some bytes put after its first `used` bytes; those after them stay
-unfoldable pub appended : List ℕ → ℕ → List ℕ → List ℕ
-appended buffer used bytes = take used buffer ++ (bytes ++ drop (used + length bytes) buffer)
 
 -- by the number n of an answer: the new used count, 0 in a refusal; and the buffer, of which a refusal changes no byte
 unfoldable pub usedAfter : ℕ → Image → ℕ → ℕ

@@ -1,8 +1,8 @@
 -- Laws of clashing images. Assumes nothing.
 use Prim.Native.Nat.{ℕ}
 use mathlib.Core.Path.{_≡_, refl, sym, ap, _∙_}
-use mathlib.Core.List.{List, [], _∷_, _++_, map, append-nil}
-use mathlib.Core.Bool.{Bool, true, false, not, _&&_, _||_, or-false, and-assoc, and-or-distrib-left}
+use mathlib.Core.List.{List, [], _∷_, append-nil}
+use mathlib.Core.Bool.{Bool, false, not, _&&_, _||_, or-false, and-assoc, and-or-distrib-left}
 use lib.Dec.{eqb}
 use Rattle.laws.specs.Order.{same}
 use Rattle.laws.specs.Any.{anyOf}
@@ -12,7 +12,7 @@ use Rattle.text.specs.Answer.{form}
 use Rattle.text.specs.Question.{textNumber}
 use Rattle.reference_digests.specs.Algorithms.{byteOf}
 use Rattle.reference_digests.specs.declared.algorithm.Algorithm.{Algorithm}
-use Rattle.reference.specs.References.{Id, image-id, no-id, layerText}
+use Rattle.reference.specs.References.{image-id, layerText}
 use Rattle.manifest_names.specs.Contents.{shareName}
 use Rattle.manifest_names.proofs.Any.{one-of-any}
 use Rattle.manifest.specs.Manifest.{selfNames, Alias, contents}
@@ -20,8 +20,8 @@ use Rattle.manifest.specs.Names.{differ, conflict}
 use Rattle.manifest.proofs.Canonical.{form-self-names, form-contents}
 use Rattle.store_record.specs.Image.{Image}
 use Rattle.store_record.proofs.Sharing.{eqb-sym}
-use Rattle.store_names.specs.Shared.{named}
-use Rattle.store_names.proofs.Sharing.{named-sym}
+use Rattle.store_shared.specs.Shared.{named}
+use Rattle.store_shared.proofs.Sharing.{named-sym}
 use Rattle.store_keys.specs.Keys.{Key, LayerKey, keysUnder, layerKeysUnder, imageKeysOf, layerKeysOf, imageKeys, layerKeys}
 use Rattle.store_keys.specs.Clash.{sameKey, disagree, clash}
 use Rattle.store_keys.specs.Signed.{one, signedBy, isSigned, sharesWith, conflictsWith, namesClash, layersClash}

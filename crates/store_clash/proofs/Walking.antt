@@ -1,12 +1,11 @@
 -- What the loops over a store's images ask of one image. Assumes nothing.
-use Prim.Native.Nat.{ℕ, zero, suc, _<_}
+use Prim.Native.Nat.{ℕ, zero, suc}
 use mathlib.Core.Path.{_≡_, refl, sym, ap, _∙_}
 use mathlib.Core.Bool.{Bool, true, false, _&&_, _||_, or-false}
 use mathlib.Core.List.{List, [], _∷_, map}
-use native.Mathlib.Omega.{arith}
 use lib.Dec.{eqb}
-use lib.ListN.{length, take, drop, getD}
-use lib.Seq.{drop-cons, drop-nil}
+use lib.ListN.{take, drop}
+use lib.Seq.{drop-nil}
 use Rattle.laws.specs.Any.{anyOf, anyPair}
 use Rattle.laws.proofs.Any.{or-none, any-or}
 use Rattle.laws.specs.Order.{same}
@@ -15,14 +14,11 @@ use Rattle.reference_digests.specs.declared.algorithm.Algorithm.{Algorithm}
 use Rattle.manifest_names.specs.Contents.{shareName}
 use Rattle.manifest.specs.Manifest.{selfNames, contents}
 use Rattle.manifest.specs.Names.{conflict}
-use Rattle.manifest.specs.Opened.{noPlaces, Opens}
-use Rattle.manifest.specs.declared.Places.{Places}
 use Rattle.store_record.specs.Image.{Image}
-use Rattle.store_record.specs.Reading.{between, heldIn, noRecord, imagesIn}
+use Rattle.store_record.specs.Reading.{between, heldIn, imagesIn}
 use Rattle.store_record.specs.declared.Record.{Record}
 use Rattle.store_record.specs.declared.Survey.{Survey}
-use Rattle.store_names.specs.Opened.{OpenedStore}
-use Rattle.store_names.specs.Shared.{signedAs, haveShared}
+use Rattle.store_shared.specs.Shared.{signedAs, haveShared}
 use Rattle.store_names.proofs.Pairs.{pair-map, pair-or}
 use Rattle.store_keys.specs.Clash.{clash, anyClash}
 use Rattle.store_keys.specs.Signed.{one, signedBy, isSigned, sharesWith, conflictsWith, namesClash, layersClash}

@@ -2,7 +2,6 @@
 // so images of another signer are passed over; of one side the names are sorted once, and those of the other side are looked up there. The names that
 // the images of a store have for themselves are compared in one index of all. Arrays are lent by the caller, who makes them once.
 use manifest::Places;
-use manifest::names;
 use reference::ImageIndex;
 use reference_digests::algorithm::Algorithm;
 use store_record::Record;
@@ -39,7 +38,7 @@ fn shares_with(
     }
     let start = r.text;
     let end = r.end;
-    names::shares_self(s, names, heads, &b[start..end], q)
+    manifest_aliases::shares_self(s, names, heads, &b[start..end], q)
 }
 
 // The image of a record is of that signer, and has an alias of a layer that stands in s for another object; `names` and `keys` are what sorting
@@ -63,7 +62,7 @@ fn conflicts_with(
     }
     let start = r.text;
     let end = r.end;
-    names::conflicts(s, names, heads, keys, &b[start..end], q)
+    manifest_aliases::conflicts(s, names, heads, keys, &b[start..end], q)
 }
 
 // Some image of the store from index i on has an alias of s for itself.
@@ -154,8 +153,8 @@ fn shares_from(
     requires { ⌜ Opens (now s) p × OpenedStore (now b) v places × NameSpace (now sorted) (now spare) × (length (now sorted) ≤ length (now heads)) ⌝ }
     ensures { λ r. ⌜ r ≡ anyOf (sharesWith a (now (signer .entry)) (now (s .entry))) (drop (i .0) (imagesIn (now (b .entry)) v)) ⌝ }
 {
-    let n = names::sort_self(s, p, sorted, spare);
-    names::fill_heads(s, &sorted[..n], heads);
+    let n = manifest_aliases::sort_self(s, p, sorted, spare);
+    manifest_aliases::fill_heads(s, &sorted[..n], heads);
     shares_with_any(s, &sorted[..n], heads, a, signer, b, v, places, i)
 }
 
@@ -173,8 +172,8 @@ fn sort_layers(
     ensures { λ r. ⌜ (r ≤ length (now (sorted .exit))) × ContentsSorted (now (s .entry)) (take r (now (sorted .exit))) (now (keys .exit))
         × HeadsOf (now (s .entry)) (take r (now (sorted .exit))) (now (heads .exit)) ⌝ }
 {
-    let n = names::sort_contents(s, p, sorted, spare, keys);
-    names::fill_heads(s, &sorted[..n], heads);
+    let n = manifest_aliases::sort_contents(s, p, sorted, spare, keys);
+    manifest_aliases::fill_heads(s, &sorted[..n], heads);
     n
 }
 
@@ -278,7 +277,7 @@ pub fn any_clash(
     if v.count < 2 {
         return false;
     }
-    if store_names::any_shared(b, v, places, at, sorted, spare) {
+    if store_shared::any_shared(b, v, places, at, sorted, spare) {
         return true;
     }
     any_conflict(b, v, places, sorted, spare, heads, keys)

@@ -10,8 +10,8 @@ use lib.ListN.{length, take, drop, getD}
 use lib.Seq.{getD-take, getD-drop}
 use Rattle.laws.specs.Any.{anyOf}
 use Rattle.laws.proofs.Any.{or-exchanged}
-use Rattle.manifest.specs.Index.{NameIndex, SomeNameIndex}
-use Rattle.manifest.proofs.Indexing.{no-names, some-index}
+use Rattle.manifest_index.specs.Index.{NameIndex, SomeNameIndex}
+use Rattle.manifest_index.proofs.Indexing.{no-names, some-index}
 use Rattle.store_names.specs.Placed.{withNumbers, numbersOf}
 use Rattle.store_names.proofs.Pairs.{any-last}
 

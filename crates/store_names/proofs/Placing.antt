@@ -9,9 +9,9 @@ use lib.Seq.{length-take-le, take-append-le, drop-at, drop-append-le, getD-set-s
 use borrow.Author.Tests.{eqb-true, eqb-false}
 use borrow.Rule.Slice.PartMut.{putMid}
 use Rattle.laws.proofs.Order.{by-test}
-use Rattle.manifest.specs.Index.{NamesIn}
+use Rattle.manifest_index.specs.Index.{NamesIn}
 use Rattle.manifest.specs.Manifest.{selfNames}
-use Rattle.manifest.proofs.Indexing.{names-number}
+use Rattle.manifest_index.proofs.Indexing.{names-number}
 use Rattle.store_record.specs.Reading.{between, noRecord}
 use Rattle.store_record.specs.declared.Survey.{Survey}
 use Rattle.store_names.specs.Placed.{mostNames, PlacedUpTo, Numbered}

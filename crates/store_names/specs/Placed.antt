@@ -3,7 +3,7 @@ use Prim.Native.Nat.{ℕ, zero, suc, _+_, _*_, _≤_, _<_}
 use mathlib.Core.Path.{_≡_}
 use mathlib.Core.List.{List, [], _∷_}
 use lib.ListN.{length, take, drop, getD}
-use Rattle.manifest.specs.Index.{NamesIn, NumberOf, NameIndex}
+use Rattle.manifest_index.specs.Index.{NamesIn, NumberOf, NameIndex}
 use Rattle.manifest.specs.Manifest.{selfNames}
 use Rattle.store_record.specs.Reading.{between, noRecord}
 use Rattle.store_record.specs.Store.{mostImages}

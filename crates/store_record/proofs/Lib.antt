@@ -1,5 +1,4 @@
 pub mod Comparing
-pub mod Heads
 pub mod Ids
 pub mod Reading
 pub mod Records
@@ -7,4 +6,3 @@ pub mod Sharing
 pub mod Stores
 pub mod Surveying
 pub mod Walks
-pub mod Writing

@@ -4,7 +4,6 @@ use mathlib.Core.Path.{_≡_, refl, sym, _∙_}
 use mathlib.Core.Bool.{_&&_}
 use borrow.Author.Tests.{eqb-true, eqb-false, ne-eqb}
 use lib.Dec.{eqb}
-use Rattle.laws.specs.Any.{anyOf}
 use Rattle.laws.proofs.Any.{any-swapped, any-pointwise}
 use Rattle.laws.proofs.Order.{by-test, same-sym}
 use Rattle.reference_digests.specs.Algorithms.{byteOf}

@@ -1,22 +1,17 @@
-// The records of a store: one image's record written and read, and the survey of all records.
-use reference::ImageIndex;
+// The records of a store: one record read, and the survey of all records.
 use reference_digests::algorithm::Algorithm;
 use reference_digests::algorithm::Known;
 use store_varint::Number;
 ghost use mathlib.Core.Path.{_≡_};
 ghost use mathlib.Core.Bool.{false, _&&_};
-ghost use mathlib.Core.List.{_++_};
 ghost use lib.Dec.{eqb};
 ghost use Prim.Native.Nat.{_≤_};
-ghost use lib.ListN.{length, drop};
-ghost use Rattle.laws.specs.Any.{anyOf};
+ghost use lib.ListN.{length};
 ghost use Rattle.laws.specs.Order.{same};
-ghost use Rattle.reference_digests.specs.Algorithms.{digestBytes, byteOf};
+ghost use Rattle.reference_digests.specs.Algorithms.{byteOf};
 ghost use Rattle.reference.specs.References.{image-id};
-ghost use Rattle.store_record.specs.Ids.{sameId, hasId, idTwice};
-ghost use Rattle.store_record.specs.Image.{Image};
-ghost use Rattle.store_record.specs.Record.{headOf, headSize};
-ghost use Rattle.store_record.specs.Reading.{between, heldIn, imagesIn, RecordIn, Reads, ReadsBody, Surveys, Fills, noRecord};
+ghost use Rattle.store_record.specs.Ids.{hasId};
+ghost use Rattle.store_record.specs.Reading.{between, heldIn, RecordIn, Reads, ReadsBody, Surveys, noRecord};
 
 // The positions in a store of one record's parts: the signer's digest, the manifest's, the manifest itself, and the end.
 pub struct Record {
@@ -181,90 +176,4 @@ fn broken() -> Survey
         count: 0,
         records: [no_record(); 64],
     }
-}
-
-// Writes bytes at the start of `out`; what follows stays.
-pub fn copy(from: &[u8], out: &mut [u8])
-    requires { ⌜ length (now from) ≤ length (now out) ⌝ }
-    ensures { λ _. ⌜ now (out .exit) ≡ now (from .entry) ++ drop (length (now (from .entry))) (now (out .entry)) ⌝ }
-{
-    let mut i = 0;
-    while i < from.len() {
-        out[i] = from[i];
-        i += 1;
-    }
-}
-
-// Writes the start of a record, up to the manifest, which will have `text` bytes; answers its length. What follows stays.
-pub fn write_head(
-    a: Algorithm,
-    signer: &[u8],
-    manifest: &[u8],
-    text: usize,
-    out: &mut [u8],
-) -> usize
-    requires { ⌜ (length (now signer) ≡ digestBytes a) × (length (now manifest) ≡ digestBytes a) × (text ≤ 16384) × (length (headOf (image-id a (now signer) (now manifest)) text) ≤ length (now out)) ⌝ }
-    ensures { λ r. ⌜ r ≡ length (headOf (image-id a (now (signer .entry)) (now (manifest .entry))) text) ⌝ }
-    ensures { λ r. ⌜ now (out .exit) ≡ headOf (image-id a (now (signer .entry)) (now (manifest .entry))) text ++ drop r (now (out .entry)) ⌝ }
-{
-    let n = a.digest_bytes();
-    let k = store_varint::write(1 + 2 * n + text, out);
-    out[k] = a.byte();
-    let first = k + 1;
-    copy(signer, &mut out[first..]);
-    let second = first + n;
-    copy(manifest, &mut out[second..]);
-    second + n
-}
-
-// How long the start of a record is.
-pub fn head_size(a: Algorithm, text: usize) -> usize
-    requires { ⌜ text ≤ 16384 ⌝ }
-    ensures { λ r. ⌜ r ≡ headSize a text ⌝ }
-{
-    let rest = 1 + 2 * a.digest_bytes();
-    store_varint::size(rest + text) + rest
-}
-
-// Some image from index i on has that ID.
-pub fn is_held(
-    s: &[u8],
-    v: Survey,
-    a: Algorithm,
-    signer: &[u8],
-    manifest: &[u8],
-    i: ImageIndex,
-) -> bool
-    requires { ⌜ Fills (now s) v ⌝ }
-    ensures { λ r. ⌜ r ≡ anyOf (hasId (image-id a (now (signer .entry)) (now (manifest .entry)))) (drop (i .0) (imagesIn (now (s .entry)) v)) ⌝ }
-{
-    let mut j = i.0;
-    while j < v.count {
-        let r = v.records[j];
-        if r.has_id(s, a, signer, manifest) {
-            return true;
-        }
-        j += 1;
-    }
-    false
-}
-
-// Some ID stands in two images.
-pub fn id_twice(s: &[u8], v: Survey) -> bool
-    requires { ⌜ Fills (now s) v ⌝ }
-    ensures { λ r. ⌜ r ≡ idTwice (imagesIn (now (s .entry)) v) ⌝ }
-{
-    let mut i = 0;
-    while i < v.count {
-        let r = v.records[i];
-        let a = r.algorithm;
-        let from = r.signer;
-        let to = r.manifest;
-        let end = r.text;
-        if is_held(s, v, a, &s[from..to], &s[to..end], ImageIndex(i + 1)) {
-            return true;
-        }
-        i += 1;
-    }
-    false
 }

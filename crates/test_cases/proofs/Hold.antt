@@ -13,43 +13,40 @@ use Rattle.text_content.specs.Value.{content}
 use Rattle.text_content.specs.Canonical.{insertField, sorted, comma, write, canonical}
 use Rattle.text_content.specs.Fault.{mark, stringFault, numberFault, among, repeated, keyFault}
 use Rattle.text.specs.Question.{tooLong, notUtf8, isStuck, notJson, faulty, badString, badNumber, sameKeys, questions, lowest, textNumber}
-use Rattle.text.specs.Answer.{formOf, form}
+use Rattle.text.specs.Answer.{formOf, form, byFaults, byTree, byVerdict, checked, canonicalNumber, canonicalLength, canonicalBytes, isCanonical, isForm as isOwnForm}
 use Rattle.text_json.specs.Measure.{every as everyByte}
 use Rattle.reference_parts.specs.Parts.{isDivided, longer, parts}
 use Rattle.reference_parts.specs.Hex.{isLowerHex}
 use Rattle.reference_digests.specs.Algorithms.{named, numbered}
 use Rattle.reference_digests.specs.Digests.{isDigest, digestOf}
 use Rattle.reference.specs.Aliases.{isReserved, isDigestLength, isNameLength, isAlias}
-use Rattle.reference.specs.References.{isSigner, signerOf, isManifest, manifestOf, ruleUnder, ruleOf, rule, idUnder, idOf, imageId}
+use Rattle.reference.specs.References.{isSigner, signerOf, isManifest, manifestOf, ruleUnder, ruleOf, rule, idUnder, idOf, imageId, digestLayer, aliasLayer, layerOf, layer}
 use Rattle.reference.specs.Matches.{isOneOf, signerMatches, manifestMatches, matches}
 use Rattle.manifest_values.specs.Entries.{isEmpty, beginsWith, isLayer, isRule, textPasses, numberPasses, isForm, passes, allPass, count}
 use Rattle.manifest_fields.specs.Fields.{firstNamed, fieldNamed}
 use Rattle.manifest_fields.specs.Members.{find}
 use Rattle.manifest_values.specs.Values.{isArrayOf, isSome, entries, isBoolean, isCount, isPath, isNumber, isVersion, isAmong, repeats, allDifferent}
 use Rattle.manifest_fields.specs.Rules.{membersOf, isObject, countFields, everyMember, isObjectOf, namesPass, groupPasses, policyPasses, fieldPasses, memberPasses, isFound, foundEntries, foundMembers, allRequired, wellFielded}
-use Rattle.manifest_fields.specs.Accessors.{fieldOf, acceptsField, rejectsField, contentsField, selfField, layersOf, acceptsOf, contentsOf, selfOf, textOf, texts, namesOf}
+use Rattle.manifest_fields.specs.Accessors.{fieldOf, acceptsField, rejectsField, contentsField, selfField, layersOf, acceptsOf, contentsOf, selfOf, textOf, texts, namesOf, entrypointOf, envOf, signalsOf, isTrue, rejectsOf, writableOf, noRestartOf, instancesOf, maxInstancesOf, numberOf, numbers}
 use Rattle.manifest_repeat.specs.Repeated.{repeated as repeatedName, repeatedAlias}
 use Rattle.manifest_fields.specs.Forms.{contentsForm, selfForm}
 use Rattle.manifest_forms.specs.Questions.{badField, badForm, manifestNumber}
-use Rattle.reference.specs.References.{digestLayer, aliasLayer, layerOf, layer}
 use Rattle.store_varint.specs.Varint.{groups, varint, grouped, readVarint}
-use Rattle.store_record.specs.Record.{idBytes, idsBytes, bodyOf, recordOf}
+use Rattle.store_record.specs.Record.{idBytes, idsBytes, bodyOf, recordOf, headOf, headSize, bodyUnder, readBody, beforeRest, readSized, readRecord}
 use Rattle.laws.specs.Any.{anyOf, anyPair}
-use Rattle.text.specs.Answer.{byFaults, byTree, byVerdict, checked, canonicalNumber, canonicalLength, canonicalBytes, isCanonical, isForm as isOwnForm}
-use Rattle.manifest_fields.specs.Accessors.{entrypointOf, envOf, signalsOf, isTrue, rejectsOf, writableOf, noRestartOf, instancesOf, maxInstancesOf, numberOf, numbers}
 use Rattle.manifest.specs.Number.{asked, questions as manifestQuestions, manifestTextNumber}
 use Rattle.manifest.specs.Manifest.{contentOf, manifestOf as goodContent, rejects, rules, selfNames, aliasesTo, aliasesOf, contents, layers, env, signals, maxInstances, noRestart, writableFs, hasEntrypoint, accepts, objectOf}
 use Rattle.manifest.specs.Names.{differ, conflict, keysOf, objects}
 use Rattle.store_record.specs.Ids.{sameId, hasId, shareId, idTwice}
-use Rattle.store_record.specs.Record.{headOf, headSize, bodyUnder, readBody, beforeRest, readSized, readRecord}
 use Rattle.store_record.specs.Store.{storeOf, andThen as andThenImage, continued, readRecords}
 use Rattle.store_keys.specs.Keys.{keysUnder, layerKeysUnder, imageKeysOf, layerKeysOf, imageKeys, layerKeys}
 use Rattle.store_keys.specs.Clash.{sameKey, disagree, clash, anyClash}
-use Rattle.store.specs.Held.{held, isUnfit, tooMany, areUnsound, isBroken, wellFormed}
-use Rattle.store.specs.Load.{imageOf, isNoId, among as amongHeld, noSpace, storeQuestions, imageQuestions, loadQuestions, loadNumber, appended, usedAfter, bytesAfter, loadUsed, loadBytes}
+use Rattle.store_open.specs.Held.{held, among as amongHeld, isUnfit, tooMany, areUnsound, isBroken, wellFormed}
+use Rattle.store.specs.Load.{imageOf, isNoId, noSpace, storeQuestions, imageQuestions, loadQuestions, loadNumber, usedAfter, bytesAfter, loadUsed, loadBytes}
+use Rattle.store_append.specs.Append.{appended}
 use Rattle.policy_marks.specs.Marks.{mark as tableMark, orRow, through, closedAt, closedBelow, closed}
 use Rattle.policy_marks.specs.Pairs.{pairsWith, pairsFrom, pairsWhere, isReported, pairsIn, pairsOf, reportOf, noReportSpace, pairsAfter, reportAfter}
-use Rattle.policy_table.specs.Accepting.{acceptsImage, isGuard, guards, marks}
+use Rattle.policy_rows.specs.Accepting.{acceptsImage, isGuard, guards, marks}
 use Rattle.policy.specs.Pairs.{pairs}
 use Rattle.policy.specs.Judge.{judgeQuestions, judgeNumber, heldPairs, judgePairs, judgeBytes}
 use Rattle.history.specs.Calls.{callNumber, after, runFrom, numbersFrom, acceptedFrom, start, run, numbers as callNumbers, accepted}

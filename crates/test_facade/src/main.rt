@@ -6,15 +6,13 @@ use manifest::Checked;
 use manifest::Fault;
 use manifest::Places;
 use manifest::SignalNumber;
-use manifest::index;
-use manifest::rules;
 use reference::LayerIndex;
 use reference::layer::Layer;
 use reference_digests::algorithm::Algorithm;
 ghost use mathlib.Core.Path.{_≡_};
 ghost use Prim.Native.Nat.{ℕ, _≤_, _<_};
 ghost use lib.ListN.{length, take};
-ghost use Rattle.manifest.specs.Index.{NumberOf, SomeNameIndex};
+ghost use Rattle.manifest_index.specs.Index.{NumberOf, SomeNameIndex};
 ghost use Rattle.manifest.specs.Opened.{Opens};
 
 fn show_flag(b: bool) {
@@ -124,13 +122,13 @@ fn show_rules(
     requires { ⌜ Opens (now s) p × SomeNameIndex (now t) (now at) (now order) ⌝ }
 {
     let mut at_rules = [0usize; 64];
-    let n = rules::place(s, p, &mut at_rules);
+    let n = manifest_rules::place(s, p, &mut at_rules);
     let mut i = 0;
     while i < n {
-        let rule = rules::read(s, at_rules[i]);
-        let r = index::asked(t, at, order, s, rule);
+        let rule = manifest_rules::read(s, at_rules[i]);
+        let r = manifest_index::asked(t, at, order, s, rule);
         let named = r.from < r.to;
-        show_flag(rules::matches(s, rule, Algorithm::Sha224, signer, digest, named));
+        show_flag(manifest_rules::matches(s, rule, Algorithm::Sha224, signer, digest, named));
         i += 1;
     }
 }
@@ -142,7 +140,7 @@ fn index_names(t: &[u8], at: &[usize], n: usize, order: &mut [u16])
 {
     let mut k = 0;
     while k < n {
-        index::add(t, at, order, k, k as u16);
+        manifest_index::add(t, at, order, k, k as u16);
         k += 1;
     }
 }
@@ -153,7 +151,7 @@ fn show_matches(s: &[u8], p: Places, signer: &[u8], digest: &[u8], t: &[u8], q: 
     let mut own = [0u16; 4096];
     let mut at = [0usize; 64];
     let end = t.len();
-    let n = index::place_self(t, 0, end, q, &mut own, &mut at);
+    let n = manifest_index::place_self(t, 0, end, q, &mut own, &mut at);
     let mut order = [0u16; 64];
     index_names(t, &at, n, &mut order);
     show_rules(s, p, signer, digest, t, &at, &order[..n]);

@@ -3,7 +3,7 @@
 // alias's object in the first and what the object is; else `-`. A line that is no pair of good manifests is `bad`.
 use manifest::Checked;
 use manifest::Places;
-use manifest::names::Object;
+use manifest_aliases::Object;
 use reference::LayerIndex;
 use reference::layer::Layer;
 ghost use Prim.Native.Nat.{_≤_};
@@ -25,9 +25,9 @@ fn show_shared(s: &[u8], p: Places, t: &[u8], q: Places)
     let mut names = [0u16; 4096];
     let mut spare = [0u16; 4096];
     let mut heads = [0u32; 4096];
-    let n = manifest::names::sort_self(s, p, &mut names, &mut spare);
-    manifest::names::fill_heads(s, &names[..n], &mut heads);
-    let shared = manifest::names::shares_self(s, &names[..n], &heads, t, q);
+    let n = manifest_aliases::sort_self(s, p, &mut names, &mut spare);
+    manifest_aliases::fill_heads(s, &names[..n], &mut heads);
+    let shared = manifest_aliases::shares_self(s, &names[..n], &heads, t, q);
     say(shared);
 }
 
@@ -39,9 +39,9 @@ fn show_conflict(s: &[u8], p: Places, t: &[u8], q: Places)
     let mut spare = [0u16; 4096];
     let mut keys = [0u16; 16384];
     let mut heads = [0u32; 4096];
-    let n = manifest::names::sort_contents(s, p, &mut names, &mut spare, &mut keys);
-    manifest::names::fill_heads(s, &names[..n], &mut heads);
-    let conflict = manifest::names::conflicts(s, &names[..n], &heads, &keys, t, q);
+    let n = manifest_aliases::sort_contents(s, p, &mut names, &mut spare, &mut keys);
+    manifest_aliases::fill_heads(s, &names[..n], &mut heads);
+    let conflict = manifest_aliases::conflicts(s, &names[..n], &heads, &keys, t, q);
     say(conflict);
 }
 
@@ -88,7 +88,7 @@ fn show_object(s: &[u8], p: Places, t: &[u8], q: Places)
             signer: _,
             alias: _,
         } = x {
-            show_found(manifest::names::object_of(s, p, t, x));
+            show_found(manifest_aliases::object_of(s, p, t, x));
             return;
         }
     }

@@ -9,7 +9,7 @@ use Rattle.text_json.specs.Syntax.{Char}
 use Rattle.text_json.specs.Grammar.{Chars, close, unescaped, short, hex}
 use Rattle.text_strings.specs.InString.{InString, Inside, contentFrom}
 use Rattle.text_strings.proofs.Contents.{content-from}
-use Rattle.text_strings.proofs.Orders.{inside-within}
+use Rattle.text_strings.proofs.Cursors.{inside-within}
 
 -- Bytes that are added at the end change nothing of the chars that are read.
 pub chars-longer : (more : List ℕ) {s r : List ℕ} {cs : List Char} → Chars s cs r → Chars (s ++ more) cs (r ++ more)

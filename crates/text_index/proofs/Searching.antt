@@ -7,10 +7,10 @@ use native.Mathlib.Omega.{arith}
 use lib.ListN.{length, getD}
 use Rattle.laws.specs.Order.{leq}
 use Rattle.laws.proofs.Order.{by-test, false-true, leq-refl, leq-trans, leq-antisym, leq-total}
-use Rattle.text_strings.specs.Compare.{order}
-use Rattle.text_strings.specs.declared.Order.{Order}
-use Rattle.text_strings.specs.declared.Order.the-variants.{Less, Equal, Greater}
-use Rattle.text_strings.proofs.Orders.{Ordered, is-less, is-equal, is-greater, ordered}
+use Rattle.text_order.specs.Compare.{order}
+use Rattle.text_order.specs.declared.Order.{Order}
+use Rattle.text_order.specs.declared.Order.the-variants.{Less, Equal, Greater}
+use Rattle.text_order.proofs.Orders.{Ordered, is-less, is-equal, is-greater, ordered}
 use Rattle.text_index.specs.Index.{entryText, Entry, SomeIndex, comesBefore, Counted, Before}
 use Rattle.text_index.proofs.Indexing.{index-rising}
 

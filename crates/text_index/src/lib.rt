@@ -1,10 +1,10 @@
 // An index of strings that stand in one byte list: `at` has the position where each string's content begins, and `order` the strings' numbers, sorted by
 // content. A content is looked up by halves, so many lookups among strings of many texts cost some twelve comparisons each.
-use text_strings::Order;
+use text_order::Order;
 ghost use mathlib.Core.Path.{_≡_};
 ghost use mathlib.Core.List.{List, _∷_};
 ghost use Prim.Native.Nat.{ℕ, _+_, _≤_, _<_};
-ghost use lib.ListN.{length, getD, take, drop};
+ghost use lib.ListN.{length, take};
 ghost use Rattle.text_strings.specs.InString.{Inside, contentFrom};
 ghost use Rattle.text_index.specs.Index.{Entry, Index, SomeIndex, comesBefore, Counted, Before, Holds, Moved};
 
@@ -19,7 +19,7 @@ fn is_before(b: &[u8], p: usize, t: &[u8], q: usize, equal: bool) -> bool
     requires { ⌜ Inside (now b) p × Inside (now t) q ⌝ }
     ensures { λ r. ⌜ r ≡ comesBefore equal (contentFrom (now (b .entry)) p) (contentFrom (now (t .entry)) q) ⌝ }
 {
-    match text_strings::compare(b, p, t, q) {
+    match text_order::compare(b, p, t, q) {
         Order::Less => true,
         Order::Equal => equal,
         Order::Greater => false,
@@ -75,7 +75,7 @@ pub fn find(b: &[u8], at: &[usize], order: &[u16], t: &[u8], q: usize) -> Range
     while low < high {
         let mid = low + (high - low) / 2;
         let e = order[mid] as usize;
-        match text_strings::compare(b, at[e], t, q) {
+        match text_order::compare(b, at[e], t, q) {
             Order::Less => low = mid + 1,
             Order::Greater => high = mid,
             Order::Equal => {

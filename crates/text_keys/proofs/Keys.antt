@@ -12,11 +12,11 @@ use Rattle.laws.specs.Sort.{insert, sort, Orders}
 use Rattle.laws.proofs.Order.{by-test, false-true, leq-refl, leq-total, leq-trans, same-refl, same-eq}
 use Rattle.laws.proofs.Sort.{insert-before, insert-after}
 use Rattle.text_strings.specs.InString.{InString, Inside, contentFrom, keyLe}
-use Rattle.text_strings.specs.Compare.{order}
-use Rattle.text_strings.specs.declared.Order.{Order}
-use Rattle.text_strings.proofs.Order
+use Rattle.text_order.specs.Compare.{order}
+use Rattle.text_order.specs.declared.Order.{Order}
+use Rattle.text_order.proofs.Order
 use Rattle.text_strings.proofs.Contents.{inside-content}
-use Rattle.text_strings.proofs.Orders.{Ordered, is-less, is-equal, is-greater, ordered}
+use Rattle.text_order.proofs.Orders.{Ordered, is-less, is-equal, is-greater, ordered}
 use Rattle.text_keys.specs.Keys.{KeysAt, no-keys, key-at}
 
 -- each key by its index

@@ -1,6 +1,6 @@
 // The keys of an object in place: sorted by their contents, and the first one that repeats an earlier one. A key is given by the
 // position of its opening quotation mark in the text.
-use text_strings::Order;
+use text_order::Order;
 ghost use mathlib.Core.Path.{_≡_};
 ghost use mathlib.Core.List.{List};
 ghost use Prim.Native.Nat.{ℕ, _+_, _≤_, max};
@@ -128,7 +128,7 @@ fn not_after(s: &[u8], k: u16, l: u16) -> bool
     requires { ⌜ Inside (now s) (k + 1) × Inside (now s) (l + 1) ⌝ }
     ensures { λ r. ⌜ r ≡ keyLe (now (s .entry)) k l ⌝ }
 {
-    match text_strings::compare(s, (k as usize) + 1, s, (l as usize) + 1) {
+    match text_order::compare(s, (k as usize) + 1, s, (l as usize) + 1) {
         Order::Greater => false,
         _ => true,
     }
@@ -155,7 +155,7 @@ fn left_if_same(s: &[u8], k: u16, l: u16) -> usize
     ensures { λ r. ⌜ r ≡ sameLeft (now (s .entry)) k l ⌝ }
 {
     let at = l as usize;
-    match text_strings::compare(s, at + 1, s, (k as usize) + 1) {
+    match text_order::compare(s, at + 1, s, (k as usize) + 1) {
         Order::Equal => s.len() - at,
         _ => 0,
     }

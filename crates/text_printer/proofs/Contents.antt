@@ -11,8 +11,7 @@ use Rattle.text_json.specs.Content.{escaped, quoted}
 use Rattle.text_json.specs.Measure.{plainLength}
 use Rattle.text_strings.specs.InString.{InString, Inside, Escapes, EscapeAt, contentFrom}
 use Rattle.text_strings.proofs.Contents.{inside-content}
-use Rattle.text_strings.proofs.Cursors.{closes}
-use Rattle.text_strings.proofs.Orders.{inside-within}
+use Rattle.text_strings.proofs.Cursors.{closes, inside-within}
 use Rattle.text_printer.specs.Writes.{Writes}
 use Rattle.text_printer.proofs.Written.{nothing-written, same-length, lent-length, byte-written, part-written}
 use Rattle.text_printer.proofs.Runs.{Run, runs-after}

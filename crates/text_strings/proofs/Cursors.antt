@@ -1,20 +1,20 @@
 -- What a cursor gives next.
-use Prim.Native.Nat.{ℕ, suc, _+_, _-_, _<_, _≤_, min}
+use Prim.Native.Nat.{ℕ, suc, _+_, _-_, _<_, _≤_}
 use mathlib.Core.Path.{_≡_, refl, sym, ap, subst, _∙_}
 use mathlib.Core.List.{List, [], _∷_, _++_}
-use mathlib.Core.Bool.{Bool, true, false, not, _&&_}
+use mathlib.Core.Bool.{Bool, true, false}
 use native.Mathlib.Omega.{arith}
 use native.Mathlib.Numerals.{add-one}
 use lib.Dec.{ltb}
-use lib.ListN.{length, take, drop, getD, length-take, length-drop, drop-of-length-le}
-use lib.Seq.{drop-cons, getD-take, length-take-le}
+use lib.ListN.{length, take, drop, getD, length-take, drop-of-length-le}
+use lib.Seq.{drop-cons, getD-take, length-take-le, drop-nil}
 use Rattle.laws.proofs.Order.{by-test, false-true}
 use Rattle.text_utf8.specs.Scalar.{encode}
 use Rattle.text_json.specs.Bytes.{isUnescaped}
-use Rattle.text_json.specs.Syntax.{Char, byte}
+use Rattle.text_json.specs.Syntax.{byte}
 use Rattle.text_json.specs.Content.{unescape}
-use Rattle.text_strings.specs.InString.{InString, EscapeAt, Escapes}
-use Rattle.text_strings.specs.Cursor.{heldBytes, Left, Readable, Given, Gives, Encodes, weight}
+use Rattle.text_strings.specs.InString.{InString, EscapeAt, Escapes, Inside}
+use Rattle.text_strings.specs.Cursor.{heldBytes, Left, Given, Gives, Encodes, weight}
 use Rattle.text_strings.specs.declared.Cursor.{Cursor}
 use Rattle.text_strings.specs.declared.Next.{Next}
 use Rattle.text_strings.proofs.Views.{View, at-close, at-byte, at-short, at-hex, view}
@@ -118,3 +118,25 @@ escape-lighter s k next scalar x e q =
     let o = q .one in
     let f = q .few in
     omega arith
+
+-- what is given at the end, and at a byte
+pub given-end : (s c : List ℕ) (n : Next) → n .found ≡ false → Gives s c n → c ≡ []
+given-end s c n e g = subst (λ (f : Bool). Given s c f (n .byte) (n .rest)) e g
+
+pub given-byte : (s c : List ℕ) (n : Next) → n .found ≡ true → Gives s c n → (d : List ℕ) × (c ≡ n .byte ∷ d) × Left s (n .rest) d
+given-byte s c n e g = subst (λ (f : Bool). Given s c f (n .byte) (n .rest)) e g
+
+-- a new cursor has the string's content before it
+pub new-left : (s : List ℕ) (i : ℕ) (k : Cursor) (c : List ℕ) → (k .at ≡ i) × (k .from ≡ 0) × (k .count ≡ 0) → InString s i c → Left s k c
+new-left s i k c e p =
+    record { order = omega (arith, e .1, e .2); few = omega (arith, e .2); there = omega (arith, e .2); tail = c; inside = subst (λ (n : ℕ). InString s n c) (sym (e .0)) p; content = sym nothing }
+  where
+    nothing : drop (k .from) (take (k .count) (k .held)) ++ c ≡ c
+    nothing = ap (λ (n : ℕ). drop (k .from) (take n (k .held)) ++ c) (e .2) ∙ ap (λ (l : List ℕ). l ++ c) (drop-nil (k .from))
+
+-- a position in a string is below the text's length
+pub inside-within : (s : List ℕ) (i : ℕ) → Inside s i → i < length s
+inside-within s i p = let h = p .here in char-within s i (h .chars) (h .rest) (view s i (h .chars) (h .rest) (h .reads))
+
+pub inside-next : (s : List ℕ) (i : ℕ) → Inside s i → (getD s i 0 ≡ 0x22 → ⊥) → (getD s i 0 ≡ 0x5C → ⊥) → Inside s (i + 1)
+inside-next s i p a b = let r = plain s i (p .bytes) (p .here) a b in record { bytes = r .0; here = r .2 }

@@ -1,10 +1,5 @@
-pub mod Alike
 pub mod Contents
 pub mod Cursors
 pub mod Escapes
-pub mod Heads
-pub mod Names
-pub mod Orders
 pub mod Positions
-pub mod Twins
 pub mod Views

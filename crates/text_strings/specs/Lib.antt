@@ -1,4 +1,2 @@
 pub mod InString
 pub mod Cursor
-pub mod Compare
-pub mod Head

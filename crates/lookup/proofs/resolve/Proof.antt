@@ -14,9 +14,9 @@ use Rattle.store_record.specs.Reading.{imagesIn}
 use Rattle.store_record.specs.Store.{mostImages, readRecords}
 use Rattle.store_record.proofs.Walks.{records-size, images-length}
 use Rattle.store_names.specs.Opened.{OpenedStore}
-use Rattle.store.specs.Held.{isBroken}
+use Rattle.store_open.specs.Held.{isBroken}
 use Rattle.lookup_layers.specs.Layers.{isList}
-use Rattle.lookup.proofs.Answering.{failure-bounds, refused-resolves, resolves-as}
+use Rattle.lookup_answer.proofs.Answering.{failure-bounds, refused-resolves, resolves-as}
 use Rattle.lookup.proofs.Numbers.{some-list, unbroken-apart, number-past, number-broken, number-unlisted, number-missing, outcome-held, number-layers}
 use Rattle.lookup.proofs.resolve.Statement.{statement}
 use Rattle.lookup.proofs.resolve.Tie as tie

@@ -6,7 +6,7 @@ use native.Mathlib.Omega.{arith}
 use borrow.Author.Needs.{needs}
 use denote.Ref.{now}
 use lib.ListN.{length}
-use Rattle.store_record.proofs.Writing.{kept-length}
+use Rattle.store_write.proofs.Writing.{kept-length}
 use Rattle.lookup_outcome.specs.Resolving.{Writable}
 use Rattle.lookup_outcome.proofs.Writing.{WrittenTo, written-none, number-within, digest-here, written-next, written-all}
 use Rattle.lookup_outcome.proofs.Writing.{entry-room, entry-lent, entry-fits}

@@ -10,7 +10,7 @@ use Rattle.reference_digests.specs.Algorithms.{digestBytes}
 use Rattle.reference.specs.References.{layer-digest}
 use Rattle.reference.specs.declared.layer.Layer.the-variants.{Digest}
 use Rattle.manifest.specs.Opened.{Denotes}
-use Rattle.store_record.proofs.Writing.{Writes, kept-length}
+use Rattle.store_write.proofs.Writing.{Writes, kept-length}
 use Rattle.lookup_layers.specs.Layers.{LayerDigest, entryOf}
 use Rattle.lookup_outcome.specs.Resolving.{DigestStands}
 use Rattle.lookup_outcome.proofs.Meeting.{some-reference}

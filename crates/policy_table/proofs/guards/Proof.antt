@@ -1,6 +1,6 @@
 -- `policy_table::guards` meets its contract. The loop's invariant: the word has the marks of the images from j on. The measure is j.
 use Prim.Native.Nat.{ℕ, _+_, _-_, _*_, _^_, _<_}
-use mathlib.Core.Path.{_≡_, refl, sym, _∙_}
+use mathlib.Core.Path.{_≡_, sym, _∙_}
 use mathlib.Core.Bool.{true, false}
 use native.Mathlib.Omega.{arith}
 use denote.Ref.{now}
@@ -9,8 +9,8 @@ use Rattle.store_record.specs.Image.{Image}
 use Rattle.store_record.specs.Reading.{between, heldIn, imagesIn, noRecord, RecordIn}
 use Rattle.store_record.proofs.Walks.{records-size}
 use Rattle.store_names.proofs.Opened.{opened-at}
-use Rattle.policy_table.specs.Accepting.{isGuard, guards}
-use Rattle.policy_table.proofs.Rows.{Built, images-none, word-fits, image-unmarked, image-marked, built-all}
+use Rattle.policy_rows.specs.Accepting.{isGuard, guards}
+use Rattle.policy_rows.proofs.Rows.{Built, images-none, word-fits, image-unmarked, image-marked, built-all}
 use Rattle.policy_table.proofs.guards.Statement.{statement}
 use Rattle.policy_table.proofs.guards.Tie as tie
 

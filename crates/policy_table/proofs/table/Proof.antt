@@ -1,8 +1,7 @@
 -- `policy_table::table` meets its contract. The loop's invariant: the rows of the images before i are written. The measure is how many are left.
 use Prim.Native.Nat.{_-_, _≤_, _<_}
 use mathlib.Core.Path.{_≡_, refl, sym}
-use mathlib.Core.Bool.{Bool}
-use mathlib.Core.List.{List, map}
+use mathlib.Core.List.{map}
 use native.Mathlib.Omega.{arith}
 use denote.Ref.{now}
 use lib.ListN.{length}
@@ -11,9 +10,9 @@ use Rattle.policy_marks.specs.Words.{guardsIn, rowsIn}
 use Rattle.store_record.specs.Image.{Image}
 use Rattle.store_record.specs.Reading.{imagesIn}
 use Rattle.store_record.proofs.Walks.{records-size}
-use Rattle.policy_table.specs.Accepting.{acceptsImage, marks}
+use Rattle.policy_rows.specs.Accepting.{acceptsImage, marks}
 use Rattle.store_names.proofs.Placing.{placed-numbered}
-use Rattle.policy_table.proofs.Rows.{Filled, filled-none, row-written, rows-written}
+use Rattle.policy_rows.proofs.Rows.{Filled, filled-none, row-written, rows-written}
 use Rattle.policy_table.proofs.table.Statement.{statement}
 use Rattle.policy_table.proofs.table.Tie as tie
 

@@ -7,7 +7,7 @@ use lib.ListN.{length}
 use Rattle.store_record.specs.Image.{Image}
 use Rattle.store_record.specs.Record.{recordOf}
 use Rattle.store.specs.Load.{usedAfter, bytesAfter}
-use Rattle.store.specs.Loading.{imageWith}
+use Rattle.store_append.specs.Append.{imageWith}
 use Rattle.store.proofs.Numbering.{record-size}
 use borrow.Author.Needs.{needs}
 use Rattle.store.proofs.append.Statement.{statement}

@@ -7,9 +7,9 @@ use lib.Seq.{length-take-le}
 use Rattle.text.specs.Question.{lowest}
 use Rattle.manifest.proofs.Opening.{opened-short}
 use Rattle.store_record.specs.Image.{Image}
-use Rattle.store.specs.Held.{held}
+use Rattle.store_open.specs.Held.{held}
 use Rattle.store.specs.Load.{storeQuestions}
-use Rattle.store.specs.Loading.{imageWith}
+use Rattle.store_append.specs.Append.{imageWith}
 use Rattle.store.proofs.Steps.{refused-loads, loads-as, past-number, number-within, fits}
 use borrow.Author.Needs.{needs}
 use Rattle.store.proofs.load_image.Statement.{statement}

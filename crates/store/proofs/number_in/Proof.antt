@@ -17,10 +17,10 @@ use Rattle.store_record.specs.Reading.{imagesIn}
 use Rattle.store_record.proofs.Walks.{records-size, images-length}
 use Rattle.store_keys.specs.Clash.{clash}
 use Rattle.store_names.specs.Opened.{OpenedStore}
-use Rattle.store.specs.Held.{isBroken}
-use Rattle.store.specs.Load.{among}
-use Rattle.store.specs.Loading.{imageWith}
-use Rattle.store.proofs.Numbering.{room-broken, shares-held, clashes-held, record-size, size-small, read-among, number-11, number-12, number-rest}
+use Rattle.store_open.specs.Held.{isBroken, among}
+use Rattle.store_append.specs.Append.{imageWith}
+use Rattle.store_open.proofs.Holding.{room-broken}
+use Rattle.store.proofs.Numbering.{shares-held, clashes-held, record-size, size-small, read-among, number-11, number-12, number-rest}
 use borrow.Author.Needs.{needs}
 use Rattle.store.proofs.number_in.Statement.{statement}
 use Rattle.store.proofs.number_in.Tie as tie

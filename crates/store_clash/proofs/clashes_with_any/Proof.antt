@@ -1,7 +1,6 @@
 -- `store_clash::clashes_with_any` meets its contract: where no image is of the signer none clashes; else its own names are asked first, and then those of
 -- its layers.
 use mathlib.Core.Path.{refl, sym, _∙_}
-use native.Mathlib.Omega.{arith}
 use borrow.Author.Tests.{not-true}
 use denote.Ref.{now}
 use lib.Seq.{length-take-le}

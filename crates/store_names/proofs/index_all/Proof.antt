@@ -5,7 +5,7 @@ use mathlib.Core.Path.{_≡_}
 use native.Mathlib.Omega.{arith}
 use denote.Ref.{now}
 use lib.ListN.{length, getD}
-use Rattle.manifest.proofs.Indexing.{some-index}
+use Rattle.manifest_index.proofs.Indexing.{some-index}
 use Rattle.store_names.proofs.Numbering.{IndexedTo, indexed-none, indexed-next}
 use Rattle.store_names.proofs.index_all.Statement.{statement}
 use Rattle.store_names.proofs.index_all.Tie as tie

@@ -4,8 +4,8 @@ use Prim.Native.Nat.{_-_, _≤_}
 use mathlib.Core.Path.{_≡_, refl, _∙_}
 use native.Mathlib.Omega.{arith}
 use lib.ListN.{length, take}
-use Rattle.manifest.specs.Index.{SomeNameIndex}
-use Rattle.manifest.proofs.Indexing.{no-names, some-index}
+use Rattle.manifest_index.specs.Index.{SomeNameIndex}
+use Rattle.manifest_index.proofs.Indexing.{no-names, some-index}
 use Rattle.test_facade.proofs.index_names.Statement.{statement}
 use Rattle.test_facade.proofs.index_names.Tie as tie
 

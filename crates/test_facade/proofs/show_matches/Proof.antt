@@ -7,8 +7,8 @@ use borrow.Author.Needs.{needs}
 use denote.Ref.{now}
 use lib.ListN.{length}
 use lib.Seq.{length-take-le, take-all}
-use Rattle.manifest.specs.Index.{NumberOf}
-use Rattle.manifest.proofs.Indexing.{names-number}
+use Rattle.manifest_index.specs.Index.{NumberOf}
+use Rattle.manifest_index.proofs.Indexing.{names-number}
 use Rattle.test_facade.proofs.show_matches.Statement.{statement}
 use Rattle.test_facade.proofs.show_matches.Tie as tie
 

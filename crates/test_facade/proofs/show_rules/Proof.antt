@@ -7,9 +7,9 @@ use denote.Ref.{now}
 use lib.ListN.{getD}
 use Rattle.reference.specs.References.{no-rule}
 use Rattle.manifest.specs.Manifest.{rules}
-use Rattle.manifest.specs.RulePlaces.{RuleAt}
+use Rattle.manifest_rules.specs.RulePlaces.{RuleAt}
 use Rattle.manifest.proofs.Accepting.{some-rule}
-use Rattle.manifest.proofs.RulePlaces.{placed-rule, some-rule-at}
+use Rattle.manifest_rules.proofs.RulePlaces.{placed-rule, some-rule-at}
 use Rattle.test_facade.proofs.show_rules.Statement.{statement}
 use Rattle.test_facade.proofs.show_rules.Tie as tie
 

@@ -1,5 +1,5 @@
 -- `test_names::show_object` meets its contract: the layer that is looked up was read as an alias. Assumes nothing.
-use Rattle.manifest.proofs.Objects.{alias-read}
+use Rattle.manifest_aliases.proofs.Objects.{alias-read}
 use borrow.Author.Needs.{needs}
 use Rattle.test_names.proofs.show_object.Statement.{statement}
 use Rattle.test_names.proofs.show_object.Tie as tie

@@ -8,13 +8,12 @@ use mathlib.Core.Bool.{Bool, true, false}
 use native.Mathlib.Omega.{arith}
 use denote.Ref.{now}
 use lib.ListN.{getD}
-use Rattle.text_strings.specs.Compare.{order}
+use Rattle.text_order.specs.Compare.{order}
 use Rattle.text_strings.specs.InString.{contentFrom}
 use Rattle.text_strings.proofs.Contents.{inside-content}
 use Rattle.text_index.specs.Index.{entryText, comesBefore, Entry, Counted}
 use Rattle.text_index.proofs.Finding.{found}
-use Rattle.text_index.proofs.Searching.{count-started, none-counted, mid-entry, goes-up, goes-down}
-use Rattle.text_index.proofs.Searching.{is-before-less, is-before-equal, is-before-greater}
+use Rattle.text_index.proofs.Searching.{count-started, none-counted, mid-entry, goes-up, goes-down, is-before-less, is-before-equal, is-before-greater}
 use Rattle.text_index.proofs.find.Statement.{statement}
 use Rattle.text_index.proofs.find.Tie as tie
 

@@ -3,7 +3,7 @@ use borrow.Author.Needs.{needs}
 use mathlib.Core.Path.{_≡_}
 use denote.Ref.{now}
 use Rattle.text_strings.specs.InString.{contentFrom}
-use Rattle.text_strings.specs.Compare.{order}
+use Rattle.text_order.specs.Compare.{order}
 use Rattle.text_strings.proofs.Contents.{inside-content}
 use Rattle.text_index.proofs.Searching.{is-before-less, is-before-equal, is-before-greater}
 use Rattle.text_index.proofs.is_before.Statement.{statement}

@@ -1,6 +1,6 @@
 use borrow.Author.Needs.{needs}
 use native.Mathlib.Omega.{arith}
-use Rattle.text_strings.proofs.Orders.{inside-within}
+use Rattle.text_strings.proofs.Cursors.{inside-within}
 use Rattle.text_keys.specs.Repeats.{leftIf, sameLeft}
 use Rattle.text_keys.proofs.Keys.{compared, equal, not-equal}
 use Rattle.text_keys.proofs.left_if_same.Statement.{statement}

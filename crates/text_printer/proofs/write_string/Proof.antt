@@ -4,7 +4,7 @@ use denote.Ref.{now}
 use Prim.Native.Nat.{_+_}
 use native.Mathlib.Omega.{arith}
 use lib.ListN.{length-set}
-use Rattle.text_strings.proofs.Orders.{inside-within}
+use Rattle.text_strings.proofs.Cursors.{inside-within}
 use Rattle.text_strings.specs.InString.{contentFrom}
 use Rattle.text_printer.proofs.Written
 use Rattle.text_printer.proofs.Contents.{marks-fit, content-fits, string-written}

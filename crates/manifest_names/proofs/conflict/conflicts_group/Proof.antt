@@ -9,8 +9,7 @@ use native.Mathlib.Omega.{arith}
 use denote.Ref.{now}
 use lib.ListN.{length}
 use Rattle.text_view.specs.Cursor.{GivesMember, NextMember}
-use Rattle.text_strings.specs.InString.{contentFrom}
-use Rattle.text_strings.proofs.Orders.{inside-within}
+use Rattle.text_strings.proofs.Cursors.{inside-within}
 use Rattle.manifest_fields.specs.Accessors.{texts}
 use Rattle.manifest_names.specs.Contents.{Named, standsElsewhere, conflict}
 use Rattle.manifest_names.specs.Placed.{SortedContents}

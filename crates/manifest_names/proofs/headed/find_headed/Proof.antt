@@ -5,9 +5,9 @@ use Prim.Native.Nat.{ℕ, _+_, _-_, _<_, _≤_, _/_}
 use mathlib.Core.Path.{_≡_}
 use native.Mathlib.Omega.{arith}
 use denote.Ref.{now}
-use lib.ListN.{length, getD}
+use lib.ListN.{getD}
 use Rattle.text_strings.specs.InString.{Inside, contentFrom}
-use Rattle.text_strings.specs.Compare.{order}
+use Rattle.text_order.specs.Compare.{order}
 use Rattle.manifest_names.proofs.Searching.{Searched, search-started, not-found, mid-inside, found, goes-up, goes-down}
 use Rattle.manifest_names.proofs.headed.find_headed.Statement.{statement}
 use Rattle.manifest_names.proofs.headed.find_headed.Tie as tie

@@ -8,7 +8,7 @@ use mathlib.Core.Bool.{Bool}
 use native.Mathlib.Omega.{arith}
 use denote.Ref.{now}
 use lib.ListN.{length}
-use Rattle.text_strings.proofs.Orders.{inside-within}
+use Rattle.text_strings.proofs.Cursors.{inside-within}
 use Rattle.text_view.specs.Cursor.{GivesElement, NextElement}
 use Rattle.reference.specs.Matches.{isOneOf}
 use Rattle.manifest_names.specs.Contents.{shareName}

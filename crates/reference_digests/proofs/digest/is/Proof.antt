@@ -10,7 +10,7 @@ use lib.ListN.{length, drop}
 use Rattle.laws.specs.Order.{same}
 use Rattle.text_strings.specs.InString.{Inside, contentFrom}
 use Rattle.text_strings.proofs.Contents.{inside-content}
-use Rattle.text_strings.proofs.Orders.{inside-within, new-left}
+use Rattle.text_strings.proofs.Cursors.{inside-within, new-left}
 use Rattle.reference_parts.specs.Parts.{firstPart}
 use Rattle.reference_digests.specs.Digests.{digestOf}
 use Rattle.reference_digests.specs.Readings.{Digits, PlainPair}

@@ -10,7 +10,7 @@ use lib.ListN.{length, drop}
 use Rattle.text_strings.specs.InString.{contentFrom}
 use Rattle.text_strings.specs.Cursor.{Left}
 use Rattle.text_strings.proofs.Contents.{inside-content}
-use Rattle.text_strings.proofs.Orders.{new-left}
+use Rattle.text_strings.proofs.Cursors.{new-left}
 use Rattle.reference_parts.specs.Parts.{firstPart}
 use Rattle.reference_digests.specs.Digests.{digestOf}
 use Rattle.reference_digests.proofs.Hex.{Writing, nothing-written, all-written, kept-length, some-left, both-digits, one-more, next-byte, next-bytes}

@@ -11,7 +11,7 @@ use denote.Ref.{now}
 use lib.ListN.{length, take}
 use Rattle.text_strings.specs.InString.{Inside, contentFrom}
 use Rattle.text_strings.proofs.Contents.{inside-content}
-use Rattle.text_strings.proofs.Orders.{inside-within, new-left}
+use Rattle.text_strings.proofs.Cursors.{inside-within, new-left}
 use Rattle.text_strings.proofs.Positions.{ends, goes-on}
 use Rattle.reference_parts.proofs.Counting.{begins, too-short, next-same, next-differs}
 use Rattle.reference_parts.proofs.part.begins.Statement.{statement}

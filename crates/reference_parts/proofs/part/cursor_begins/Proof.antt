@@ -8,7 +8,7 @@ use native.Mathlib.Omega.{arith}
 use borrow.Author.Tests.{not-true, not-false}
 use lib.ListN.{length, take}
 use Rattle.text_strings.specs.Cursor.{Left, Readable}
-use Rattle.text_strings.proofs.Orders.{given-end, given-byte}
+use Rattle.text_strings.proofs.Cursors.{given-end, given-byte}
 use Rattle.reference_parts.proofs.Counting.{begins, too-short, next-same, next-differs}
 use Rattle.reference_parts.proofs.part.cursor_begins.Statement.{statement}
 use Rattle.reference_parts.proofs.part.cursor_begins.Tie as tie

@@ -1,7 +1,7 @@
 -- `reference_parts::part::one_char` meets its contract: at a backslash stands an escape, whose character is encoded, and any other byte
 -- stands for itself. Assumes nothing.
 use native.Mathlib.Omega.{arith}
-use Rattle.text_strings.proofs.Orders.{inside-within}
+use Rattle.text_strings.proofs.Cursors.{inside-within}
 use Rattle.text_strings.proofs.Positions.{escape-at}
 use Rattle.reference_parts.proofs.Counting.{char-escaped, char-byte}
 use Rattle.reference_parts.proofs.part.one_char.Statement.{statement}

@@ -4,7 +4,7 @@ use Prim.Native.Nat.{_-_}
 use native.Mathlib.Omega.{arith}
 use lib.ListN.{length}
 use Rattle.text_strings.specs.InString.{Inside, contentFrom}
-use Rattle.text_strings.proofs.Orders.{inside-within}
+use Rattle.text_strings.proofs.Cursors.{inside-within}
 use Rattle.reference_parts.proofs.Counting.{Progress, at-mark, at-divider, over-char, char-fits}
 use Rattle.reference_parts.proofs.Blocks.{begun}
 use Rattle.reference_parts.proofs.part.read.Statement.{statement}

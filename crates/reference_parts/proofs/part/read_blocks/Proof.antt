@@ -5,7 +5,7 @@ use mathlib.Core.Path.{sym, _∙_}
 use native.Mathlib.Omega.{arith}
 use denote.Ref.{now}
 use lib.ListN.{length}
-use Rattle.text_strings.proofs.Orders.{inside-within}
+use Rattle.text_strings.proofs.Cursors.{inside-within}
 use Rattle.reference_parts.specs.Readings.{StartAt}
 use Rattle.reference_parts.proofs.Blocks.{nothing-yet, within, block-more}
 use Rattle.reference_parts.proofs.part.read_blocks.Statement.{statement}

@@ -1,0 +1,66 @@
+-- `text_strings::same16` meets its contract. The loop's invariant: `all` is the test of the bytes passed. The measure is how many are left.
+-- Assumes nothing.
+use Prim.Native.Nat.{_-_, _≤_}
+use mathlib.Core.Path.{_≡_, refl}
+use native.Mathlib.Omega.{arith}
+use denote.Ref.{now}
+use lib.ListN.{take, drop}
+use Rattle.laws.specs.Order.{same}
+use Rattle.text_order.proofs.Alike.{same-next}
+use Rattle.text_order.proofs.same16.Statement.{statement}
+use Rattle.text_order.proofs.same16.Tie as tie
+
+abbrev Inv-loop : tie.InvT-loop
+Inv-loop s i t j all₀ n₀ all n = (n ≤ 16) × (all ≡ same (take n (drop i s)) (take n (drop j t)))
+
+abbrev μ-loop : tie.MeasureT-loop
+μ-loop s i t j all₀ n₀ all n = 16 - n
+
+loop-holds : tie.Need-loop-holds Inv-loop μ-loop
+unfolding same
+loop-holds c = (omega arith, refl)
+
+add-all : tie.Need-add-all Inv-loop μ-loop
+add-all c = omega arith
+
+shared-slice-read-all : tie.Need-shared-slice-read-all Inv-loop μ-loop
+shared-slice-read-all c = omega arith
+
+add-all-2 : tie.Need-add-all-2 Inv-loop μ-loop
+add-all-2 c = omega arith
+
+shared-slice-read-all-2 : tie.Need-shared-slice-read-all-2 Inv-loop μ-loop
+shared-slice-read-all-2 c = omega arith
+
+add-n : tie.Need-add-n Inv-loop μ-loop
+add-n c = omega arith
+
+loop-less : tie.Need-loop-less Inv-loop μ-loop
+loop-less c = omega arith
+
+loop-again : tie.Need-loop-again Inv-loop μ-loop
+loop-again c =
+    let l = c .before .before .before in
+    let a = l .before .args in
+    (omega arith, same-next (now (a .s)) (now (a .t)) (a .i) (a .j) (l .loop .n) (l .loop .all) (omega arith) (omega arith) (l .loop .inv .1))
+
+returns : tie.Need-returns Inv-loop μ-loop
+returns c =
+    let l = c .before .loop in
+    let o : l .n ≡ 16 = omega arith in rw o at (l .inv .1)
+
+pub same16-spec : {M : Type 1} → statement M
+same16-spec =
+    tie.close
+    (tie.spec
+    Inv-loop
+    μ-loop
+    loop-holds
+    add-all
+    shared-slice-read-all
+    add-all-2
+    shared-slice-read-all-2
+    add-n
+    loop-less
+    loop-again
+    returns)
