@@ -12,7 +12,8 @@ ghost use Rattle.acon.specs.Packed.{packed};
 // The canonical form of a JSON text, written at the start of `out`; the first value is its length.
 #[no_mangle]
 pub extern "C" fn acon_canonical(text: &[u8], out: &mut [u8]) -> u64
-    ensures { λ r. ⌜ r ≡ packed (canonicalNumber (now (text .entry)) (length (now (out .entry)))) (canonicalLength (now (text .entry)) (length (now (out .entry)))) 0 ⌝ }
+    ensures { λ r. ⌜ r ≡ packed (canonicalNumber (now (text .entry)) (length (now (out .entry))))
+        (canonicalLength (now (text .entry)) (length (now (out .entry)))) 0 ⌝ }
     ensures { λ _. ⌜ now (out .exit) ≡ canonicalBytes (now (text .entry)) (now (out .entry)) ⌝ }
 {
     let a = text::canonical(text, out);
@@ -22,7 +23,8 @@ pub extern "C" fn acon_canonical(text: &[u8], out: &mut [u8]) -> u64
 // Loads an image: its record is appended to those of the first `used` bytes of `buffer`; the first value is the new used count.
 #[no_mangle]
 pub extern "C" fn acon_load(id: &[u8], manifest: &[u8], buffer: &mut [u8], used: usize) -> u64
-    ensures { λ r. ⌜ r ≡ packed (loadNumber (now (id .entry)) (now (manifest .entry)) (now (buffer .entry)) used) (loadUsed (now (id .entry)) (now (manifest .entry)) (now (buffer .entry)) used) 0 ⌝ }
+    ensures { λ r. ⌜ r ≡ packed (loadNumber (now (id .entry)) (now (manifest .entry)) (now (buffer .entry)) used)
+        (loadUsed (now (id .entry)) (now (manifest .entry)) (now (buffer .entry)) used) 0 ⌝ }
     ensures { λ _. ⌜ now (buffer .exit) ≡ loadBytes (now (id .entry)) (now (manifest .entry)) (now (buffer .entry)) used ⌝ }
 {
     let a = store::load(id, manifest, buffer, used);
@@ -32,7 +34,8 @@ pub extern "C" fn acon_load(id: &[u8], manifest: &[u8], buffer: &mut [u8], used:
 // Judges the images in the first `used` bytes of `store`: writes the report's pairs at the start of `report`; the first value is their number.
 #[no_mangle]
 pub extern "C" fn acon_judge(store: &[u8], used: usize, report: &mut [u8]) -> u64
-    ensures { λ r. ⌜ r ≡ packed (judgeNumber (now (store .entry)) used (length (now (report .entry)))) (judgePairs (now (store .entry)) used (length (now (report .entry)))) 0 ⌝ }
+    ensures { λ r. ⌜ r ≡ packed (judgeNumber (now (store .entry)) used (length (now (report .entry))))
+        (judgePairs (now (store .entry)) used (length (now (report .entry)))) 0 ⌝ }
     ensures { λ _. ⌜ now (report .exit) ≡ judgeBytes (now (store .entry)) used (now (report .entry)) ⌝ }
 {
     let a = policy::judge(store, used, report);

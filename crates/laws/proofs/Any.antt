@@ -18,9 +18,11 @@ module _ {A : Type 0} (p : A → Bool) where
   any-both (x ∷ xs) ys = ap (λ (b : Bool). p x || b) (any-both xs ys) ∙ sym (or-assoc (p x) (anyOf p xs) (anyOf p ys))
 
   module _ (xs ys : List A) where
+    -- If an element of the first list passes, one of both lists joined does.
     pub any-first : anyOf p xs ≡ true → anyOf p (xs ++ ys) ≡ true
     any-first e = any-both xs ys ∙ rw e
 
+    -- If no element of the first list passes, one of both lists joined does exactly if one of the second does.
     pub any-second : anyOf p xs ≡ false → anyOf p (xs ++ ys) ≡ anyOf p ys
     any-second e = any-both xs ys ∙ rw e
 

@@ -13,6 +13,7 @@ pub by-test : {C : Type 0} (t : Bool) → (t ≡ true → C) → (t ≡ false �
 by-test true f g = f refl
 by-test false f g = g refl
 
+-- From `false` equal to `true` anything follows.
 pub false-true : {C : Type 0} → _≡_ {A = Bool} false true → C
 false-true e = let z : _≡_ {A = ℕ} 0 1 = cc in absurd (omega arith)
 
@@ -21,10 +22,12 @@ pub leq-less : (x y : ℕ) (xs ys : List ℕ) → x < y → leq (x ∷ xs) (y �
 unfolding leq
 leq-less x y xs ys h = rw (lt-ltb x y h, leq)
 
+-- Two lists whose first bytes are equal are in the order of their rests.
 pub leq-same : (x y : ℕ) (xs ys : List ℕ) → x ≡ y → leq (x ∷ xs) (y ∷ ys) ≡ leq xs ys
 unfolding leq
 leq-same x y xs ys h = let l : y ≤ x = omega arith in rw (le-ltb x y l, leq) (rw (eq-eqb x y h))
 
+-- A list whose first byte is larger than the other's is after it.
 pub leq-more : (x y : ℕ) (xs ys : List ℕ) → y < x → leq (x ∷ xs) (y ∷ ys) ≡ false
 unfolding leq
 leq-more x y xs ys h = let l : y ≤ x = omega arith in rw (le-ltb x y l, leq) (rw (ne-eqb x y (λ e. omega arith)))
@@ -35,17 +38,21 @@ pub data Step (x y : ℕ) (xs ys : List ℕ) : Type 0 where
   equal : x ≡ y → Step x y xs ys
   more : y < x → Step x y xs ys
 
+-- Of two bytes the first is less than the second, equal to it, or more.
 pub step : (x y : ℕ) (xs ys : List ℕ) → Step x y xs ys
-step x y xs ys = by-test (ltb x y) (λ e. less (ltb-true x y e)) (λ e. by-test (eqb x y) (λ q. equal (eqb-true x y q)) (λ q. more (go (ltb-false x y e) (eqb-false x y q))))
+step x y xs ys = by-test (ltb x y) (λ e. less (ltb-true x y e))
+    (λ e. by-test (eqb x y) (λ q. equal (eqb-true x y q)) (λ q. more (go (ltb-false x y e) (eqb-false x y q))))
   where
     go : y ≤ x → (x ≡ y → ⊥) → y < x
     go h n = omega arith
 
+-- A list is not after itself.
 pub leq-refl : (xs : List ℕ) → leq xs xs ≡ true
 unfolding leq
 leq-refl [] = refl
 leq-refl (x ∷ xs) = leq-same x x xs xs refl ∙ leq-refl xs
 
+-- If a list is after another, the other is not after it.
 pub leq-total : (xs ys : List ℕ) → leq xs ys ≡ false → leq ys xs ≡ true
 unfolding leq
 leq-total [] ys e = false-true (sym e)
@@ -57,6 +64,7 @@ leq-total (x ∷ xs) (y ∷ ys) e = go (leq-total xs ys) (step x y xs ys)
     go ih (equal h) = leq-same y x ys xs (sym h) ∙ ih (sym (leq-same x y xs ys h) ∙ e)
     go ih (more h) = leq-less y x ys xs h
 
+-- If a list is not after a second, and that is not after a third, the first is not after the third.
 pub leq-trans : (xs ys zs : List ℕ) → leq xs ys ≡ true → leq ys zs ≡ true → leq xs zs ≡ true
 unfolding leq
 leq-trans [] ys zs p q = refl
@@ -92,6 +100,7 @@ unfolding same
 same-refl [] = refl
 same-refl (x ∷ xs) = rw (eq-eqb x x refl, same) (same-refl xs)
 
+-- Lists that `same` says are equal are equal.
 pub same-eq : (xs ys : List ℕ) → same xs ys ≡ true → xs ≡ ys
 unfolding same
 same-eq [] [] e = refl
@@ -105,6 +114,7 @@ same-eq (x ∷ xs) (y ∷ ys) e = by-test (eqb x y) (yes′ (same-eq xs ys)) no�
     no′ : eqb x y ≡ false → x ∷ xs ≡ y ∷ ys
     no′ q = false-true (rw (q, same) at e)
 
+-- Lists that `same` says are not equal are not equal.
 pub same-ne : (xs ys : List ℕ) → same xs ys ≡ false → xs ≡ ys → ⊥
 same-ne xs ys e q = false-true (sym e ∙ ap (same xs) (sym q) ∙ same-refl xs)
 

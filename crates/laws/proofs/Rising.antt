@@ -49,6 +49,7 @@ module _ {A : Type 0} (le : A → A → Bool) where
             (λ e. rw (insert-before le x y (z ∷ zs) e) (rising-more e (rising-more h r)))
             (λ e. rw (insert-after le x y (z ∷ zs) e) (after e ih))
 
+    -- In a list sorted by an order that is total and transitive, no element comes after the next one.
     pub sort-rising : (xs : List A) → Rising le (sort le xs)
     unfolding sort
     sort-rising [] = rising-none

@@ -7,23 +7,28 @@ use Rattle.laws.specs.Sort.{insert, sort, mergeInto, merge, Orders}
 use Rattle.laws.proofs.Order.{by-test, false-true}
 
 module _ {A : Type 0} (le : A → A → Bool) where
+  -- An element that is not after the first of a list is inserted in front of it.
   pub insert-before : (x y : A) (ys : List A) → le x y ≡ true → insert le x (y ∷ ys) ≡ x ∷ y ∷ ys
   unfolding insert
   insert-before x y ys e = rw (e, insert)
 
+  -- An element that is after the first of a list is inserted into the rest.
   pub insert-after : (x y : A) (ys : List A) → le x y ≡ false → insert le x (y ∷ ys) ≡ y ∷ insert le x ys
   unfolding insert
   insert-after x y ys e = rw (e, insert)
 
+  -- A list merged with the empty list stays as it is.
   pub merge-nil : (xs : List A) → merge le xs [] ≡ xs
   unfolding merge mergeInto
   merge-nil [] = refl
   merge-nil (x ∷ xs) = ap (λ (l : List A). x ∷ l) (merge-nil xs)
 
+  -- If the first list's first element is not after the second's, it comes first in the merged list.
   pub merge-left : (x y : A) (xs ys : List A) → le x y ≡ true → merge le (x ∷ xs) (y ∷ ys) ≡ x ∷ merge le xs (y ∷ ys)
   unfolding merge mergeInto
   merge-left x y xs ys e = rw (e, mergeInto)
 
+  -- If it is after the second's, the second list's first element comes first in the merged list.
   pub merge-right : (x y : A) (xs ys : List A) → le x y ≡ false → merge le (x ∷ xs) (y ∷ ys) ≡ y ∷ merge le (x ∷ xs) ys
   unfolding merge mergeInto
   merge-right x y xs ys e = rw (e, mergeInto)
@@ -60,7 +65,8 @@ module _ {A : Type 0} (le : A → A → Bool) where
         third : le a b ≡ false → le x a ≡ true → insert le x (merge le (a ∷ us) (b ∷ vs)) ≡ merge le (insert le x (a ∷ us)) (b ∷ vs)
         third e f = ap (insert le x) (merge-right a b us vs e) ∙ by-test (le x b)
             (λ g. insert-before x b (merge le (a ∷ us) vs) g ∙ ap (λ (l : List A). x ∷ l) (sym (merge-right a b us vs e)) ∙ sym (merge-left x b (a ∷ us) vs g))
-            (λ g. insert-after x b (merge le (a ∷ us) vs) g ∙ ap (λ (l : List A). b ∷ l) (jh ∙ ap (λ (l : List A). merge le l vs) (insert-before x a us f)) ∙ sym (merge-right x b (a ∷ us) vs g))
+            (λ g. insert-after x b (merge le (a ∷ us) vs) g ∙ ap (λ (l : List A). b ∷ l) (jh ∙ ap (λ (l : List A). merge le l vs) (insert-before x a us f))
+            ∙ sym (merge-right x b (a ∷ us) vs g))
             ∙ ap (λ (l : List A). merge le l (b ∷ vs)) (sym (insert-before x a us f))
 
         fourth : le a b ≡ false → le x a ≡ false → insert le x (merge le (a ∷ us) (b ∷ vs)) ≡ merge le (insert le x (a ∷ us)) (b ∷ vs)
@@ -86,6 +92,7 @@ module _ {A : Type 0} (le : A → A → Bool) where
     insert-merge x [] ys = insert-is-merge x ys
     insert-merge x (a ∷ us) ys = insert-inner x a us (insert-merge x us) ys
 
+    -- Two lists joined and then sorted are the two lists each sorted and then merged.
     pub sort-append : (xs ys : List A) → sort le (xs ++ ys) ≡ merge le (sort le xs) (sort le ys)
     unfolding sort merge
     sort-append [] ys = refl

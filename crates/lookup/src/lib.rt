@@ -1,7 +1,9 @@
 // Resolve: the layers of one image of a store as digests, each found by following aliases through the store's images.
 use answer::Answer;
+use manifest::MOST_NAMES;
 use reference::ImageIndex;
 use store_open::Opened;
+use text::MOST_BYTES;
 ghost use mathlib.Core.Path.{_≡_};
 ghost use mathlib.Core.Bool.{true, not};
 ghost use lib.ListN.{length};
@@ -24,11 +26,11 @@ fn open_store(
     ensures { λ r. ⌜ r .sound ≡ not (isBroken (length (now (b .entry))) (readRecords mostImages (now (b .entry)))) ⌝ }
     ensures { λ r. ⌜ (r .sound ≡ true → OpenedStore (now (b .entry)) (r .survey) (r .places)) ⌝ }
 {
-    let mut heads = [0u32; 4096];
+    let mut heads = [0u32; MOST_NAMES];
     store_open::open(
         b,
-        &mut at[..4096],
-        &mut order[..4096],
+        &mut at[..MOST_NAMES],
+        &mut order[..MOST_NAMES],
         names,
         &mut heads,
         keys,
@@ -53,8 +55,8 @@ pub fn resolve(
     let b = &store[..used];
     let mut at = [0usize; 4160];
     let mut order = [0u16; 4160];
-    let mut names = [0u16; 4096];
-    let mut keys = [0u16; 16384];
+    let mut names = [0u16; MOST_NAMES];
+    let mut keys = [0u16; MOST_BYTES];
     let opened = open_store(b, &mut at, &mut order, &mut names, &mut keys);
     if !opened.sound {
         return answer::refused(out, 11);

@@ -48,6 +48,7 @@ module _ (space : ℕ) where
   unfolding layerQuestions hasFailed outcomeNumber outputOf
   no-space ds h = asked-next _ _ refl ∙ asked-first _ _ (lt-ltb space (length (listOf ds)) h)
 
+  -- Where all are found and the list of their digests fits, the number is 0.
   pub enough-space : (ds : List LayerDigest) → length (listOf ds) ≤ space → lowest (layerQuestions (resolved ds) space) ≡ 0
   unfolding layerQuestions hasFailed outcomeNumber outputOf
   enough-space ds h = asked-none _ _ refl (asked-none _ _ (le-ltb space (length (listOf ds)) h) nothing-asked)

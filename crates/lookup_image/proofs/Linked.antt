@@ -30,14 +30,14 @@ use Rattle.lookup_image.specs.Layers.{presentIn, layersAt, outcomeIn}
 -- the first n places of an array were lent, and came back with others in them
 module _ (next part : List ℕ) (n : ℕ) (size : length part ≡ n) where
   -- There is room for n still.
-  pub lent-room : n ≤ length (part ++ drop n next)
-  lent-room = omega (arith, length-append part (drop n next))
+  pub lent-space : n ≤ length (part ++ drop n next)
+  lent-space = omega (arith, length-append part (drop n next))
 
   -- What is linked there is linked in the array.
   pub links-lent : {ks : List LayerKey} {refs : List Layer} → length refs ≡ n → Links ks refs part → Links ks refs (part ++ drop n next)
   links-lent {ks} {refs} r l =
       record {
-        room = omega (arith, lent-room);
+        space = omega (arith, lent-space);
         few = l .few;
         each = λ e k. subst (Link ks refs (getD refs e no-layer)) (sym (List·getD-append part (drop n next) 0 e (omega arith))) (l .each e k);
       }

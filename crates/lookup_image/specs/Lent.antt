@@ -21,10 +21,10 @@ pub record Resolvable (b : List ℕ) (v : Survey) (places : List Places) (i : �
   pub apart : anyClash (imagesIn b v) ≡ false
   pub within : i < v .count
   pub list : SomeList present
-  pub at-room : length at ≡ 4160
-  pub order-room : length order ≡ 4160
-  pub names-room : 4096 ≤ length names
-  pub owners-room : 4096 ≤ length owners
+  pub at-space : length at ≡ 4160
+  pub order-space : length order ≡ 4160
+  pub names-space : 4096 ≤ length names
+  pub owners-space : 4096 ≤ length owners
 
 -- the references that stand at the positions `keys`, objects of the store's images and then layers, can be linked: there is room for all of them
 pub record Linkable (b : List ℕ) (v : Survey) (places : List Places) (counts keys at order next names owners : List ℕ) : Type 0 where
@@ -33,8 +33,8 @@ pub record Linkable (b : List ℕ) (v : Survey) (places : List Places) (counts k
   pub layers : List Layer
   pub stand : AllStand b keys (objectsOf (imagesIn b v) ++ layers)
   pub few : length keys ≤ 4160
-  pub at-room : length keys ≤ length at
-  pub order-room : length keys ≤ length order
-  pub next-room : length keys ≤ length next
-  pub names-room : 4096 ≤ length names
-  pub owners-room : 4096 ≤ length owners
+  pub at-space : length keys ≤ length at
+  pub order-space : length keys ≤ length order
+  pub next-space : length keys ≤ length next
+  pub names-space : 4096 ≤ length names
+  pub owners-space : 4096 ≤ length owners

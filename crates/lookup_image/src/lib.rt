@@ -2,6 +2,7 @@
 use answer::Answer;
 use manifest::Places;
 use reference::ImageIndex;
+use store_record::MOST_IMAGES;
 use store_record::Survey;
 ghost use mathlib.Core.List.{List, _++_};
 ghost use lib.ListN.{length};
@@ -20,7 +21,7 @@ ghost use Rattle.lookup_image.specs.Lent.{Resolvable, Linkable};
 pub fn resolve_in(
     b: &[u8],
     v: Survey,
-    places: [Places; 64],
+    places: [Places; MOST_IMAGES],
     i: ImageIndex,
     present: &[u8],
     at: &mut [usize],
@@ -36,7 +37,7 @@ pub fn resolve_in(
 {
     let mut keys = [0usize; 4160];
     let mut next = [0u16; 4160];
-    let mut counts = [0u16; 64];
+    let mut counts = [0u16; MOST_IMAGES];
     let n = lookup_table::place_refs(b, v, places, i, &mut keys, &mut counts);
     let total = n.total;
     link_refs(
@@ -58,7 +59,7 @@ pub fn resolve_in(
 fn link_refs(
     b: &[u8],
     v: Survey,
-    places: [Places; 64],
+    places: [Places; MOST_IMAGES],
     counts: &[u16],
     keys: &[usize],
     at: &mut [usize],
@@ -72,7 +73,7 @@ fn link_refs(
         → Links (keysIn (imagesIn (now (b .entry)) v)) (objectsOf (imagesIn (now (b .entry)) v) ++ ls) (now (next .exit))) ⌝ }
 {
     let n = keys.len();
-    let aliases = lookup_table::tabulate(b, keys, at, &mut next[..n], order);
+    let aliases = lookup_index::tabulate(b, keys, at, &mut next[..n], order);
     lookup_table::link_all(
         b,
         v,

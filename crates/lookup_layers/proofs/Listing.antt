@@ -15,7 +15,8 @@ use Rattle.laws.proofs.Any.{any-both}
 use Rattle.laws.proofs.Order.{by-test, false-true, same-eq, same-refl}
 use Rattle.reference_digests.specs.Algorithms.{byteOf}
 use Rattle.reference_digests.proofs.Digests.{byte-same}
-use Rattle.lookup_layers.specs.Layers.{LayerDigest, entryOf, listOf, AllSized, none-sized, sized, First, entry, no-entry, firstOf, andThen, continued, readList, layersIn, sameLayer, isListed}
+use Rattle.lookup_layers.specs.Layers.{LayerDigest, entryOf, listOf, AllSized, none-sized, sized, First, entry, no-entry, firstOf, andThen, continued}
+use Rattle.lookup_layers.specs.Layers.{readList, layersIn, sameLayer, isListed}
 use Rattle.lookup_layers.proofs.Entries.{read-first, first-read, rest-shorter}
 
 list-end : (n : ℕ) → readList n [] ≡ some []

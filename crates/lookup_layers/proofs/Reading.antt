@@ -24,9 +24,11 @@ module _ (s : List ℕ) (i : ℕ) (more : i < length s) where
 
   -- the algorithm is known, with digests of n bytes
   module _ (a : Algorithm) (known : numbered (getD s i 0) ≡ Is a) (n : ℕ) (size : n ≡ digestBytes a) where
+    -- If fewer bytes are left than a digest has, no entry stands there.
     pub cut-here : length s - (i + 1) < n → Reads s i Bad
     cut-here h = ap firstOf start ∙ first-cut a (getD s i 0) (drop (i + 1) s) known (omega (arith, size, length-drop (i + 1) s))
 
+    -- If a digest fits into the bytes that are left, an entry stands there, with the digest after the first byte.
     pub whole-here : n ≤ length s - (i + 1) → EntryAt s i a (i + 1) (i + 1 + n)
     whole-here h =
         record {

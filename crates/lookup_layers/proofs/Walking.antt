@@ -100,7 +100,8 @@ module _ (s : List ℕ) (x : LayerDigest) (i : ℕ) (h : Left s x i) where
       where
         by-rest : (o : Option (List LayerDigest)) → layersIn (drop e s) ≡ o → After
         by-rest none q =
-            let f : none ≡ some (h .layers) = sym (layers-entry (drop i s) (layerAt s a d) (drop e s) (here .reads) ∙ ap (andThen (layerAt s a d)) q) ∙ h .left in
+            let f : none ≡ some (h .layers) = sym (layers-entry (drop i s) (layerAt s a d) (drop e s) (here .reads) ∙ ap (andThen (layerAt s a d)) q)
+            ∙ h .left in
             let z : _≡_ {A = ℕ} 0 1 = cc in absurd (omega arith)
         by-rest (some ds) q =
             record {

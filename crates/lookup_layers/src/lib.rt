@@ -80,7 +80,8 @@ fn equal(a: &[u8], b: &[u8]) -> bool
 // The layer with that algorithm and digest is in the layer list s.
 pub fn has(s: &[u8], a: Algorithm, digest: &[u8]) -> bool
     requires { ⌜ SomeList (now s) ⌝ }
-    ensures { λ r. ⌜ ((ds : List LayerDigest) → layersIn (now (s .entry)) ≡ some ds → r ≡ isListed (record { algorithm = a; bytes = now (digest .entry) }) ds) ⌝ }
+    ensures { λ r. ⌜ ((ds : List LayerDigest) → layersIn (now (s .entry)) ≡ some ds
+        → r ≡ isListed (record { algorithm = a; bytes = now (digest .entry) }) ds) ⌝ }
 {
     let mut at = 0;
     while at < s.len() {

@@ -144,7 +144,8 @@ module _ (room : List Image) (refs : List Layer) (next : List ℕ) (x : Links (k
     comes-on c z =
         let w = its-alias in
         let k = w .link in
-        let o = object-exactly room c .1 (key-defines room (k .by) (record { algorithm = w .algorithm; signer = w .signer; name = w .name }) (k .defined) (k .same-key)) in
+        let o = object-exactly room c .1 (key-defines room (k .by) (record { algorithm = w .algorithm; signer = w .signer; name = w .name }) (k .defined)
+        (k .same-key)) in
         let to : objectOf room here ≡ some (getD refs (getD next at 0) no-layer) = ap (objectOf room) (w .is) ∙ o ∙ ap some (k .object) in
         let q : suc (left - 1) ≡ left = omega arith in
         record {

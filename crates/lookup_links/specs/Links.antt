@@ -42,6 +42,6 @@ Link ks refs no-layer o = o ≡ badMark
 
 -- each reference is linked
 pub record Links (ks : List LayerKey) (refs : List Layer) (next : List ℕ) : Type 0 where
-  pub room : length refs ≤ length next
+  pub space : length refs ≤ length next
   pub few : length refs ≤ 4160
   pub each : (e : ℕ) → e < length refs → Link ks refs (getD refs e no-layer) (getD next e 0)

@@ -29,7 +29,8 @@ pub enum PathEnd {
 // Follows the links from number e on. A path with more steps than there are objects comes to one of them again.
 pub fn follow(next: &[u16], e: usize, objects: usize) -> PathEnd
     requires { ⌜ Followable (now next) e objects ⌝ }
-    ensures { λ r. ⌜ ((room : List Image) (refs : List Layer) → anyClash room ≡ false → Links (keysIn room) refs (now (next .entry)) → objectCount room ≡ objects → e < length refs
+    ensures { λ r. ⌜ ((room : List Image) (refs : List Layer) → anyClash room ≡ false → Links (keysIn room) refs (now (next .entry))
+        → objectCount room ≡ objects → e < length refs
         → Ends refs (endOf room (getD refs e no-layer)) r) ⌝ }
 {
     let mut at = e;

@@ -65,8 +65,8 @@ module _ {b keys numbers : List ℕ} {size : ℕ} (w : Writable b keys numbers s
 
   module _ {n : ℕ} {before out : List ℕ} (fits : size ≡ length before) (p : WrittenTo (w .digests) k n before out) where
     -- There is room for its entry.
-    pub entry-room : n + length (entryOf digestAt) ≤ length before
-    entry-room = omega (arith, w .space, p .size, whole-list (w .digests) k within)
+    pub entry-space : n + length (entryOf digestAt) ≤ length before
+    entry-space = omega (arith, w .space, p .size, whole-list (w .digests) k within)
 
     -- The part past what is written has that room.
     pub entry-lent : length (midOf n (length out - n) out) + n ≡ length before
@@ -74,7 +74,7 @@ module _ {b keys numbers : List ℕ} {size : ℕ} (w : Writable b keys numbers s
 
     -- An entry can be written there.
     pub entry-fits : EntryFits b (getD keys (getD numbers k 0) 0) (length (midOf n (length out - n) out))
-    entry-fits = record { digest = digestAt; stands = digest-here; space = omega (arith, entry-room, entry-lent) }
+    entry-fits = record { digest = digestAt; stands = digest-here; space = omega (arith, entry-space, entry-lent) }
 
     -- One more entry is written.
     pub written-next : (m : ℕ) (part : List ℕ) → m ≡ length (entryOf digestAt) → part ≡ entryOf digestAt ++ drop m (midOf n (length out - n) out)
@@ -85,7 +85,7 @@ module _ {b keys numbers : List ℕ} {size : ℕ} (w : Writable b keys numbers s
           bytes = subst (Writes before (putMid n (length out - n) out part)) (sym (next-list (w .digests) k within))
               (part-written (p .bytes) n part (entryOf digestAt) (p .size)
               (record {
-                fits = omega (arith, entry-room, entry-lent);
+                fits = omega (arith, entry-space, entry-lent);
                 all = q ∙ ap (λ (j : ℕ). entryOf digestAt ++ drop j (midOf n (length out - n) out)) e;
               }));
         }

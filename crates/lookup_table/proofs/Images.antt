@@ -36,7 +36,8 @@ unfoldable pub keysUnder : Algorithm → List ℕ → List ℕ → List LayerKey
 keysUnder a s text = layerKeysUnder (image-id a s []) (contents text)
 
 -- They are those of the image.
-pub keys-held : (b : List ℕ) (r : Record) → keysUnder (r .algorithm) (between b (r .signer) (r .manifest)) (between b (r .text) (r .end)) ≡ layerKeys (heldIn b r)
+pub keys-held : (b : List ℕ) (r : Record) → keysUnder (r .algorithm) (between b (r .signer) (r .manifest)) (between b (r .text) (r .end))
+    ≡ layerKeys (heldIn b r)
 unfolding keysUnder layerKeys layerKeysOf layerKeysUnder heldIn
 keys-held b r = sym (append-nil _)
 
@@ -84,7 +85,8 @@ module _ (s names owners : List ℕ) (n : ℕ) (fits : n ≤ length names) (x : 
         → Links (l ++ (layerKey a signer (getD (contents s) k noAlias .name) (getD refs (first + getD owners k 0) no-layer) ∷ [])) refs after)
         → Links (ks ++ take (k + 1) (keysUnder a signer s)) refs after
     keys-next k h next after p f =
-        subst (λ (l : List LayerKey). Links l refs after) (append-assoc ks (take k (keysUnder a signer s)) _ ∙ ap (λ (l : List LayerKey). ks ++ l) (sym grown)) (f _ p)
+        subst (λ (l : List LayerKey). Links l refs after) (append-assoc ks (take k (keysUnder a signer s)) _
+        ∙ ap (λ (l : List LayerKey). ks ++ l) (sym grown)) (f _ p)
       where
         grown : take (k + 1) (keysUnder a signer s)
             ≡ take k (keysUnder a signer s) ++ (layerKey a signer (getD (contents s) k noAlias .name) (getD refs (first + getD owners k 0) no-layer) ∷ [])
@@ -96,4 +98,5 @@ module _ (s names owners : List ℕ) (n : ℕ) (fits : n ≤ length names) (x : 
     -- and at last all.
     pub keys-all : (k : ℕ) → k ≡ n → (next : List ℕ) → Links (ks ++ take k (keysUnder a signer s)) refs next → Links (ks ++ keysUnder a signer s) refs next
     keys-all k e next p =
-        subst (λ (l : List LayerKey). Links (ks ++ l) refs next) (ap (λ (m : ℕ). take m (keysUnder a signer s)) (e ∙ sym keys-size) ∙ take-length (keysUnder a signer s)) p
+        subst (λ (l : List LayerKey). Links (ks ++ l) refs next) (ap (λ (m : ℕ). take m (keysUnder a signer s)) (e ∙ sym keys-size)
+        ∙ take-length (keysUnder a signer s)) p

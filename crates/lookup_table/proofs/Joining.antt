@@ -14,9 +14,9 @@ use Rattle.store_keys.specs.Keys.{LayerKey, layerKeys}
 use Rattle.store_names.proofs.Opened.{opened-at}
 use Rattle.lookup_paths.specs.Follow.{keysIn, objectsOf}
 use Rattle.lookup_links.specs.Links.{Links}
-use Rattle.lookup_table.specs.Table.{Table}
+use Rattle.lookup_index.specs.Table.{Table}
 use Rattle.lookup_table.specs.Linking.{ObjectsFrom, LinkableImage, LinkableStore}
-use Rattle.lookup_table.proofs.Standing.{stand-length}
+use Rattle.lookup_index.proofs.Standing.{stand-length}
 use Rattle.lookup_table.proofs.Walking.{objects-next, keys-after, image-objects, all-images}
 
 -- the keys of the first j images are linked, and the next image's objects have the numbers from `first` on
@@ -34,7 +34,8 @@ module _ (b : List ℕ) (v : Survey) (keys at order before : List ℕ) where
 
   module _ (fits : v .count ≤ length (v .records)) (j first : ℕ) (next : List ℕ) (x : LinkedUpTo b v keys at order before j first next) where
     -- At last all are.
-    pub linked-all : j ≡ v .count → (ls : List Layer) → Table b keys at order (objectsOf (imagesIn b v) ++ ls) → Links [] (objectsOf (imagesIn b v) ++ ls) before
+    pub linked-all : j ≡ v .count → (ls : List Layer) → Table b keys at order (objectsOf (imagesIn b v) ++ ls)
+        → Links [] (objectsOf (imagesIn b v) ++ ls) before
         → Links (keysIn (imagesIn b v)) (objectsOf (imagesIn b v) ++ ls) next
     linked-all e ls t p =
         subst (λ (xs : List Image). Links (keysIn xs) (objectsOf (imagesIn b v) ++ ls) next) (all-images b v fits j e) (x .links ls t p)
@@ -57,13 +58,14 @@ module _ (b : List ℕ) (v : Survey) (keys at order before : List ℕ) where
             is-in = s .opened .fills .each j h;
             opens = opened-at b v places (s .opened) j h d;
             within = omega (arith, its-objects (s .layers) .within, stand-length (s .table .stand));
-            room = omega (arith, s .room, x .size);
-            names-room = omega (arith, s .names-room);
-            owners-room = omega (arith, s .owners-room);
+            space = omega (arith, s .space, x .size);
+            names-space = omega (arith, s .names-space);
+            owners-space = omega (arith, s .owners-space);
           }
 
       -- It is linked.
-      pub linked-next : (after : List ℕ) (count : ℕ) → count ≡ length (objects (between b (getD (v .records) j noRecord .text) (getD (v .records) j noRecord .end)))
+      pub linked-next : (after : List ℕ) (count : ℕ) → count ≡ length
+          (objects (between b (getD (v .records) j noRecord .text) (getD (v .records) j noRecord .end)))
           → length after ≡ length next
           → ((refs : List Layer) (ks : List LayerKey) → Table b keys at order refs
           → ObjectsFrom refs first (objects (between b (getD (v .records) j noRecord .text) (getD (v .records) j noRecord .end))) → Links ks refs next
@@ -74,5 +76,6 @@ module _ (b : List ℕ) (v : Survey) (keys at order before : List ℕ) where
             size = z ∙ x .size;
             number = omega (arith, x .number, c, ap length (objects-next b v fits j h), length-append (objectsOf (take j (imagesIn b v))) (objects text));
             links = λ ls t p.
-                subst (λ (ks : List LayerKey). Links ks (objectsOf (imagesIn b v) ++ ls) after) (sym (keys-after b v fits j h)) (f _ _ t (its-objects ls) (x .links ls t p));
+                subst (λ (ks : List LayerKey). Links ks (objectsOf (imagesIn b v) ++ ls) after) (sym (keys-after b v fits j h))
+                (f _ _ t (its-objects ls) (x .links ls t p));
           }

@@ -1,6 +1,3 @@
-pub mod Standing
-pub mod Marking
-pub mod Indexing
 pub mod Linking
 pub mod Images
 pub mod Walking

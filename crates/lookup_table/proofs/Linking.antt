@@ -26,9 +26,9 @@ use Rattle.store_keys.specs.Clash.{sameKey}
 use Rattle.lookup_paths.specs.Follow.{objectIn}
 use Rattle.lookup_paths.proofs.Objects.{none-some}
 use Rattle.lookup_links.specs.Links.{AliasLink, undefined, linked, Link, Links}
-use Rattle.lookup_table.specs.Table.{isAlias, NamedAt, Table}
+use Rattle.lookup_index.specs.Table.{isAlias, NamedAt, Table}
 use Rattle.lookup_table.specs.Linking.{layerKey, linkTo, Relinked}
-use Rattle.lookup_table.proofs.Standing.{stand-length}
+use Rattle.lookup_index.proofs.Standing.{stand-length}
 
 -- At first nothing is linked.
 pub relinked-none : (a : Algorithm) (s : List ℕ) (refs : List Layer) (o : ℕ) (before : List ℕ) → Relinked a s refs o [] before before
@@ -47,7 +47,8 @@ module _ (a : Algorithm) (s : List ℕ) (refs : List Layer) (o : ℕ) (chosen be
 
     one-more : (e : ℕ) → anyOf (eqb e) (take (i + 1) chosen) ≡ (anyOf (eqb e) (take i chosen) || (eqb e here || false))
     unfolding anyOf
-    one-more e = ap (λ (n : ℕ). anyOf (eqb e) (take n chosen)) (add-one i) ∙ ap (anyOf (eqb e)) (take-suc chosen i 0 l) ∙ any-both (eqb e) (take i chosen) (here ∷ [])
+    one-more e = ap (λ (n : ℕ). anyOf (eqb e) (take n chosen)) (add-one i) ∙ ap (anyOf (eqb e)) (take-suc chosen i 0 l)
+        ∙ any-both (eqb e) (take i chosen) (here ∷ [])
 
     -- another reference is chosen or not, as it was
     another : (e : ℕ) → (e ≡ here → ⊥) → anyOf (eqb e) (take (i + 1) chosen) ≡ anyOf (eqb e) (take i chosen)
@@ -61,7 +62,8 @@ module _ (a : Algorithm) (s : List ℕ) (refs : List Layer) (o : ℕ) (chosen be
         or-false false = refl
 
     chosen-now : anyOf (eqb here) (take (i + 1) chosen) ≡ true
-    chosen-now = one-more here ∙ ap (λ (t : Bool). anyOf (eqb here) (take i chosen) || (t || false)) (eq-eqb here here refl) ∙ or-true (anyOf (eqb here) (take i chosen))
+    chosen-now = one-more here ∙ ap (λ (t : Bool). anyOf (eqb here) (take i chosen) || (t || false)) (eq-eqb here here refl)
+        ∙ or-true (anyOf (eqb here) (take i chosen))
       where
         or-true : (t : Bool) → (t || (true || false)) ≡ true
         or-true true = refl
@@ -74,7 +76,8 @@ module _ (a : Algorithm) (s : List ℕ) (refs : List Layer) (o : ℕ) (chosen be
         record {
           size = length-set mid here o ∙ p .size;
           each = λ e k. by-test (eqb e here)
-              (λ f. subst (λ (j : ℕ). getD (set mid here o) j 0 ≡ linkTo (anyOf (eqb j) (take (i + 1) chosen) && isAliasOf a s (getD refs j no-layer)) o (getD before j 0))
+              (λ f. subst (λ (j : ℕ). getD (set mid here o) j 0
+              ≡ linkTo (anyOf (eqb j) (take (i + 1) chosen) && isAliasOf a s (getD refs j no-layer)) o (getD before j 0))
               (sym (eqb-true e here f))
               (getD-set-same mid here o 0 h ∙ sym (λ j. linkTo (chosen-now j && t j) o (getD before here 0))))
               (λ f. let n = eqb-false e here f in
@@ -94,7 +97,8 @@ module _ (a : Algorithm) (s : List ℕ) (refs : List Layer) (o : ℕ) (chosen be
           each = λ e k. p .each e k ∙ ap (λ (c : Bool). linkTo c o (getD before e 0)) (tests e);
         }
       where
-        tests : (e : ℕ) → (anyOf (eqb e) (take i chosen) && isAliasOf a s (getD refs e no-layer)) ≡ (anyOf (eqb e) (take (i + 1) chosen) && isAliasOf a s (getD refs e no-layer))
+        tests : (e : ℕ) → (anyOf (eqb e) (take i chosen) && isAliasOf a s (getD refs e no-layer))
+            ≡ (anyOf (eqb e) (take (i + 1) chosen) && isAliasOf a s (getD refs e no-layer))
         tests e =
             by-test (eqb e here)
             (λ f. let u : isAliasOf a s (getD refs e no-layer) ≡ false = ap (λ (j : ℕ). isAliasOf a s (getD refs j no-layer)) (eqb-true e here f) ∙ t in
@@ -107,7 +111,8 @@ pub chosen-below : (order : List ℕ) (n from to : ℕ) → ((i : ℕ) → i < l
     → (i : ℕ) → i < length (take (to - from) (drop from order)) → getD (take (to - from) (drop from order)) i 0 < n
 chosen-below order n from to f l h i k =
     let size = length-take-le (to - from) (drop from order) (omega (arith, length-drop from order)) in
-    let q : getD (take (to - from) (drop from order)) i 0 ≡ getD order (from + i) 0 = getD-take (to - from) (drop from order) i 0 (omega (arith, size)) ∙ getD-drop from order i 0 in
+    let q : getD (take (to - from) (drop from order)) i 0 ≡ getD order (from + i) 0 = getD-take (to - from) (drop from order) i 0 (omega (arith, size))
+    ∙ getD-drop from order i 0 in
     subst (λ (e : ℕ). e < n) (sym q) (f (from + i) (omega (arith, size)))
 
 and-crossed : (x y z : Bool) → (x && (y && z)) ≡ (y && (z && x))
@@ -225,7 +230,7 @@ module _ (b keys at order : List ℕ) (refs : List Layer) (t : Table b keys at o
   pub key-linked : Links (ks ++ (layerKey a s n (getD refs o no-layer) ∷ [])) refs after
   key-linked =
       record {
-        room = omega (arith, w .size, p .room);
+        space = omega (arith, w .size, p .space);
         few = p .few;
         each = λ e k. link-after (getD refs e no-layer) e (getD after e 0) (getD before e 0) (w .each e k) (t .named .each e k) (t .all e k) (p .each e k);
       }

@@ -17,7 +17,7 @@ use Rattle.store_record.specs.Reading.{between, imagesIn, noRecord}
 use Rattle.store_record.specs.declared.Survey.{Survey}
 use Rattle.lookup_paths.specs.Follow.{objectsOf}
 use Rattle.lookup_table.specs.Placed.{CountedTo}
-use Rattle.lookup_table.proofs.Standing.{stand-length}
+use Rattle.lookup_index.proofs.Standing.{stand-length}
 use Rattle.lookup_table.proofs.Walking.{objects-next}
 
 -- the part of a list past place n is lent, and another comes back
@@ -54,7 +54,7 @@ module _ (b : List ℕ) (v : Survey) where
   pub placed-none : (keys counts : List ℕ) → length counts ≡ 64 → PlacedTo b v 0 0 keys keys counts
   unfolding objectsOf
   placed-none keys counts h =
-      record { size = refl; few = omega arith; counted = record { room = h; each = λ k l. absurd (omega arith) }; stand = none-stands }
+      record { size = refl; few = omega arith; counted = record { space = h; each = λ k l. absurd (omega arith) }; stand = none-stands }
 
   module _ (fits : v .count ≤ length (v .records)) (i n : ℕ) (before keys counts : List ℕ) (p : PlacedTo b v i n before keys counts) (h : i < v .count)
       (k : i < 64) (room : n ≤ length keys) (m : ℕ) (few : m ≤ 64) (part : List ℕ) (size : length part ≡ length keys - n)
@@ -63,10 +63,10 @@ module _ (b : List ℕ) (v : Survey) where
     counted-next : CountedTo (i + 1) b v (set counts i m)
     counted-next =
         record {
-          room = length-set counts i m ∙ p .counted .room;
+          space = length-set counts i m ∙ p .counted .space;
           each = λ j l. by-test (eqb j i)
               (λ e. let q = eqb-true j i e in
-              rw q (getD-set-same counts i m 0 (omega (arith, p .counted .room)) ∙ sym w ∙ stand-length stand))
+              rw q (getD-set-same counts i m 0 (omega (arith, p .counted .space)) ∙ sym w ∙ stand-length stand))
               (λ e. let q = eqb-false j i e in getD-set-other counts i j m 0 q ∙ p .counted .each j (omega arith));
         }
 
@@ -77,5 +77,6 @@ module _ (b : List ℕ) (v : Survey) where
           size = back-size n keys part room size ∙ p .size;
           few = omega (arith, p .few);
           counted = counted-next;
-          stand = subst (AllStand b (take (n + m) (putMid n (length keys - n) keys part))) (sym (objects-next b v fits i h)) (stand-behind n keys part room m (p .stand) stand);
+          stand = subst (AllStand b (take (n + m) (putMid n (length keys - n) keys part))) (sym (objects-next b v fits i h))
+              (stand-behind n keys part room m (p .stand) stand);
         }

@@ -79,7 +79,8 @@ module _ (b : List ℕ) (v : Survey) (fits : v .count ≤ length (v .records)) (
   is-here = image-at b v fits j h
 
   -- One more image has its objects after those of the images before it.
-  pub objects-next : objectsOf (take (j + 1) (imagesIn b v)) ≡ objectsOf (take j (imagesIn b v)) ++ objects (between b (getD (v .records) j noRecord .text) (getD (v .records) j noRecord .end))
+  pub objects-next : objectsOf (take (j + 1) (imagesIn b v)) ≡ objectsOf (take j (imagesIn b v))
+      ++ objects (between b (getD (v .records) j noRecord .text) (getD (v .records) j noRecord .end))
   unfolding heldIn
   objects-next = objects-one (imagesIn b v) j image (heldIn b noRecord) before-end is-here
 

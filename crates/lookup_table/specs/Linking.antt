@@ -18,7 +18,7 @@ use Rattle.store_record.specs.declared.Survey.{Survey}
 use Rattle.store_keys.specs.Keys.{LayerKey}
 use Rattle.store_names.specs.Opened.{OpenedStore}
 use Rattle.lookup_paths.specs.Follow.{objectsOf}
-use Rattle.lookup_table.specs.Table.{Table, SomeTable}
+use Rattle.lookup_index.specs.Table.{Table, SomeTable}
 use Rattle.lookup_table.specs.Placed.{CountedTo}
 
 -- the layer key of an alias, with its object
@@ -47,9 +47,9 @@ pub record LinkableImage (b : List ℕ) (r : Record) (q : Places) (first : ℕ) 
   pub is-in : RecordIn b r
   pub opens : Opens (between b (r .text) (r .end)) q
   pub within : first + length (objects (between b (r .text) (r .end))) ≤ length keys
-  pub room : length keys ≤ length next
-  pub names-room : 4096 ≤ length names
-  pub owners-room : 4096 ≤ length owners
+  pub space : length keys ≤ length next
+  pub names-space : 4096 ≤ length names
+  pub owners-space : 4096 ≤ length owners
 
 -- the aliases of all images of a store can be linked: the table has their objects, and layers after them
 pub record LinkableStore (b : List ℕ) (v : Survey) (places : List Places) (counts keys at order next names owners : List ℕ) : Type 0 where
@@ -57,6 +57,6 @@ pub record LinkableStore (b : List ℕ) (v : Survey) (places : List Places) (cou
   pub counted : CountedTo (v .count) b v counts
   pub layers : List Layer
   pub table : Table b keys at order (objectsOf (imagesIn b v) ++ layers)
-  pub room : length keys ≤ length next
-  pub names-room : 4096 ≤ length names
-  pub owners-room : 4096 ≤ length owners
+  pub space : length keys ≤ length next
+  pub names-space : 4096 ≤ length names
+  pub owners-space : 4096 ≤ length owners

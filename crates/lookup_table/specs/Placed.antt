@@ -10,5 +10,5 @@ use Rattle.store_record.specs.declared.Survey.{Survey}
 
 -- so far as image n, `counts` says how many objects an image has
 pub record CountedTo (n : ℕ) (b : List ℕ) (v : Survey) (counts : List ℕ) : Type 0 where
-  pub room : length counts ≡ mostImages
+  pub space : length counts ≡ mostImages
   pub each : (k : ℕ) → k < n → getD counts k 0 ≡ length (objects (between b (getD (v .records) k noRecord .text) (getD (v .records) k noRecord .end)))

@@ -1,12 +1,9 @@
 // The references of a store in tables, and their links. References are the objects of all images, image by image, and then the layers of one image; each
 // has a number. The names of the aliases among them stand in one index, so that each alias that an image defines is looked up once.
-use lookup_links::BAD;
-use lookup_links::DIGEST;
-use lookup_links::UNDEFINED;
 use manifest::Places;
 use reference::ImageIndex;
-use reference::layer::Layer;
 use reference_digests::algorithm::Algorithm;
+use store_record::MOST_IMAGES;
 use store_record::Record;
 use store_record::Survey;
 ghost use mathlib.Core.Path.{_≡_};
@@ -14,16 +11,15 @@ ghost use mathlib.Core.List.{List, [], _∷_, _++_};
 ghost use Prim.Native.Nat.{ℕ, _+_, _≤_, _<_};
 ghost use lib.ListN.{length, getD, take};
 ghost use Rattle.reference.specs.References.{Layer as LayerReference, no-layer};
-ghost use Rattle.manifest_index.specs.Index.{NumberOf, NameIndex};
 ghost use Rattle.manifest.specs.Manifest.{layers};
 ghost use Rattle.manifest.specs.Names.{objects};
-ghost use Rattle.manifest_objects.specs.Objects.{StandsAt, SomeReference, AllStand, NameStands, SomeName};
+ghost use Rattle.manifest_objects.specs.Objects.{AllStand, NameStands, SomeName};
 ghost use Rattle.store_record.specs.Reading.{between, heldIn, imagesIn, noRecord};
 ghost use Rattle.store_keys.specs.Keys.{LayerKey, layerKeys};
 ghost use Rattle.store_names.specs.Opened.{OpenedStore};
 ghost use Rattle.lookup_paths.specs.Follow.{keysIn, objectsOf, objectCount};
 ghost use Rattle.lookup_links.specs.Links.{Links};
-ghost use Rattle.lookup_table.specs.Table.{AllNamed, SomeReferences, Marks, undefinedIn, Table, SomeTable};
+ghost use Rattle.lookup_index.specs.Table.{SomeReferences, Table, SomeTable};
 ghost use Rattle.lookup_table.specs.Linking.{layerKey, Relinked, ObjectsFrom, LinkableImage, LinkableStore};
 ghost use Rattle.lookup_table.specs.Placed.{CountedTo};
 
@@ -31,73 +27,6 @@ ghost use Rattle.lookup_table.specs.Placed.{CountedTo};
 pub struct Numbers {
     pub objects: usize,
     pub total: usize,
-}
-
-// Marks the reference with number e, which stands from position k of b on, and puts the position of its name into `at` if it is an alias.
-fn mark(b: &[u8], k: usize, e: usize, at: &mut [usize], next: &mut [u16])
-    requires { ⌜ SomeReference (now b) k × (e < length (now at)) × (e < length (now next)) ⌝ }
-    ensures { λ _. ⌜ ((l : LayerReference) → StandsAt (now (b .entry)) k l → Marks (now (b .entry)) e l (now (at .entry)) (now (next .entry)) (now (at .exit)) (now (next .exit))) ⌝ }
-{
-    match manifest_objects::read(b, k) {
-        Layer::Digest(_, _) => next[e] = DIGEST,
-        Layer::Alias {
-            algorithm: _,
-            signer: _,
-            alias,
-        } => {
-            next[e] = UNDEFINED;
-            at[e] = alias;
-        }
-        Layer::Bad => next[e] = BAD,
-    }
-}
-
-// Marks all references, as if no image defined an alias.
-pub fn mark_all(b: &[u8], keys: &[usize], at: &mut [usize], next: &mut [u16])
-    requires { ⌜ SomeReferences (now b) (now keys) × (length (now keys) ≤ length (now at)) × (length (now keys) ≤ length (now next)) ⌝ }
-    ensures { λ _. ⌜ ((refs : List LayerReference) → AllStand (now (b .entry)) (now (keys .entry)) refs
-        → Links [] refs (now (next .exit)) × AllNamed (now (b .entry)) refs (now (at .exit))) ⌝ }
-{
-    let mut e = 0;
-    while e < keys.len() {
-        mark(b, keys[e], e, at, next);
-        e += 1;
-    }
-}
-
-// Makes the index of the aliases, which are marked as not defined, and answers how many these are.
-pub fn index_refs(b: &[u8], at: &[usize], next: &[u16], order: &mut [u16]) -> usize
-    requires { ⌜ ((e : ℕ) → e < length (now next) → getD (now next) e 0 ≡ 65534 → NumberOf (now b) (now at) e) × (length (now next) ≤ 4160)
-        × (length (now next) ≤ length (now order)) ⌝ }
-    ensures { λ r. ⌜ (r ≤ length (now (next .entry))) × (length (now (order .exit)) ≡ length (now (order .entry)))
-        × NameIndex (now (b .entry)) (now (at .entry)) (undefinedIn (now (next .entry)) (length (now (next .entry)))) (take r (now (order .exit))) ⌝ }
-{
-    let mut n = 0;
-    let mut e = 0;
-    while e < next.len() {
-        if next[e] == UNDEFINED {
-            manifest_index::add(b, at, order, n, e as u16);
-            n += 1;
-        }
-        e += 1;
-    }
-    n
-}
-
-// Marks the references and makes the index of the aliases among them; answers how many these are.
-pub fn tabulate(
-    b: &[u8],
-    keys: &[usize],
-    at: &mut [usize],
-    next: &mut [u16],
-    order: &mut [u16],
-) -> usize
-    requires { ⌜ SomeReferences (now b) (now keys) × (length (now keys) ≤ length (now at)) × (length (now next) ≡ length (now keys)) × (length (now keys) ≤ length (now order)) ⌝ }
-    ensures { λ r. ⌜ (r ≤ length (now (keys .entry))) × ((refs : List LayerReference) → AllStand (now (b .entry)) (now (keys .entry)) refs
-        → Links [] refs (now (next .exit)) × Table (now (b .entry)) (now (keys .entry)) (now (at .exit)) (take r (now (order .exit))) refs) ⌝ }
-{
-    mark_all(b, keys, at, next);
-    index_refs(b, at, next, order)
 }
 
 // Links those of the chosen references that are aliases of that algorithm and signer to the object with that number.
@@ -110,7 +39,8 @@ fn link(
     number: u16,
     next: &mut [u16],
 )
-    requires { ⌜ SomeReferences (now b) (now keys) × ((i : ℕ) → i < length (now chosen) → getD (now chosen) i 0 < length (now keys)) × (length (now keys) ≤ length (now next)) ⌝ }
+    requires { ⌜ SomeReferences (now b) (now keys) × ((i : ℕ) → i < length (now chosen) → getD (now chosen) i 0 < length (now keys))
+        × (length (now keys) ≤ length (now next)) ⌝ }
     ensures { λ _. ⌜ ((refs : List LayerReference) → AllStand (now (b .entry)) (now (keys .entry)) refs
         → Relinked a (now (signer .entry)) refs number (now (chosen .entry)) (now (next .entry)) (now (next .exit))) ⌝ }
 {
@@ -137,7 +67,8 @@ fn link_name(
     next: &mut [u16],
 )
     requires { ⌜ SomeTable (now b) (now keys) (now at) (now order) × SomeName (now b) p × (length (now keys) ≤ length (now next)) ⌝ }
-    ensures { λ _. ⌜ ((refs : List LayerReference) (ks : List LayerKey) (n : List ℕ) → Table (now (b .entry)) (now (keys .entry)) (now (at .entry)) (now (order .entry)) refs
+    ensures { λ _. ⌜ ((refs : List LayerReference) (ks : List LayerKey) (n : List ℕ)
+        → Table (now (b .entry)) (now (keys .entry)) (now (at .entry)) (now (order .entry)) refs
         → NameStands (now (b .entry)) p n → number < length refs → Links ks refs (now (next .entry))
         → Links (ks ++ (layerKey a (now (signer .entry)) n (getD refs number no-layer) ∷ [])) refs (now (next .exit))) ⌝ }
 {
@@ -194,7 +125,7 @@ fn link_image(
 pub fn link_all(
     b: &[u8],
     v: Survey,
-    places: [Places; 64],
+    places: [Places; MOST_IMAGES],
     counts: &[u16],
     keys: &[usize],
     at: &[usize],
@@ -224,7 +155,7 @@ pub fn link_all(
 fn place_all(
     b: &[u8],
     v: Survey,
-    places: [Places; 64],
+    places: [Places; MOST_IMAGES],
     keys: &mut [usize],
     counts: &mut [u16],
 ) -> usize
@@ -251,7 +182,7 @@ fn place_all(
 pub fn place_refs(
     b: &[u8],
     v: Survey,
-    places: [Places; 64],
+    places: [Places; MOST_IMAGES],
     i: ImageIndex,
     keys: &mut [usize],
     counts: &mut [u16],

@@ -17,19 +17,24 @@ use Rattle.text.proofs.Taken.{Taken, taken, taken-text}
 use Rattle.text_view.specs.Place.{ValueAt, Readable}
 
 module _ (s : List ℕ) (r : Checked) (e : r ≡ checked s) (n : ℕ) (own : Bool) (f : r ≡ Accepted n own) where
+  -- A text that checking accepts gets the number 0.
   pub zero-number : textNumber s ≡ 0
   zero-number = sym (number-checked s) ∙ ap numberOf (sym e ∙ f)
 
+  -- A text that checking accepts is short, and is read as a tree whose strings, numbers and keys have no fault.
   pub known : Taken s
   known = taken s zero-number
 
+  -- A text that checking accepts has at most 65,536 bytes.
   pub root-short : length s ≤ 65536
   root-short = omega (arith, known .short)
 
   -- the value stands at the root
   module _ (at : ℕ) (root : (depth : ℕ) (t : Syntax) → Text depth s t → ValueAt s at depth (content t)) where
+    -- The content of the text stands at the position of its root, nested at most 8 deep.
     pub root-here : ValueAt s at 8 (content (known .tree))
     root-here = root 8 (known .tree) (taken-text s known)
 
+    -- Some value stands at the position of its root, nested at most 8 deep.
     pub root-readable : Readable s at 8
     root-readable = record { value = content (known .tree); here = root-here }

@@ -9,9 +9,9 @@ ghost use lib.ListN.{length, take};
 ghost use Rattle.text_strings.specs.InString.{Inside, contentFrom};
 ghost use Rattle.reference_digests.specs.declared.algorithm.Algorithm.{Algorithm};
 ghost use Rattle.reference.specs.References.{layer-alias};
-ghost use Rattle.manifest_names.specs.Contents.{shareName};
-ghost use Rattle.manifest_names.specs.Heads.{HeadsOf};
-ghost use Rattle.manifest_names.specs.Placed.{SomeNames};
+ghost use Rattle.manifest_heads.specs.Contents.{shareName};
+ghost use Rattle.manifest_heads.specs.Heads.{HeadsOf};
+ghost use Rattle.manifest_heads.specs.Placed.{SomeNames};
 ghost use Rattle.manifest.specs.Manifest.{selfNames, contents};
 ghost use Rattle.manifest.specs.Names.{conflict, NameSpace, SelfSorted, ContentsSorted};
 ghost use Rattle.manifest_aliases.specs.Found.{AliasRead, FindsObject};
@@ -38,7 +38,7 @@ pub fn fill_heads(s: &[u8], names: &[u16], heads: &mut [u32])
     requires { ⌜ SomeNames (now s) (now names) × (length (now names) ≤ length (now heads)) ⌝ }
     ensures { λ _. ⌜ HeadsOf (now (s .entry)) (now (names .entry)) (now (heads .exit)) ⌝ }
 {
-    manifest_names::headed::fill_heads(s, names, heads);
+    manifest_heads::fill_heads(s, names, heads);
 }
 
 // The images of t and s have an alias in common; `names` are the sorted positions of those of s, with their heads.

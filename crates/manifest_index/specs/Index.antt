@@ -1,4 +1,5 @@
--- The images' own aliases in one byte list, found by name: what a caller above this crate sees of the index (document 01, "References, names and rules": a rule's
+-- The images' own aliases in one byte list, found by name: what a caller above this crate sees of the index (document 01, "References, names and
+-- rules": a rule's
 -- MANIFEST may be one of an image's `self` aliases).
 use Prim.Native.Nat.{ℕ, _-_, _≤_}
 use mathlib.Core.Path.{_≡_}

@@ -43,7 +43,8 @@ pub fn place_self(
     own: &mut [u16],
     at: &mut [usize],
 ) -> usize
-    requires { ⌜ (start ≤ end) × (end ≤ length (now b)) × Opens (take (end - start) (drop start (now b))) q × (4096 ≤ length (now own)) × (64 ≤ length (now at)) ⌝ }
+    requires { ⌜ (start ≤ end) × (end ≤ length (now b)) × Opens (take (end - start) (drop start (now b))) q × (4096 ≤ length (now own))
+        × (64 ≤ length (now at)) ⌝ }
     ensures { λ r. ⌜ (r ≤ 64) × (length (now (at .exit)) ≡ length (now (at .entry))) × (drop r (now (at .exit)) ≡ drop r (now (at .entry)))
         × NamesIn (now (b .entry)) (take r (now (at .exit))) (selfNames (take (end - start) (drop start (now (b .entry)))))
         × (length (now (own .exit)) ≡ length (now (own .entry))) ⌝ }

@@ -17,11 +17,11 @@ use Rattle.manifest_values.specs.Values.{entries}
 use Rattle.manifest_repeat.specs.Names.{NamesAt, no-names, name-at}
 use Rattle.manifest_repeat.specs.Repeated.{repeated}
 use Rattle.laws.specs.Any.{anyOf}
-use Rattle.manifest_names.specs.Contents.{Named, namedUnder, namedIn, isElsewhere, standsElsewhere, conflict}
-use Rattle.manifest_names.specs.Placed.{Placed, no-place, placed, KeyedAt, SortedNames, SomeNames, SortedContents, SomeContents}
-use Rattle.manifest_names.specs.Searches.{Stands}
+use Rattle.manifest_heads.specs.Contents.{Named, namedUnder, namedIn, isElsewhere, standsElsewhere, conflict}
+use Rattle.manifest_heads.specs.Placed.{Placed, no-place, placed, KeyedAt, SortedNames, SomeNames, SortedContents, SomeContents}
+use Rattle.manifest_heads.specs.Searches.{Stands}
 use Rattle.laws.proofs.Any.{any-both, or-none}
-use Rattle.manifest_names.proofs.Any.{any-at, both-none, Reordered, sort-placed, placed-get}
+use Rattle.manifest_heads.proofs.Any.{any-at, both-none, Reordered, sort-placed, placed-get}
 
 -- the names alone
 unfoldable pub namesAlone : List Named → List (List ℕ)
@@ -100,6 +100,7 @@ names-alone no-place = no-names
 names-alone (placed h r) = name-at (h .name) (names-alone r)
 
 module _ {s keys ks : List ℕ} {xs : List Named} (m : SortedContents s xs keys ks) where
+  -- The sorted positions of aliases are those of the aliases' names, sorted by content.
   pub contents-names : SortedNames s (namesAlone xs) ks
   contents-names = record { places = m .places; here = names-alone (m .here); sorted = m .sorted }
 
@@ -113,9 +114,11 @@ module _ {s keys ks : List ℕ} {xs : List Named} (m : SortedContents s xs keys 
         let g = placed-get (contents-items .here) (w .index) (w .within) in
         (g .0, subst (λ (l : ℕ). KeyedAt s keys l (g .0)) (w .is) (g .1))
 
+    -- The position of the name is an index of `keys`.
     pub place-within : p < length keys
     place-within = omega (arith, inside-within s (p + 1) (record { bytes = n; here = w .name }), m .long)
 
+    -- The position after the one that `keys` has for the name stands in a string.
     pub its-key : Inside s (getD keys p 0 + 1)
     its-key = record { bytes = its-alias .0 .key; here = its-alias .1 .key }
 
@@ -138,6 +141,7 @@ module _ {s keys ks : List ℕ} {xs : List Named} (m : SortedContents s xs keys 
         (λ a h. let g = is-alias a h in rw (← g .0, ← g .1) e)))
         (λ e. e)
 
+    -- The name stands under another key than `k` exactly where `k` is not the key that `keys` has for the name.
     pub elsewhere : (k : List ℕ) → not (same k own) ≡ standsElsewhere n k xs
     unfolding standsElsewhere
     elsewhere k =
@@ -148,11 +152,13 @@ module _ {s keys ks : List ℕ} {xs : List Named} (m : SortedContents s xs keys 
         ∙ any-at (isElsewhere n k) (contents-items .here) (w .index) (w .within)
         (λ a h. let g = is-alias a h in other-key n k a (ap (same n) (sym (g .0)) ∙ same-refl n) (ap (same k) (sym (g .1)) ∙ e)))))
 
+-- Positions of some sorted aliases are positions of some sorted names.
 pub some-names : {s keys ks : List ℕ} → SomeContents s keys ks → SomeNames s ks
 some-names m = record { names = namesAlone (m .aliases); sorted = contents-names (m .sorted) }
 
 -- an alias among others, none of which has its name under another key
-pub none-elsewhere : (xs : List Named) (a : Named) (ys : List Named) → conflict (xs ++ (a ∷ ys)) (xs ++ (a ∷ ys)) ≡ false → standsElsewhere (a .name) (a .key) xs ≡ false
+pub none-elsewhere : (xs : List Named) (a : Named) (ys : List Named) → conflict (xs ++ (a ∷ ys)) (xs ++ (a ∷ ys)) ≡ false
+    → standsElsewhere (a .name) (a .key) xs ≡ false
 unfolding conflict standsElsewhere anyOf
 none-elsewhere xs a ys e =
     let here = or-none (anyOf p xs) (anyOf p (a ∷ ys)) (sym (any-both p xs (a ∷ ys)) ∙ e) .1 in

@@ -1,9 +1,6 @@
-pub mod Any
 pub mod Nexts
-pub mod Searching
 pub mod Walking
 pub mod Objects
 pub mod Founds
 pub mod Elsewhere
-pub mod Heading
 pub mod Keying

@@ -1,25 +1,25 @@
 -- The next string of an array of strings, and the next member of a group of aliases, as a cursor gives them. Assumes nothing.
 use Prim.Native.Nat.{ℕ, _+_, _≤_}
 use mathlib.Core.Path.{_≡_, sym, ap, subst, _∙_}
-use mathlib.Core.List.{List, [], _∷_, _++_}
+use mathlib.Core.List.{List, _∷_, _++_}
 use mathlib.Core.Bool.{Bool, true, false}
-use Rattle.text_content.specs.Value.{Value, Values, Fields, string, array}
-use Rattle.text_strings.specs.InString.{InString, Inside, contentFrom}
-use Rattle.text_strings.proofs.Contents.{content-from, inside-content}
+use Rattle.text_content.specs.Value.{Values, Fields}
+use Rattle.text_strings.specs.InString.{Inside, contentFrom}
+use Rattle.text_strings.proofs.Contents.{content-from}
 use Rattle.text_view.specs.Place.{ValueAt}
 use Rattle.text_view.specs.Cursor.{NextElement, NextMember}
 use Rattle.text_view.specs.declared.Elements.{Elements}
 use Rattle.text_view.specs.declared.Members.{Members}
 use Rattle.text_view.proofs.Strings.{string-value}
 use Rattle.manifest_fields.specs.Accessors.{texts}
-use Rattle.manifest_values.specs.Entries.{passes, allPass, count}
+use Rattle.manifest_entries.specs.Entries.{allPass, count}
 use Rattle.manifest_values.specs.Values.{isArrayOf, entries}
 use Rattle.manifest_fields.specs.Rules.{countFields, everyMember, namesPass}
-use Rattle.manifest_values.specs.declared.entry.Entry.the-variants.{Text}
-use Rattle.manifest_fields.proofs.Ruling.{Passed, array-of, its-entries}
+use Rattle.manifest_entries.specs.declared.entry.Entry.the-variants.{Text}
+use Rattle.manifest_fields.proofs.Ruling.{array-of, its-entries}
 use Rattle.manifest_repeat.proofs.Collecting.{is-text, texts-more, count-more as element-counted, pass-both as element-passes}
 use Rattle.manifest_repeat.proofs.Grouping.{few-entries, count-more as member-counted, pass-both as member-passes}
-use Rattle.manifest_names.specs.Contents.{namedUnder, namedIn}
+use Rattle.manifest_heads.specs.Contents.{namedUnder, namedIn}
 use Rattle.manifest_names.specs.Groups.{AliasList}
 
 -- the first of the elements, a string, stands at position q, and the elements `more` come after it
@@ -29,6 +29,7 @@ pub record NextString (t : List ℕ) (others more : Values) (q : ℕ) : Type 0 w
   pub strings : allPass Text false more ≡ true
   pub counted : count others ≡ count more + 1
 
+-- The next element of a list of strings is a string at its position, and the elements after it are strings, one fewer.
 pub next-string : (t : List ℕ) (left : Elements) (others : Values) (first : Bool) → allPass Text first others ≡ true
     → (q : ℕ) (rest : Elements) (x : NextElement t left others q rest) → NextString t others (x .others) q
 next-string t left others first a q rest x =
@@ -52,6 +53,7 @@ pub record NextAliases (t : List ℕ) (others more : Fields) (k q depth : ℕ) :
   pub few : count (list .values) ≤ 64
   pub counted : countFields others ≡ countFields more + 1
 
+-- The next member of a group has a key and an array of at most 64 strings, and the members after it are a group, too.
 pub next-aliases : (t : List ℕ) (left : Members) (others : Fields) → everyMember namesPass others ≡ true
     → (k q : ℕ) (rest : Members) (x : NextMember t left others k q rest) → NextAliases t others (x .others) k q (left .depth)
 unfolding namedIn

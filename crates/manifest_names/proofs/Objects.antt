@@ -1,13 +1,13 @@
 -- How far the members of a group were searched for the key of a name. Assumes nothing.
 use Prim.Native.Nat.{ℕ, _+_, _≤_}
-use mathlib.Core.Path.{_≡_, refl, sym, ap, subst, _∙_}
+use mathlib.Core.Path.{_≡_, refl, sym, ap, _∙_}
 use mathlib.Core.List.{List, [], _∷_, _++_}
 use mathlib.Core.Bool.{Bool, true, false}
-use mathlib.Core.Option.{Option, none, some}
+use mathlib.Core.Option.{none, some}
 use native.Mathlib.Omega.{arith}
 use Rattle.laws.specs.Order.{same}
 use Rattle.laws.proofs.Order.{by-test, false-true}
-use Rattle.text_content.specs.Value.{Value, Values, Fields, no-fields, field, object}
+use Rattle.text_content.specs.Value.{Value, Fields, no-fields, field, object}
 use Rattle.text_view.specs.Place.{ValueAt, Readable}
 use Rattle.text_view.specs.Cursor.{SomeObject, SomeMembers, MembersLeft, NextMember}
 use Rattle.text_view.specs.declared.Members.{Members}
@@ -15,8 +15,8 @@ use Rattle.reference.specs.Matches.{isOneOf}
 use Rattle.manifest_fields.specs.Accessors.{texts}
 use Rattle.manifest_values.specs.Values.{entries}
 use Rattle.manifest_fields.proofs.Finding.{one-object}
-use Rattle.manifest_names.specs.Contents.{Named, namedUnder, namedIn, keyOf, memberFrom}
-use Rattle.manifest_names.specs.Searches.{KeyFound, FindsKey}
+use Rattle.manifest_heads.specs.Contents.{Named, namedUnder, namedIn, keyOf, memberFrom}
+use Rattle.manifest_names.specs.Objects.{KeyFound, FindsKey}
 use Rattle.manifest_names.specs.declared.object.Object.the-variants.{Missing}
 
 -- the key of a name among the aliases of one key and others
@@ -39,10 +39,12 @@ module _ (c k : List ℕ) (rest : List Named) where
 
 -- one step of both searches
 module _ (c k : List ℕ) (v : Value) (fs : Fields) where
+  -- A name that is one of the first member's strings has that member's key.
   pub key-here : isOneOf c (texts (entries v)) ≡ true → keyOf c (namedIn (field k v fs)) ≡ some k
   unfolding namedIn
   key-here e = key-under c k (namedIn fs) (texts (entries v)) e
 
+  -- A name that is none of them has the key, or none, that it has in the members after the first.
   pub key-later : isOneOf c (texts (entries v)) ≡ false → keyOf c (namedIn (field k v fs)) ≡ keyOf c (namedIn fs)
   unfolding namedIn
   key-later e = key-further c k (namedIn fs) (texts (entries v)) e
@@ -61,9 +63,10 @@ pub record Passing (s : List ℕ) (at depth : ℕ) (c : List ℕ) (left : Member
   pub here : MembersLeft s left others
   pub keys : (fs : Fields) → ValueAt s at depth (object fs) → keyOf c (namedIn fs) ≡ keyOf c (namedIn others)
   pub members : (fs : Fields) → ValueAt s at depth (object fs) → memberFrom 0 c fs ≡ memberFrom i c others
-  pub room : i ≤ left .at
+  pub space : i ≤ left .at
 
 module _ (s : List ℕ) (at depth : ℕ) (c : List ℕ) where
+  -- With all the group's members left, no member has been passed.
   pub started : (o : SomeObject s at depth) (left : Members) → MembersLeft s left (o .fields) → Passing s at depth c left 0
   started o left l =
       record {
@@ -71,10 +74,11 @@ module _ (s : List ℕ) (at depth : ℕ) (c : List ℕ) where
         here = l;
         keys = λ fs v. ap (λ (gs : Fields). keyOf c (namedIn gs)) (one-object s at depth fs (o .fields) v (o .here));
         members = λ fs v. ap (memberFrom 0 c) (one-object s at depth fs (o .fields) v (o .here));
-        room = omega arith;
+        space = omega arith;
       }
 
   module _ (left : Members) (i : ℕ) (p : Passing s at depth c left i) where
+    -- The cursor stands before a list of members, which may be empty.
     pub some-left : SomeMembers s left
     some-left = record { fields = p .others; left = p .here }
 
@@ -85,10 +89,12 @@ module _ (s : List ℕ) (at depth : ℕ) (c : List ℕ) where
 
     -- the next member
     module _ (k q : ℕ) (rest : Members) (x : NextMember s left (p .others) k q rest) where
+      -- The next member's value can be read at its position.
       pub member-value : Readable s q (left .depth)
       member-value = record { value = x .first; here = x .here }
 
       module _ (r : Bool) (f : r ≡ isOneOf c (texts (entries (x .first)))) where
+        -- If the name is one of the next member's strings, that member and its key are those of the name in the group.
         pub key-found : r ≡ true → (fs : Fields) → ValueAt s at depth (object fs) → KeyFound s fs c i k
         key-found e fs v =
             let h = sym f ∙ e in
@@ -99,6 +105,7 @@ module _ (s : List ℕ) (at depth : ℕ) (c : List ℕ) where
               member = p .members fs v ∙ ap (memberFrom i c) (x .split) ∙ member-here c (x .key) (x .first) (x .others) i h;
             }
 
+        -- If it is none of them, one more member is passed, and the name has in the others the key that it has in the group.
         pub goes-on : r ≡ false → Passing s at depth c rest (i + 1)
         goes-on e =
             let h = sym f ∙ e in
@@ -107,7 +114,7 @@ module _ (s : List ℕ) (at depth : ℕ) (c : List ℕ) where
               here = x .left;
               keys = λ fs v. p .keys fs v ∙ ap (λ (gs : Fields). keyOf c (namedIn gs)) (x .split) ∙ key-later c (x .key) (x .first) (x .others) h;
               members = λ fs v. p .members fs v ∙ ap (memberFrom i c) (x .split) ∙ member-later c (x .key) (x .first) (x .others) i h;
-              room = omega (arith, p .room, x .later);
+              space = omega (arith, p .space, x .later);
             }
 
 -- a missing group has no name

@@ -7,20 +7,20 @@ use mathlib.Core.Bool.{Bool, true, false}
 use Rattle.text_content.specs.Value.{Values, no-values, Fields, no-fields, array, object}
 use Rattle.text_strings.specs.InString.{Inside, contentFrom}
 use Rattle.text_view.specs.Place.{ValueAt}
-use Rattle.text_view.specs.Cursor.{SomeElements, ElementsLeft, NextElement, SomeObject, SomeMembers, MembersLeft, NextMember}
+use Rattle.text_view.specs.Cursor.{SomeElements, ElementsLeft, NextElement, SomeMembers, MembersLeft, NextMember}
 use Rattle.text_view.specs.declared.Elements.{Elements}
 use Rattle.text_view.specs.declared.Members.{Members}
 use Rattle.manifest_fields.specs.Accessors.{texts}
-use Rattle.manifest_values.specs.Entries.{allPass}
+use Rattle.manifest_entries.specs.Entries.{allPass}
 use Rattle.manifest_fields.specs.Rules.{everyMember, namesPass}
-use Rattle.manifest_values.specs.declared.entry.Entry.the-variants.{Text}
-use Rattle.manifest_values.proofs.Counting.{one-array}
+use Rattle.manifest_entries.specs.declared.entry.Entry.the-variants.{Text}
+use Rattle.manifest_entries.proofs.Counting.{one-array}
 use Rattle.manifest_fields.proofs.Finding.{one-object}
 use Rattle.laws.specs.Any.{anyOf}
-use Rattle.manifest_names.specs.Contents.{Named, namedUnder, namedIn}
+use Rattle.manifest_heads.specs.Contents.{Named, namedUnder, namedIn}
 use Rattle.manifest_names.specs.Groups.{AliasGroup, AliasList}
 use Rattle.laws.proofs.Any.{any-first, any-second}
-use Rattle.manifest_names.proofs.Any.{any-under}
+use Rattle.manifest_heads.proofs.Any.{any-under}
 use Rattle.manifest_names.proofs.Nexts.{NextString, next-string, NextAliases, next-aliases}
 
 -- The elements `others` stand before the cursor, and one of their strings passes where one of the array's does.
@@ -32,6 +32,7 @@ pub record InTexts {I : Type 0} (g : I → List ℕ → Bool) (t : List ℕ) (at
   pub kept : (i : I) (vs : Values) → ValueAt t at depth (array vs) → anyOf (g i) (texts vs) ≡ anyOf (g i) (texts others)
 
 module _ {I : Type 0} (g : I → List ℕ → Bool) (t : List ℕ) (at depth : ℕ) where
+  -- With all the array's elements left, one of their strings passes exactly where one of the array's does.
   pub texts-started : (o : AliasList t at depth) (left : Elements) → ElementsLeft t left (o .values) → InTexts g t at depth left
   texts-started o left l =
       record {
@@ -43,6 +44,7 @@ module _ {I : Type 0} (g : I → List ℕ → Bool) (t : List ℕ) (at depth : �
       }
 
   module _ (left : Elements) (p : InTexts g t at depth left) where
+    -- The cursor stands before a list of elements, which may be empty.
     pub some-elements : SomeElements t left
     some-elements = record { values = p .others; left = p .here }
 
@@ -56,14 +58,17 @@ module _ {I : Type 0} (g : I → List ℕ → Bool) (t : List ℕ) (at depth : �
       text : NextString t (p .others) (x .others) q
       text = next-string t left (p .others) (p .first) (p .strings) q rest x
 
+      -- The position after that of the next element stands in a string.
       pub text-inside : Inside t (q + 1)
       text-inside = text .inside
 
       module _ (r : Bool) (f : (i : I) → r ≡ g i (contentFrom t (q + 1))) where
+        -- If the next string passes the test, one of the array's strings passes it.
         pub in-texts : r ≡ true → (i : I) (vs : Values) → ValueAt t at depth (array vs) → true ≡ anyOf (g i) (texts vs)
         unfolding anyOf
         in-texts e i vs v = let h : g i (contentFrom t (q + 1)) ≡ true = sym (f i) ∙ e in sym (p .kept i vs v ∙ ap (anyOf (g i)) (text .split) ∙ rw h)
 
+        -- If it does not, one of the strings after it passes exactly where one of the array's does.
         pub texts-go-on : r ≡ false → InTexts g t at depth rest
         unfolding anyOf
         texts-go-on e =
@@ -83,6 +88,7 @@ pub record InNamed {I : Type 0} (g : I → Named → Bool) (t : List ℕ) (at de
   pub kept : (i : I) (fs : Fields) → ValueAt t at depth (object fs) → anyOf (g i) (namedIn fs) ≡ anyOf (g i) (namedIn others)
 
 module _ {I : Type 0} (g : I → Named → Bool) (t : List ℕ) (at depth : ℕ) where
+  -- With all the group's members left, one of their aliases passes exactly where one of the group's does.
   pub named-started : (o : AliasGroup t at depth) (left : Members) → MembersLeft t left (o .fields) → InNamed g t at depth left
   named-started o left l =
       record {
@@ -93,6 +99,7 @@ module _ {I : Type 0} (g : I → Named → Bool) (t : List ℕ) (at depth : ℕ)
       }
 
   module _ (left : Members) (p : InNamed g t at depth left) where
+    -- The cursor stands before a list of members, which may be empty.
     pub some-members : SomeMembers t left
     some-members = record { fields = p .others; left = p .here }
 
@@ -106,9 +113,11 @@ module _ {I : Type 0} (g : I → Named → Bool) (t : List ℕ) (at depth : ℕ)
       aliases : NextAliases t (p .others) (x .others) k q (left .depth)
       aliases = next-aliases t left (p .others) (p .strings) k q rest x
 
+      -- The next member's value is an array of strings.
       pub alias-list : AliasList t q (left .depth)
       alias-list = aliases .list
 
+      -- The position after that of the next member's key stands in a string.
       pub key-inside : Inside t (k + 1)
       key-inside = aliases .key
 
@@ -120,9 +129,11 @@ module _ {I : Type 0} (g : I → Named → Bool) (t : List ℕ) (at depth : ℕ)
         tried : (i : I) → anyOf (g i) its-named ≡ r
         tried i = any-under (g i) (contentFrom t (k + 1)) (texts (aliases .list .values)) ∙ sym (f i (aliases .list .values) (aliases .list .here))
 
+        -- If one of the next member's aliases passes the test, one of the group's aliases passes it.
         pub in-named : r ≡ true → (i : I) (fs : Fields) → ValueAt t at depth (object fs) → true ≡ anyOf (g i) (namedIn fs)
         in-named e i fs v = sym (p .kept i fs v ∙ ap (anyOf (g i)) (aliases .split) ∙ any-first (g i) its-named (namedIn (x .others)) (tried i ∙ e))
 
+        -- If none of them does, one of the aliases after them passes exactly where one of the group's does.
         pub named-goes-on : r ≡ false → InNamed g t at depth rest
         named-goes-on e =
             record {

@@ -6,10 +6,10 @@ use mathlib.Core.Bool.{true}
 use mathlib.Core.Option.{Option, some}
 use Rattle.text_content.specs.Value.{Value, Values, Fields, array, object}
 use Rattle.text_view.specs.Place.{ValueAt}
-use Rattle.manifest_values.specs.Entries.{allPass}
+use Rattle.manifest_entries.specs.Entries.{allPass}
 use Rattle.manifest_fields.specs.Members.{Finds}
 use Rattle.manifest_fields.specs.Rules.{everyMember, namesPass, isObjectOf}
-use Rattle.manifest_values.specs.declared.entry.Entry.the-variants.{Text}
+use Rattle.manifest_entries.specs.declared.entry.Entry.the-variants.{Text}
 use Rattle.manifest_fields.specs.declared.member.Found.{Found}
 
 -- a group that was looked for: missing, or an object of arrays of strings

@@ -8,16 +8,16 @@ use lib.ListN.{length, take}
 use Rattle.text_content.specs.Value.{Value, Values}
 use Rattle.text_strings.specs.InString.{Inside}
 use Rattle.manifest_fields.specs.Accessors.{texts, namesOf}
-use Rattle.manifest_values.specs.Entries.{count}
+use Rattle.manifest_entries.specs.Entries.{count}
 use Rattle.manifest_fields.specs.Members.{Finds}
 use Rattle.manifest_fields.specs.Rules.{foundMembers}
 use Rattle.manifest_fields.specs.declared.member.Found.{Found}
 use Rattle.manifest_repeat.specs.Names.{Collectable, GroupAt, GroupFound}
 use Rattle.manifest_repeat.specs.Repeated.{repeated}
-use Rattle.manifest_names.specs.Contents.{Named, namedUnder, conflict}
-use Rattle.manifest_names.specs.Placed.{Placed, KeyedAt}
+use Rattle.manifest_heads.specs.Contents.{Named, namedUnder, conflict}
+use Rattle.manifest_heads.specs.Placed.{Placed, KeyedAt}
 
--- an array of strings under the key at position k, and room for the positions of both
+-- an array of strings under the key at position k, and space for the positions of both
 pub record Keyable (s : List ℕ) (at depth k : ℕ) (names : List ℕ) (n : ℕ) (keys : List ℕ) : Type 0 where
   pub list : Collectable s at depth names n
   pub key : Inside s (k + 1)
@@ -31,12 +31,12 @@ AddsKeyed s k vs before n keys₀ after keys r =
     → conflict (xs ++ (namedUnder k (texts vs) ++ rest)) (xs ++ (namedUnder k (texts vs) ++ rest)) ≡ false
     → Placed (KeyedAt s keys) (take r after) (xs ++ namedUnder k (texts vs)))
 
--- a group of aliases, and room
+-- a group of aliases, and space
 pub record KeyableGroup (s : List ℕ) (at depth : ℕ) (names keys : List ℕ) : Type 0 where
   pub group : GroupAt s at depth names
   pub long : length s ≤ length keys
 
--- a group that was looked for, with no alias twice, and room
+-- a group that was looked for, with no alias twice, and space
 pub record KeyableFound (s : List ℕ) (depth : ℕ) (found : Found) (names spare keys : List ℕ) : Type 0 where
   pub group : GroupFound s depth found names spare
   pub once : (o : Option Value) → Finds s depth o found → repeated (namesOf (foundMembers o)) ≡ false

@@ -1,6 +1,3 @@
-pub mod Contents
-pub mod Placed
 pub mod Groups
 pub mod Keyed
-pub mod Searches
-pub mod Heads
+pub mod Objects

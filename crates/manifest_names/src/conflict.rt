@@ -1,7 +1,7 @@
 // Whether a name stands in a group of one manifest and in a group of another, under different keys. The same name under the same key is no conflict.
-use crate::headed::find_headed;
-use crate::sorted::Search;
 use manifest_fields::member::Found;
+use manifest_heads::Search;
+use manifest_heads::find_headed;
 use text_view::Element;
 use text_view::Elements;
 use text_view::Member;
@@ -15,10 +15,10 @@ ghost use Rattle.text_view.specs.Place.{ValueAt};
 ghost use Rattle.manifest_fields.specs.Accessors.{texts};
 ghost use Rattle.manifest_fields.specs.Members.{Finds};
 ghost use Rattle.manifest_fields.specs.Rules.{foundMembers};
-ghost use Rattle.manifest_names.specs.Contents.{Named, namedUnder, namedIn, conflict, standsElsewhere};
+ghost use Rattle.manifest_heads.specs.Contents.{Named, namedUnder, namedIn, conflict, standsElsewhere};
 ghost use Rattle.manifest_names.specs.Groups.{Grouped, AliasGroup, AliasList};
-ghost use Rattle.manifest_names.specs.Heads.{HeadsOf};
-ghost use Rattle.manifest_names.specs.Placed.{SortedContents, SomeContents};
+ghost use Rattle.manifest_heads.specs.Heads.{HeadsOf};
+ghost use Rattle.manifest_heads.specs.Placed.{SortedContents, SomeContents};
 
 // The name from position q of t on stands in s, under another key than the one from position k of t on.
 fn is_elsewhere(
@@ -31,7 +31,8 @@ fn is_elsewhere(
     k: usize,
 ) -> bool
     requires { ⌜ SomeContents (now s) (now keys) (now names) × HeadsOf (now s) (now names) (now heads) × Inside (now t) q × Inside (now t) k ⌝ }
-    ensures { λ r. ⌜ ((xs : List Named) → SortedContents (now (s .entry)) xs (now (keys .entry)) (now (names .entry)) → r ≡ standsElsewhere (contentFrom (now (t .entry)) q) (contentFrom (now (t .entry)) k) xs) ⌝ }
+    ensures { λ r. ⌜ ((xs : List Named) → SortedContents (now (s .entry)) xs (now (keys .entry)) (now (names .entry))
+        → r ≡ standsElsewhere (contentFrom (now (t .entry)) q) (contentFrom (now (t .entry)) k) xs) ⌝ }
 {
     match find_headed(s, names, heads, t, q) {
         Search::Missing => false,
@@ -54,7 +55,8 @@ fn conflicts_list(
     depth: usize,
 ) -> bool
     requires { ⌜ SomeContents (now s) (now keys) (now names) × HeadsOf (now s) (now names) (now heads) × Inside (now t) k × AliasList (now t) at depth ⌝ }
-    ensures { λ r. ⌜ ((xs : List Named) (vs : Values) → SortedContents (now (s .entry)) xs (now (keys .entry)) (now (names .entry)) → ValueAt (now (t .entry)) at depth (array vs) → r ≡ conflict (namedUnder (contentFrom (now (t .entry)) k) (texts vs)) xs) ⌝ }
+    ensures { λ r. ⌜ ((xs : List Named) (vs : Values) → SortedContents (now (s .entry)) xs (now (keys .entry)) (now (names .entry))
+        → ValueAt (now (t .entry)) at depth (array vs) → r ≡ conflict (namedUnder (contentFrom (now (t .entry)) k) (texts vs)) xs) ⌝ }
 {
     let mut left = Elements::new(t, at, depth);
     loop {
@@ -81,7 +83,8 @@ fn conflicts_group(
     depth: usize,
 ) -> bool
     requires { ⌜ SomeContents (now s) (now keys) (now names) × HeadsOf (now s) (now names) (now heads) × AliasGroup (now t) at depth ⌝ }
-    ensures { λ r. ⌜ ((xs : List Named) (fs : Fields) → SortedContents (now (s .entry)) xs (now (keys .entry)) (now (names .entry)) → ValueAt (now (t .entry)) at depth (object fs) → r ≡ conflict (namedIn fs) xs) ⌝ }
+    ensures { λ r. ⌜ ((xs : List Named) (fs : Fields) → SortedContents (now (s .entry)) xs (now (keys .entry)) (now (names .entry))
+        → ValueAt (now (t .entry)) at depth (object fs) → r ≡ conflict (namedIn fs) xs) ⌝ }
 {
     let mut left = Members::new(t, at, depth);
     loop {
@@ -107,7 +110,8 @@ pub fn conflicts(
     group: Found,
 ) -> bool
     requires { ⌜ SomeContents (now s) (now keys) (now names) × HeadsOf (now s) (now names) (now heads) × Grouped (now t) 6 group ⌝ }
-    ensures { λ r. ⌜ ((xs : List Named) (o : Option Value) → SortedContents (now (s .entry)) xs (now (keys .entry)) (now (names .entry)) → Finds (now (t .entry)) 6 o group → r ≡ conflict (namedIn (foundMembers o)) xs) ⌝ }
+    ensures { λ r. ⌜ ((xs : List Named) (o : Option Value) → SortedContents (now (s .entry)) xs (now (keys .entry)) (now (names .entry))
+        → Finds (now (t .entry)) 6 o group → r ≡ conflict (namedIn (foundMembers o)) xs) ⌝ }
 {
     match group {
         Found::Missing => false,

@@ -1,6 +1,5 @@
 // The aliases of two manifests compared: names that both have, names that stand under different keys, and the key of a name.
 pub mod conflict;
-pub mod headed;
 pub mod keyed;
 pub mod object;
 pub mod shared;

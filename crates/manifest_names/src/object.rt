@@ -11,7 +11,7 @@ ghost use Rattle.text_view.specs.Place.{ValueAt};
 ghost use Rattle.manifest_fields.specs.Members.{Finds};
 ghost use Rattle.manifest_fields.specs.Rules.{foundMembers};
 ghost use Rattle.manifest_names.specs.Groups.{Grouped};
-ghost use Rattle.manifest_names.specs.Searches.{FindsKey};
+ghost use Rattle.manifest_names.specs.Objects.{FindsKey};
 
 // Which member of a group has the alias, counted from 0, and the position of that member's key; or none.
 pub enum Object {

@@ -16,8 +16,8 @@ use Rattle.reference.specs.Matches.{isOneOf}
 use Rattle.manifest_fields.specs.Accessors.{contentsOf, texts}
 use Rattle.manifest_values.specs.Values.{entries}
 use Rattle.manifest_repeat.specs.Repeated.{repeated}
-use Rattle.manifest_names.specs.Contents.{Named, namedIn, isElsewhere, standsElsewhere, conflict as conflictByKey}
-use Rattle.manifest_names.proofs.Any.{one-of-any}
+use Rattle.manifest_heads.specs.Contents.{Named, namedIn, isElsewhere, standsElsewhere, conflict as conflictByKey}
+use Rattle.manifest_heads.proofs.Any.{one-of-any}
 use Rattle.manifest.specs.Manifest.{manifestOf, Alias, aliasesTo, aliasesOf, contents}
 use Rattle.manifest.specs.Names.{conflict, keysOf, objects}
 use Rattle.manifest.proofs.Aliases.{contents-unrepeated}

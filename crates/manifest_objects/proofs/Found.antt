@@ -10,7 +10,7 @@ use Rattle.text_content.specs.Value.{Values, Fields, array, object}
 use Rattle.text_view.specs.Place.{ValueAt}
 use Rattle.reference.specs.References.{layer}
 use Rattle.manifest_values.specs.Values.{isArrayOf, entries}
-use Rattle.manifest_values.specs.declared.entry.Entry.the-variants.{Text}
+use Rattle.manifest_entries.specs.declared.entry.Entry.the-variants.{Text}
 use Rattle.manifest_fields.specs.Accessors.{fieldOf, contentsField, contentsOf, texts}
 use Rattle.manifest_fields.specs.Rules.{foundEntries}
 use Rattle.manifest_fields.specs.declared.field.Field.the-variants.{Layers}
@@ -67,7 +67,7 @@ module _ (s : List ℕ) (p : Places) (o : Opens s p) where
     pub placeable-group : (start : ℕ) (keys : List ℕ) → 64 ≤ length keys → start + length s < 2 ^ 63 → PlaceableGroup s start at 6 keys
     unfolding objects
     placeable-group start keys h l =
-        record { fields = contentsOf (manifestOf s); here = contents-here; few = few-objects s; room = h; short = l }
+        record { fields = contentsOf (manifestOf s); here = contents-here; few = few-objects s; space = h; short = l }
 
     -- Its keys are the objects.
     pub objects-placed : {start r : ℕ} {before after : List ℕ}
@@ -77,7 +77,7 @@ module _ (s : List ℕ) (p : Places) (o : Opens s p) where
 
     module _ (names owners : List ℕ) (h : 4096 ≤ length names) (k : 4096 ≤ length owners) where
       space : GroupFound s 6 (p .contents) names names
-      space = contents-space s p o names names (record { room = h; sorting = omega arith }) s (omega arith) .group
+      space = contents-space s p o names names (record { space = h; sorting = omega arith }) s (omega arith) .group
 
       -- Its aliases can be listed.
       pub listable-group : ListableGroup s at 6 names owners
@@ -86,7 +86,7 @@ module _ (s : List ℕ) (p : Places) (o : Opens s p) where
           record {
             group = group-at s 6 (p .contents) names names space at e;
             keys = ap keysOf (same-members s 6 (p .contents) names names space at e (contentsField (manifestOf s)) (o .contents));
-            room = k;
+            space = k;
           }
 
     -- Its aliases are those of the manifest.
@@ -123,7 +123,7 @@ module _ (s : List ℕ) (p : Places) (o : Opens s p) where
           here = list-here;
           strings = list .all;
           few = few-entries (list .values) (ap (isArrayOf Text) (sym (list .is)) ∙ array-passes);
-          room = h;
+          space = h;
           short = l;
         }
 

@@ -18,11 +18,11 @@ use Rattle.text_view.specs.declared.Members.{Members}
 use Rattle.text_view.proofs.ByKind.{one-value}
 use Rattle.reference.specs.References.{Layer, layer, no-layer}
 use Rattle.manifest_fields.specs.Accessors.{texts}
-use Rattle.manifest_values.specs.Entries.{allPass, count}
+use Rattle.manifest_entries.specs.Entries.{allPass, count}
 use Rattle.manifest_values.specs.Values.{entries}
 use Rattle.manifest_fields.specs.Rules.{countFields, everyMember, namesPass}
-use Rattle.manifest_values.specs.declared.entry.Entry.the-variants.{Text}
-use Rattle.manifest_values.proofs.Counting.{one-array}
+use Rattle.manifest_entries.specs.declared.entry.Entry.the-variants.{Text}
+use Rattle.manifest_entries.proofs.Counting.{one-array}
 use Rattle.manifest_fields.proofs.Finding.{one-object}
 use Rattle.manifest_fields.proofs.Ruling.{its-entries}
 use Rattle.manifest_names.proofs.Nexts.{NextString, next-string, NextAliases, next-aliases}
@@ -41,9 +41,9 @@ pub record UnderObject (s : List ℕ) (at depth o : ℕ) (names₀ owners₀ : L
   pub here : ElementsLeft s left others
   pub first : Bool
   pub strings : allPass Text first others ≡ true
-  pub room : i + count others ≤ length names
+  pub space : i + count others ≤ length names
   pub size : length names ≡ length names₀
-  pub owner-room : i + count others ≤ length owners
+  pub owner-space : i + count others ≤ length owners
   pub owner-size : length owners ≡ length owners₀
   pub number : (vs : Values) → ValueAt s at depth (array vs) → i + count others ≡ n + count vs
   pub adds : (vs : Values) → ValueAt s at depth (array vs) → (l : Layer) (xs : List Alias) → o < length (objects s) → getD (objects s) o no-layer ≡ l
@@ -64,9 +64,9 @@ module _ (s : List ℕ) (at depth o : ℕ) (names₀ owners₀ : List ℕ) (n : 
         here = l;
         first = true;
         strings = a .list .strings;
-        room = a .list .room;
+        space = a .list .space;
         size = refl;
-        owner-room = a .room;
+        owner-space = a .space;
         owner-size = refl;
         number = λ vs v. omega (arith, ap count (one-array s at depth (a .list .values) vs (a .list .here) v));
         adds = λ vs v k xs h e m. (xs, m, ap (λ (ws : Values). xs ++ aliasesTo k (texts ws)) (one-array s at depth (a .list .values) vs (a .list .here) v));
@@ -93,15 +93,17 @@ module _ (s : List ℕ) (at depth o : ℕ) (names₀ owners₀ : List ℕ) (n : 
       text : NextString s (p .others) (x .others) q
       text = next-string s left (p .others) (p .first) (p .strings) q rest x
 
-      -- The element stands in the text, and there is room for its position and for the number of its object.
+      -- The element stands in the text, and there is space for its position and for the number of its object.
       pub place-within : q + 1 < length s
       place-within = inside-within s (q + 1) (text .inside)
 
+      -- There is space for the position of the element.
       pub place-fits : i < length names
-      place-fits = omega (arith, p .room, text .counted)
+      place-fits = omega (arith, p .space, text .counted)
 
+      -- There is space for the number of its object.
       pub owner-fits : i < length owners
-      owner-fits = omega (arith, p .owner-room, text .counted)
+      owner-fits = omega (arith, p .owner-space, text .counted)
 
       abbrev alias : Layer → Alias
       alias l = record { name = contentFrom s (q + 1); object = l }
@@ -124,9 +126,9 @@ module _ (s : List ℕ) (at depth o : ℕ) (names₀ owners₀ : List ℕ) (n : 
             here = x .left;
             first = false;
             strings = text .strings;
-            room = omega (arith, p .room, text .counted, length-set names i q);
+            space = omega (arith, p .space, text .counted, length-set names i q);
             size = length-set names i q ∙ p .size;
-            owner-room = omega (arith, p .owner-room, text .counted, length-set owners i o);
+            owner-space = omega (arith, p .owner-space, text .counted, length-set owners i o);
             owner-size = length-set owners i o ∙ p .owner-size;
             number = λ vs v. omega (arith, p .number vs v, text .counted);
             adds = λ vs v l xs h g m. let r = p .adds vs v l xs h g m in (
@@ -141,7 +143,7 @@ pub record Numbered (s : List ℕ) (at depth : ℕ) (names₀ owners₀ names ow
   pub others : Fields
   pub here : MembersLeft s left others
   pub strings : everyMember namesPass others ≡ true
-  pub room : n + 64 * countFields others ≤ 4096
+  pub space : n + 64 * countFields others ≤ 4096
   pub few : o + countFields others ≤ 64
   pub size : length names ≡ length names₀
   pub enough : 4096 ≤ length names₀
@@ -168,12 +170,12 @@ module _ (s : List ℕ) (at depth : ℕ) (names₀ owners₀ : List ℕ) where
         others = a .group .fields;
         here = l;
         strings = a .group .strings;
-        room = omega (arith, a .group .few);
+        space = omega (arith, a .group .few);
         few = omega (arith, a .group .few);
         size = refl;
-        enough = a .group .room;
+        enough = a .group .space;
         owner-size = refl;
-        owner-enough = a .room;
+        owner-enough = a .space;
         short = a .group .short;
         passed = [];
         number = refl;
@@ -190,7 +192,7 @@ module _ (s : List ℕ) (at depth : ℕ) (names₀ owners₀ : List ℕ) where
 
     -- There are at most 64 times 64 aliases.
     pub group-within : n ≤ 4096
-    group-within = omega (arith, p .room)
+    group-within = omega (arith, p .space)
 
     -- Where no member is left, all were listed.
     pub group-finished : p .others ≡ no-fields → (fs : Fields) → ValueAt s at depth (object fs) → Listed s (take n names) (take n owners) (aliasesOf fs)
@@ -220,10 +222,10 @@ module _ (s : List ℕ) (at depth : ℕ) (names₀ owners₀ : List ℕ) where
               values = aliases .list .values;
               here = aliases .list .here;
               strings = aliases .list .strings;
-              room = omega (arith, aliases .few, aliases .counted, p .room, p .size, p .enough);
+              space = omega (arith, aliases .few, aliases .counted, p .space, p .size, p .enough);
               short = p .short;
             };
-            room = omega (arith, aliases .few, aliases .counted, p .room, p .owner-size, p .owner-enough);
+            space = omega (arith, aliases .few, aliases .counted, p .space, p .owner-size, p .owner-enough);
             small = next-number;
           }
 
@@ -260,7 +262,7 @@ module _ (s : List ℕ) (at depth : ℕ) (names₀ owners₀ : List ℕ) where
             others = x .others;
             here = x .left;
             strings = aliases .strings;
-            room = omega (arith, a .0, aliases .few, aliases .counted, p .room);
+            space = omega (arith, a .0, aliases .few, aliases .counted, p .space);
             few = omega (arith, p .few, aliases .counted);
             size = l ∙ p .size;
             enough = p .enough;

@@ -47,6 +47,7 @@ named-any {b} {at} {order} {n} a p = ap (anyOf p) (a .all) ∙ filter-any (λ (e
 
 -- A number keeps its name where its position stays.
 module _ (b at later : List ℕ) (e : ℕ) (same-place : getD later e 0 ≡ getD at e 0) where
+  -- If two lists of positions agree at a number, the number has the same name in both.
   pub name-kept : nameAt b later e ≡ nameAt b at e
   unfolding nameAt entryText
   name-kept = ap (contentFrom b) same-place

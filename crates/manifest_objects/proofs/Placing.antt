@@ -18,9 +18,9 @@ use Rattle.text_view.specs.declared.Elements.{Elements}
 use Rattle.text_view.specs.declared.Members.{Members}
 use Rattle.reference.specs.References.{Layer, layer}
 use Rattle.manifest_fields.specs.Accessors.{texts}
-use Rattle.manifest_values.specs.Entries.{allPass, count}
-use Rattle.manifest_values.specs.declared.entry.Entry.the-variants.{Text}
-use Rattle.manifest_values.proofs.Counting.{one-array}
+use Rattle.manifest_entries.specs.Entries.{allPass, count}
+use Rattle.manifest_entries.specs.declared.entry.Entry.the-variants.{Text}
+use Rattle.manifest_entries.proofs.Counting.{one-array}
 use Rattle.manifest_fields.proofs.Finding.{one-object}
 use Rattle.manifest_names.proofs.Nexts.{NextString, next-string}
 use Rattle.manifest.specs.Names.{keysOf}
@@ -59,7 +59,7 @@ pub record KeysPlaced (s : List ℕ) (start at depth : ℕ) (before keys : List 
   pub here : MembersLeft s left others
   pub few : n + length (keysOf others) ≤ 64
   pub size : length keys ≡ length before
-  pub room : 64 ≤ length before
+  pub space : 64 ≤ length before
   pub short : start + length s < 2 ^ 63
   pub done : List Layer
   pub placed : Placed s start before keys n done
@@ -79,7 +79,7 @@ module _ (s : List ℕ) (start at depth : ℕ) (before : List ℕ) where
         here = l;
         few = omega (arith, o .few);
         size = refl;
-        room = o .room;
+        space = o .space;
         short = o .short;
         done = [];
         placed = placed-none s start before;
@@ -105,12 +105,13 @@ module _ (s : List ℕ) (start at depth : ℕ) (before : List ℕ) where
       unfolding keysOf
       key-split = ap keysOf (x .split)
 
-      -- The key stands in the text, and there is room for its position.
+      -- The key stands in the text, and there is space for its position.
       pub key-within : k + 1 < length s
       key-within = inside-within s (k + 1) (record { bytes = x .key; here = x .name })
 
+      -- There is space for the position of the key.
       pub key-fits : n < length keys
-      key-fits = omega (arith, p .few, ap length key-split, p .size, p .room)
+      key-fits = omega (arith, p .few, ap length key-split, p .size, p .space)
 
       -- With the key placed the walk goes on.
       pub keys-go-on : KeysPlaced s start at depth before (set keys n (start + k + 1)) rest (n + 1)
@@ -120,7 +121,7 @@ module _ (s : List ℕ) (start at depth : ℕ) (before : List ℕ) where
             here = x .left;
             few = omega (arith, p .few, ap length key-split);
             size = length-set keys n (start + k + 1) ∙ p .size;
-            room = p .room;
+            space = p .space;
             short = p .short;
             done = p .done ++ (layer (x .key) ∷ []);
             placed = placed-more s start before keys n (p .done) (p .placed) k (x .key) (x .name) key-fits;
@@ -136,7 +137,7 @@ pub record StringsPlaced (s : List ℕ) (start at depth : ℕ) (before keys : Li
   pub strings : allPass Text first others ≡ true
   pub few : n + count others ≤ 64
   pub size : length keys ≡ length before
-  pub room : 64 ≤ length before
+  pub space : 64 ≤ length before
   pub short : start + length s < 2 ^ 63
   pub done : List Layer
   pub placed : Placed s start before keys n done
@@ -158,7 +159,7 @@ module _ (s : List ℕ) (start at depth : ℕ) (before : List ℕ) where
         strings = o .strings;
         few = omega (arith, o .few);
         size = refl;
-        room = o .room;
+        space = o .space;
         short = o .short;
         done = [];
         placed = placed-none s start before;
@@ -187,12 +188,13 @@ module _ (s : List ℕ) (start at depth : ℕ) (before : List ℕ) where
       unfolding said
       string-split = ap (map layer) (text .split)
 
-      -- The string stands in the text, and there is room for its position.
+      -- The string stands in the text, and there is space for its position.
       pub string-within : q + 1 < length s
       string-within = inside-within s (q + 1) (text .inside)
 
+      -- There is space for the position of the string.
       pub string-fits : n < length keys
-      string-fits = omega (arith, p .few, text .counted, p .size, p .room)
+      string-fits = omega (arith, p .few, text .counted, p .size, p .space)
 
       -- With the string placed the walk goes on.
       pub strings-go-on : StringsPlaced s start at depth before (set keys n (start + q + 1)) rest (n + 1)
@@ -204,7 +206,7 @@ module _ (s : List ℕ) (start at depth : ℕ) (before : List ℕ) where
             strings = text .strings;
             few = omega (arith, p .few, text .counted);
             size = length-set keys n (start + q + 1) ∙ p .size;
-            room = p .room;
+            space = p .space;
             short = p .short;
             done = p .done ++ (layer (contentFrom s (q + 1)) ∷ []);
             placed = placed-more s start before keys n (p .done) (p .placed) q (contentFrom s (q + 1)) (inside-content s (q + 1) (text .inside)) string-fits;

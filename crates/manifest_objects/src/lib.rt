@@ -56,7 +56,8 @@ pub fn is_alias_of(b: &[u8], k: usize, a: Algorithm, signer: &[u8]) -> bool
 // on, and answers how many there are.
 fn place_keys(s: &[u8], start: usize, at: usize, depth: usize, keys: &mut [usize]) -> usize
     requires { ⌜ PlaceableGroup (now s) start at depth (now keys) ⌝ }
-    ensures { λ r. ⌜ (r ≤ 64) × (length (now (keys .exit)) ≡ length (now (keys .entry))) × ((fs : Fields) → ValueAt (now (s .entry)) at depth (object fs) → Placed (now (s .entry)) start (now (keys .entry)) (now (keys .exit)) r (keysOf fs)) ⌝ }
+    ensures { λ r. ⌜ (r ≤ 64) × (length (now (keys .exit)) ≡ length (now (keys .entry))) × ((fs : Fields) → ValueAt (now (s .entry)) at depth (object fs)
+        → Placed (now (s .entry)) start (now (keys .entry)) (now (keys .exit)) r (keysOf fs)) ⌝ }
 {
     let mut left = Members::new(s, at, depth);
     let mut n = 0;
@@ -92,7 +93,8 @@ pub fn place_objects(b: &[u8], start: usize, end: usize, p: Places, keys: &mut [
 // The same of the strings of the array at position `at` of s.
 fn place_strings(s: &[u8], start: usize, at: usize, depth: usize, keys: &mut [usize]) -> usize
     requires { ⌜ PlaceableList (now s) start at depth (now keys) ⌝ }
-    ensures { λ r. ⌜ (r ≤ 64) × (length (now (keys .exit)) ≡ length (now (keys .entry))) × ((vs : Values) → ValueAt (now (s .entry)) at depth (array vs) → Placed (now (s .entry)) start (now (keys .entry)) (now (keys .exit)) r (said vs)) ⌝ }
+    ensures { λ r. ⌜ (r ≤ 64) × (length (now (keys .exit)) ≡ length (now (keys .entry))) × ((vs : Values) → ValueAt (now (s .entry)) at depth (array vs)
+        → Placed (now (s .entry)) start (now (keys .entry)) (now (keys .exit)) r (said vs)) ⌝ }
 {
     let mut left = Elements::new(s, at, depth);
     let mut n = 0;
@@ -133,7 +135,8 @@ fn list_under(
     n: usize,
 ) -> usize
     requires { ⌜ Listable (now s) at depth object (now names) (now owners) n ⌝ }
-    ensures { λ r. ⌜ ((vs : Values) → ValueAt (now (s .entry)) at depth (array vs) → AddsListed (now (s .entry)) object vs (now (names .entry)) (now (owners .entry)) n (now (names .exit)) (now (owners .exit)) r) ⌝ }
+    ensures { λ r. ⌜ ((vs : Values) → ValueAt (now (s .entry)) at depth (array vs)
+        → AddsListed (now (s .entry)) object vs (now (names .entry)) (now (owners .entry)) n (now (names .exit)) (now (owners .exit)) r) ⌝ }
 {
     let mut left = Elements::new(s, at, depth);
     let mut i = n;
@@ -153,7 +156,8 @@ fn list_under(
 // Puts the positions of a group's aliases at the start of `names`, and for each the number of its object into `owners`; answers how many there are.
 fn list_group(s: &[u8], at: usize, depth: usize, names: &mut [u16], owners: &mut [u16]) -> usize
     requires { ⌜ ListableGroup (now s) at depth (now names) (now owners) ⌝ }
-    ensures { λ r. ⌜ (r ≤ 4096) × ((fs : Fields) → ValueAt (now (s .entry)) at depth (object fs) → Listed (now (s .entry)) (take r (now (names .exit))) (take r (now (owners .exit))) (aliasesOf fs)) ⌝ }
+    ensures { λ r. ⌜ (r ≤ 4096) × ((fs : Fields) → ValueAt (now (s .entry)) at depth (object fs)
+        → Listed (now (s .entry)) (take r (now (names .exit))) (take r (now (owners .exit))) (aliasesOf fs)) ⌝ }
 {
     let mut left = Members::new(s, at, depth);
     let mut n = 0;

@@ -14,10 +14,10 @@ use Rattle.text_view.specs.Place.{ValueAt}
 use Rattle.text_view.specs.Cursor.{SomeArray, SomeElements, ElementsLeft, NextElement}
 use Rattle.text_view.specs.declared.Elements.{Elements}
 use Rattle.reference.specs.References.{Rule, rule, no-rule}
-use Rattle.manifest_values.specs.Entries.{allPass, count}
+use Rattle.manifest_entries.specs.Entries.{allPass, count}
 use Rattle.manifest_values.specs.Values.{isArrayOf, entries}
-use Rattle.manifest_values.specs.declared.entry.Entry.the-variants.{Text}
-use Rattle.manifest_values.proofs.Counting.{one-array}
+use Rattle.manifest_entries.specs.declared.entry.Entry.the-variants.{Text}
+use Rattle.manifest_entries.proofs.Counting.{one-array}
 use Rattle.manifest_fields.specs.Accessors.{acceptsField, texts}
 use Rattle.manifest_fields.specs.Rules.{foundEntries}
 use Rattle.manifest_fields.specs.declared.member.Found.the-variants.{At, Missing}
@@ -67,7 +67,7 @@ pub record RulesPlaced (s : List ℕ) (q : ℕ) (before at : List ℕ) (left : E
   pub strings : allPass Text first others ≡ true
   pub few : n + count others ≤ 64
   pub size : length at ≡ length before
-  pub room : 64 ≤ length before
+  pub space : 64 ≤ length before
   pub done : List Rule
   pub placed : RulesAt s (take n at) done
   pub kept : (vs : Values) → ValueAt s q 6 (array vs) → done ++ saidRules others ≡ saidRules vs
@@ -87,7 +87,7 @@ module _ (s : List ℕ) (q : ℕ) (before : List ℕ) where
         strings = o .strings;
         few = omega (arith, o .few);
         size = refl;
-        room = o .room;
+        space = o .space;
         done = [];
         placed = no-rule-at;
         kept = λ vs v. ap saidRules (one-array s q 6 (o .values) vs (o .here) v);
@@ -115,12 +115,13 @@ module _ (s : List ℕ) (q : ℕ) (before : List ℕ) where
       unfolding saidRules
       rule-split = ap (map rule) (text .split)
 
-      -- The string stands in the text, and there is room for its position.
+      -- The string stands in the text, and there is space for its position.
       pub rule-within : k + 1 < length s
       rule-within = inside-within s (k + 1) (text .inside)
 
+      -- There is space for the position of the string.
       pub rule-fits : n < length at
-      rule-fits = omega (arith, p .few, text .counted, p .size, p .room)
+      rule-fits = omega (arith, p .few, text .counted, p .size, p .space)
 
       -- With the string placed the walk goes on.
       pub rules-go-on : RulesPlaced s q before (set at n (k + 1)) rest (n + 1)
@@ -132,7 +133,7 @@ module _ (s : List ℕ) (q : ℕ) (before : List ℕ) where
             strings = text .strings;
             few = omega (arith, p .few, text .counted);
             size = length-set at n (k + 1) ∙ p .size;
-            room = p .room;
+            space = p .space;
             done = p .done ++ (rule (contentFrom s (k + 1)) ∷ []);
             placed = rw (add-one n, take-suc-set at n (k + 1) rule-fits)
                 (at-append (p .placed) (rule-at (record { inside = text .inside; is = refl }) no-rule-at));
@@ -172,7 +173,7 @@ module _ (s : List ℕ) (p : Places) (o : Opens s p) where
           here = list-here;
           strings = list .all;
           few = few-entries (list .values) (ap (isArrayOf Text) (sym (list .is)) ∙ array-passes);
-          room = h;
+          space = h;
         }
 
     -- its strings are the rules

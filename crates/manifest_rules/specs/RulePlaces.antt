@@ -8,8 +8,8 @@ use Rattle.text_content.specs.Value.{Values, array}
 use Rattle.text_strings.specs.InString.{Inside, contentFrom}
 use Rattle.text_view.specs.Place.{ValueAt}
 use Rattle.reference.specs.References.{Rule, rule}
-use Rattle.manifest_values.specs.Entries.{allPass, count}
-use Rattle.manifest_values.specs.declared.entry.Entry.the-variants.{Text}
+use Rattle.manifest_entries.specs.Entries.{allPass, count}
+use Rattle.manifest_entries.specs.declared.entry.Entry.the-variants.{Text}
 use Rattle.manifest_fields.specs.Accessors.{texts}
 
 -- from position k of s on a string goes on that is read as the rule y
@@ -31,10 +31,10 @@ pub data RulesAt (s : List ℕ) : List ℕ → List Rule → Type 0 where
 unfoldable pub saidRules : Values → List Rule
 saidRules vs = map rule (texts vs)
 
--- an array of at most 64 strings at position q, and room for their positions
+-- an array of at most 64 strings at position q, and space for their positions
 pub record PlaceableRules (s : List ℕ) (q : ℕ) (at : List ℕ) : Type 0 where
   pub values : Values
   pub here : ValueAt s q 6 (array values)
   pub strings : allPass Text true values ≡ true
   pub few : count values ≤ 64
-  pub room : 64 ≤ length at
+  pub space : 64 ≤ length at

@@ -14,7 +14,7 @@ use Rattle.store_record.specs.Store.{AllShaped}
 use Rattle.policy_marks.specs.Marks.{mark, closed}
 use Rattle.policy_marks.specs.Pairs.{Ordered, isReported, pairsIn, pairsOf}
 use Rattle.policy_marks.proofs.Closing.{closed-leads, leads-closed}
-use Rattle.policy_marks.proofs.Pairs.{pair-in, pairs-rising, reported-few}
+use Rattle.policy_pairs.proofs.Pairs.{pair-in, pairs-rising, reported-few}
 use Rattle.policy.specs.Chain.{Guard, Chain, At}
 use Rattle.policy_rows.specs.Accepting.{isGuard, guards, marks}
 use Rattle.policy.specs.Pairs.{pairs}

@@ -19,7 +19,7 @@ use Rattle.policy_marks.specs.declared.Table.{Table}
 use Rattle.store_record.specs.Image.{Image}
 use Rattle.store_record.specs.Store.{mostImages, readRecords}
 use Rattle.store_open.specs.Held.{held, isBroken}
-use Rattle.store_open.proofs.Holding.{first-bytes, room-broken}
+use Rattle.store_open.proofs.Holding.{first-bytes, space-broken}
 use Rattle.policy_rows.specs.Accepting.{guards, marks}
 use Rattle.policy.specs.Pairs.{pairs}
 use Rattle.policy.specs.Judge.{judgeQuestions, judgeNumber, heldPairs}
@@ -73,7 +73,7 @@ module _ (buffer : List ℕ) (used : ℕ) where
       broken-within : isBroken (length buffer) (held buffer used) ≡ isBroken (length inUse) (readRecords mostImages inUse)
       broken-within =
           let l : length inUse ≤ length buffer = omega (arith, length-take-le used buffer h) in
-          ap (isBroken (length buffer)) held-within ∙ room-broken inUse (first-bytes buffer used bytes) (length buffer) l
+          ap (isBroken (length buffer)) held-within ∙ space-broken inUse (first-bytes buffer used bytes) (length buffer) l
 
       -- Bytes that are no store are refused.
       pub judge-broken : isBroken (length inUse) (readRecords mostImages inUse) ≡ true → judgeNumber buffer used size ≡ 11

@@ -4,7 +4,8 @@ use Prim.Native.Nat.{ℕ}
 use mathlib.Core.Path.{_≡_, refl, sym, ap, subst, _∙_}
 use mathlib.Core.Logic.{_↔_}
 use mathlib.Core.Bool.{false, _||_}
-use mathlib.Core.List.{List, _++_, List·Memᴰ as In, List·Memᴰ·head, List·Memᴰ·tail, List·Permᴰ as Permutation, List·Permᴰ·nil, List·Permᴰ·cons, List·Permᴰ·swap, List·Permᴰ·trans, Permᴰ·symm}
+use mathlib.Core.List.{List, _++_, List·Memᴰ as In, List·Memᴰ·head, List·Memᴰ·tail, List·Permᴰ as Permutation, List·Permᴰ·nil, List·Permᴰ·cons, List·Permᴰ·swap}
+use mathlib.Core.List.{List·Permᴰ·trans, Permᴰ·symm}
 use native.Mathlib.Omega.{arith}
 use lib.Dec.{ltb}
 use lib.ListN.{length, length-append}
@@ -17,7 +18,7 @@ use Rattle.store_record.specs.Store.{mostImages, storeOf, AllShaped, shaped}
 use Rattle.store_record.proofs.Sharing.{share-id-sym}
 use Rattle.store_names.proofs.Pairs.{pair-permuted}
 use Rattle.store_keys.specs.Clash.{clash, anyClash}
-use Rattle.store_clash.proofs.Clashing.{clash-sym}
+use Rattle.store_conflict.proofs.Clashing.{clash-sym}
 use Rattle.store_open.specs.Held.{isUnfit, tooMany, areUnsound}
 use Rattle.store_open.proofs.Holding.{shaped-single}
 use Rattle.policy.specs.Chain.{Chain, alone, onward, At}

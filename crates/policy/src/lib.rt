@@ -1,5 +1,7 @@
 // The launch policy of a store's images: the report on guards and the images that they do not reach by any chain.
 use answer::Answer;
+use manifest::MOST_NAMES;
+use text::MOST_BYTES;
 ghost use mathlib.Core.Path.{_≡_};
 ghost use lib.ListN.{length};
 ghost use Rattle.policy_marks.specs.Words.{Reports};
@@ -18,11 +20,11 @@ pub fn judge(store: &[u8], used: usize, report: &mut [u8]) -> Answer
         return answer::refused(report, BROKEN);
     }
     let b = &store[..used];
-    let mut at = [0usize; 4096];
-    let mut sorted = [0u16; 4096];
-    let mut spare = [0u16; 4096];
-    let mut heads = [0u32; 4096];
-    let mut keys = [0u16; 16384];
+    let mut at = [0usize; MOST_NAMES];
+    let mut sorted = [0u16; MOST_NAMES];
+    let mut spare = [0u16; MOST_NAMES];
+    let mut heads = [0u32; MOST_NAMES];
+    let mut keys = [0u16; MOST_BYTES];
     let opened = store_open::open(b, &mut at, &mut sorted, &mut spare, &mut heads, &mut keys);
     if !opened.sound {
         return answer::refused(report, BROKEN);
@@ -30,5 +32,5 @@ pub fn judge(store: &[u8], used: usize, report: &mut [u8]) -> Answer
     let survey = opened.survey;
     let places = opened.places;
     let table = policy_table::table(b, survey, places, &mut at, &mut sorted, &mut spare);
-    policy_marks::judge_table(table, report)
+    policy_judge::judge_table(table, report)
 }

@@ -31,7 +31,7 @@ module _ (b : List ℕ) (v : Survey) (at counts : List ℕ) (few : v .count ≤ 
 
   module _ (i : ℕ) (h : i < v .count) where
     fits : mostNames * i + getD counts i 0 ≤ length at
-    fits = omega (arith, s .few i h, s .at-room)
+    fits = omega (arith, s .few i h, s .at-space)
 
     image : (k : ℕ) → k < getD counts i 0 → (mostNames * i + k) / 64 ≡ i
     image k l = omega (arith, s .few i h)

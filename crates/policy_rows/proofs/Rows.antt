@@ -65,22 +65,22 @@ built-all f xs n j w h b =
 -- of n words the first i are rows of what g makes of the first i elements
 pub record Filled {A : Type 0} (g : A → List Bool) (xs : List A) (n i : ℕ) (words : List ℕ) : Type 0 where
   pub within : i ≤ n
-  pub room : n ≤ length words
+  pub space : n ≤ length words
   pub rows : map (rowOf n) (take i words) ≡ map g (take i xs)
 
 module _ {A : Type 0} (g : A → List Bool) (xs : List A) (n : ℕ) (words : List ℕ) where
   -- At first no row is there.
   pub filled-none : n ≤ length words → Filled g xs n 0 words
-  filled-none h = record { within = omega arith; room = h; rows = refl }
+  filled-none h = record { within = omega arith; space = h; rows = refl }
 
   -- the row of the next element is written at its place
   filled-next : (i w : ℕ) (d : A) → i < n → length xs ≡ n → rowOf n w ≡ g (getD xs i d) → Filled g xs n i words → Filled g xs n (i + 1) (set words i w)
   filled-next i w d h size e b =
       record {
         within = omega arith;
-        room = rw length-set (b .room);
+        space = rw length-set (b .space);
         rows =
-            rw (add-one, take-suc-set words i w (omega (arith, b .room)), take-suc xs i d (omega arith))
+            rw (add-one, take-suc-set words i w (omega (arith, b .space)), take-suc xs i d (omega arith))
             (rw (map-append (rowOf n) (take i words) (w ∷ []), map-append, e, b .rows));
       }
 
@@ -91,7 +91,7 @@ module _ {A : Type 0} (g : A → List Bool) (xs : List A) (n : ℕ) (words : Lis
       let e : i ≡ n = omega (arith, b .within) in
       (rw e at (b .rows)) ∙ ap (map g) (take-all n xs (omega arith))
 
-module _ (s : List ℕ) (v : Survey) (few : v .count ≤ 64) (room : length (v .records) ≡ 64) where
+module _ (s : List ℕ) (v : Survey) (few : v .count ≤ 64) (space : length (v .records) ≡ 64) where
   fits : v .count ≤ length (v .records)
   fits = omega arith
 

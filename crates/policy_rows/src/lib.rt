@@ -3,6 +3,7 @@
 use manifest::Places;
 use reference::ImageIndex;
 use reference::rule::Rule;
+use store_record::MOST_IMAGES;
 use store_record::Record;
 use store_record::Survey;
 ghost use mathlib.Core.Path.{_≡_};
@@ -88,7 +89,7 @@ fn matched(s: &[u8], x: Rule, b: &[u8], v: Survey, at: &[usize], order: &[u16]) 
 pub fn row(
     b: &[u8],
     v: Survey,
-    places: [Places; 64],
+    places: [Places; MOST_IMAGES],
     at: &[usize],
     order: &[u16],
     i: ImageIndex,

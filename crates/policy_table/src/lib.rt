@@ -2,6 +2,7 @@
 use manifest::Places;
 use policy_marks::Table;
 use reference::ImageIndex;
+use store_record::MOST_IMAGES;
 use store_record::Survey;
 ghost use mathlib.Core.Path.{_≡_};
 ghost use Prim.Native.Nat.{_+_, _*_, _^_, _≤_, _<_};
@@ -12,7 +13,7 @@ ghost use Rattle.store_names.specs.Opened.{OpenedStore};
 ghost use Rattle.policy_rows.specs.Accepting.{guards as guardsOf, marks};
 
 // The guards, as a row of marks.
-fn guards(b: &[u8], v: Survey, places: [Places; 64]) -> u64
+fn guards(b: &[u8], v: Survey, places: [Places; MOST_IMAGES]) -> u64
     requires { ⌜ OpenedStore (now b) v places ⌝ }
     ensures { λ r. ⌜ rowOf (v .count) r ≡ guardsOf (imagesIn (now (b .entry)) v) ⌝ }
     ensures { λ r. ⌜ r < 2 ^ v .count ⌝ }
@@ -37,7 +38,7 @@ fn guards(b: &[u8], v: Survey, places: [Places; 64]) -> u64
 pub fn table(
     b: &[u8],
     v: Survey,
-    places: [Places; 64],
+    places: [Places; MOST_IMAGES],
     at: &mut [usize],
     order: &mut [u16],
     own: &mut [u16],
@@ -45,10 +46,10 @@ pub fn table(
     requires { ⌜ OpenedStore (now b) v places × (length (now at) ≡ 4096) × (4096 ≤ length (now order)) × (4096 ≤ length (now own)) ⌝ }
     ensures { λ r. ⌜ (r .count ≡ v .count) × (guardsIn r ≡ guardsOf (imagesIn (now (b .entry)) v)) × (rowsIn r ≡ marks (imagesIn (now (b .entry)) v)) ⌝ }
 {
-    let mut counts = [0u16; 64];
+    let mut counts = [0u16; MOST_IMAGES];
     store_names::place_all(b, v, places, own, at, &mut counts);
     let n = store_names::index_all(b, at, &counts, v.count, order);
-    let mut rows = [0u64; 64];
+    let mut rows = [0u64; MOST_IMAGES];
     let mut i = 0;
     while i < v.count {
         rows[i] = policy_rows::row(b, v, places, at, &order[..n], ImageIndex(i));

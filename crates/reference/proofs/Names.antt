@@ -16,6 +16,7 @@ pub data StandsIn (c : List ℕ) : List (List ℕ) → Type 0 where
   first : {ns : List (List ℕ)} → StandsIn c (c ∷ ns)
   later : {n : List ℕ} {ns : List (List ℕ)} → StandsIn c ns → StandsIn c (n ∷ ns)
 
+-- A name that the test finds in a list stands there.
 pub one-of : (c : List ℕ) (ns : List (List ℕ)) → isOneOf c ns ≡ true → StandsIn c ns
 unfolding isOneOf
 one-of c [] e = false-true e
@@ -24,6 +25,7 @@ one-of c (n ∷ ns) e =
     (λ f. let g = same-eq c n f in rw g first)
     (λ f. later (one-of c ns (rw f at e)))
 
+-- A name that stands in a list is found there by the test.
 pub one-of-these : (c : List ℕ) (ns : List (List ℕ)) → StandsIn c ns → isOneOf c ns ≡ true
 unfolding isOneOf
 one-of-these c (n ∷ ns) first = rw (same-refl c)

@@ -1,4 +1,3 @@
-pub mod Aliases
 pub mod References
 pub mod Matches
 pub mod Readings

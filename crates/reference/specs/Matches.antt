@@ -6,7 +6,8 @@ use mathlib.Core.Bool.{Bool, true, false, _&&_, _||_}
 use lib.Dec.{eqb}
 use Rattle.laws.specs.Order.{same}
 use Rattle.reference_digests.specs.Algorithms.{byteOf}
-use Rattle.reference.specs.References.{Signer, any-signer, signer, Manifest, any-manifest, manifest, self-alias, Rule, accepts, no-rule, Id, image-id, no-id}
+use Rattle.reference.specs.References.{Signer, any-signer, signer, Manifest, any-manifest, manifest, self-alias, Rule, accepts, no-rule, Id, image-id}
+use Rattle.reference.specs.References.{no-id}
 
 -- the name is one of these, with all its bytes
 unfoldable pub isOneOf : List ℕ → List (List ℕ) → Bool

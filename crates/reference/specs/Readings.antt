@@ -10,7 +10,8 @@ use Rattle.reference_digests.specs.Digests.{isDigest, digestOf}
 use Rattle.reference_digests.specs.Readings.{DigestAt, PlainDigest}
 use Rattle.reference_digests.specs.declared.algorithm.Algorithm.{Algorithm}
 use Rattle.reference_digests.specs.declared.algorithm.Known.the-variants.{Is}
-use Rattle.reference.specs.References.{layer, layer-digest, layer-alias, no-layer, Signer as SignerForm, any-signer, signer, Manifest as ManifestForm, any-manifest, manifest, self-alias, rule, ruleUnder, accepts, no-rule, imageId, idUnder, image-id, no-id}
+use Rattle.reference.specs.References.{layer, layer-digest, layer-alias, no-layer, Signer as SignerForm, any-signer, signer, Manifest as ManifestForm}
+use Rattle.reference.specs.References.{any-manifest, manifest, self-alias, rule, ruleUnder, accepts, no-rule, imageId, idUnder, image-id, no-id}
 use Rattle.reference.specs.declared.layer.Layer.{Layer}
 use Rattle.reference.specs.declared.layer.Layer.the-variants.{Digest as LayerDigest, Alias as LayerAlias, Bad as NoLayer}
 use Rattle.reference.specs.declared.rule.Signer.{Signer}

@@ -10,11 +10,11 @@ use Rattle.reference_digests.specs.Digests.{isDigest, digestOf, hexOf}
 use Rattle.reference_digests.specs.declared.algorithm.Algorithm.{Algorithm}
 use Rattle.reference_digests.specs.declared.algorithm.Known.{Known}
 use Rattle.reference_digests.specs.declared.algorithm.Known.the-variants.{Is, Unknown}
-use Rattle.reference.specs.Aliases.{isAlias, star}
+use Rattle.reference_aliases.specs.Aliases.{isAlias, star}
 
 -- the word `signer`
 abbrev pub signerWord : List ℕ
-signerWord = 0x73 ∷ 0x69 ∷ 0x67 ∷ 0x6E ∷ 0x65 ∷ 0x72 ∷ []
+signerWord = 0x73 ∷ 0x69 ∷ 0x67 ∷ 0x6E ∷ 0x65 ∷ 0x72 ∷ []  -- signer
 
 -- HASH/FSLAYER, or signer/HASH/SIGNER/ALIAS
 pub data Layer : Type 0 where

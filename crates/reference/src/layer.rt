@@ -63,7 +63,8 @@ fn by_digest(s: &[u8], i: usize, first: Part, second: Part) -> Layer
 
 // Four parts, from position i on.
 fn by_alias(s: &[u8], i: usize, first: Part, second: Part, third: Part, fourth: Part) -> Layer
-    requires { ⌜ Divided (now s) i first second × Divided (now s) (first .next) second third × Divided (now s) (second .next) third fourth × (fourth .last ≡ true) ⌝ }
+    requires { ⌜ Divided (now s) i first second × Divided (now s) (first .next) second third × Divided (now s) (second .next) third fourth
+        × (fourth .last ≡ true) ⌝ }
     ensures { λ r. ⌜ LayerReads (now (s .entry)) i r ⌝ }
 {
     if !part::is(s, i, first.length, b"signer") {
@@ -75,7 +76,7 @@ fn by_alias(s: &[u8], i: usize, first: Part, second: Part, third: Part, fourth: 
             if !reference_digests::digest::is_digest(a, third.length, third.hex) {
                 return Layer::Bad;
             }
-            if !crate::alias::is_alias_part(s, third.next, fourth) {
+            if !reference_aliases::is_alias_part(s, third.next, fourth) {
                 return Layer::Bad;
             }
             Layer::Alias {

@@ -88,7 +88,7 @@ fn is_manifest(s: &[u8], a: Algorithm, i: usize, p: Part) -> bool
 {
     part::is(s, i, p.length, b"*")
         || (reference_digests::digest::is_digest(a, p.length, p.hex)
-            || crate::alias::is_alias_part(s, i, p))
+            || reference_aliases::is_alias_part(s, i, p))
 }
 
 fn signer_of(s: &[u8], a: Algorithm, i: usize, p: Part) -> Signer

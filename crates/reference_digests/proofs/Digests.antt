@@ -13,7 +13,7 @@ use lib.ListN.{length}
 use Rattle.laws.specs.Order.{same}
 use Rattle.laws.proofs.Order.{by-test, same-eq}
 use Rattle.text_json.specs.Bytes.{between, isHex, hexValue}
-use Rattle.text_json.specs.Measure.{every}
+use Rattle.text_chars.specs.Measure.{every}
 use Rattle.text_json.proofs.ByteTests.{or-cases, between-true, hex-below}
 use Rattle.reference_parts.specs.Hex.{isLowerHex}
 use Rattle.reference_digests.specs.Algorithms.{digestBytes, hexDigits, byteOf, nameOf, named, numbered}
@@ -29,6 +29,7 @@ or-outer true y z e = refl
 or-outer false true z e = refl
 or-outer false false z e = e
 
+-- A lower-case hexadecimal digit is a hexadecimal digit.
 pub is-hex : (b : ℕ) → isLowerHex b ≡ true → isHex b ≡ true
 unfolding isLowerHex isHex
 is-hex b e = or-outer (between 0x30 0x39 b) (between 0x41 0x46 b) (between 0x61 0x66 b) e

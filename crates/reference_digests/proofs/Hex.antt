@@ -12,7 +12,7 @@ use lib.Seq.{set-at}
 use Rattle.laws.specs.Order.{same}
 use Rattle.laws.proofs.Order.{by-test}
 use Rattle.text_json.specs.Bytes.{hexValue}
-use Rattle.text_json.specs.Measure.{every}
+use Rattle.text_chars.specs.Measure.{every}
 use Rattle.text_json.proofs.Places.{drop-next}
 use Rattle.text_strings.specs.Cursor.{Left, Gives, heldBytes}
 use Rattle.text_strings.specs.InString.{Inside, contentFrom}
@@ -93,6 +93,7 @@ pub record Writing (w r : List ℕ) (n k : ℕ) (before out : List ℕ) : Type 0
   pub few : k ≤ n
   pub left : Digits r (n - k)
 
+-- At the start no byte of the digest is written, and all its digits are left.
 pub nothing-written : (a : Algorithm) (c before : List ℕ) → isDigest a (firstPart c) ≡ true → Writing (firstPart c) c (digestBytes a) 0 before before
 nothing-written a c before e =
     let d = digest-digits a c e in
@@ -115,6 +116,7 @@ module _ (w r : List ℕ) (n k : ℕ) (before out : List ℕ) (p : Writing w r n
       ∙ ap (λ (j : ℕ). p .done ++ drop j before) e
       ∙ ap (λ (d : List ℕ). d ++ drop n before) (sym (append-nil (p .done)) ∙ ap (λ (x : List ℕ). p .done ++ x) (sym f) ∙ p .digest)
 
+  -- The buffer keeps its length.
   pub kept-length : n ≤ length before → length out ≡ length before
   kept-length h =
       omega (arith, ap length (p .buffer), length-append (p .done) (drop k before), p .size, length-drop k before, p .few)
@@ -124,16 +126,19 @@ module _ (w r : List ℕ) (n k : ℕ) (before out : List ℕ) (p : Writing w r n
     some : 1 ≤ n - k
     some = omega arith
 
+    -- Where bytes of the digest are not yet written, at least two bytes of the content are left.
     pub some-left : 2 ≤ length r
     some-left = digits-left r (n - k) (p .left) some
 
     module _ (x y : ℕ) (q : List ℕ) (e : r ≡ x ∷ y ∷ q) where
+      -- The next two bytes of the content are lower-case hexadecimal digits.
       pub both-digits : (isLowerHex x ≡ true) × (isLowerHex y ≡ true)
       both-digits = are-digits r (n - k) (p .left) some x y q e
 
+      -- With the byte that they stand for set at index `k`, one byte more of the digest is written.
       pub one-more : (b : ℕ) → b ≡ hexValue x * 16 + hexValue y → k < length before → Writing w q n (k + 1) before (set out k b)
-      one-more b f room =
-          let here : drop k before ≡ getD before k 0 ∷ drop (k + 1) before = drop-next before k room in
+      one-more b f space =
+          let here : drop k before ≡ getD before k 0 ∷ drop (k + 1) before = drop-next before k space in
           record {
             done = p .done ++ (b ∷ []);
             size = omega (arith, p .size, length-append (p .done) (b ∷ []));
@@ -152,6 +157,7 @@ module _ (w r : List ℕ) (n k : ℕ) (before out : List ℕ) (p : Writing w r n
 
 -- The digits left in r are compared with the bytes from k on.
 module _ (r bytes : List ℕ) (k : ℕ) (p : Digits r (length bytes - k)) where
+  -- Where `k` is past the last byte, what the digits left stand for is equal to the bytes left.
   pub all-compared : length bytes ≤ k → true ≡ same (digestOf (firstPart r)) (drop k bytes)
   unfolding same
   all-compared h =
@@ -162,13 +168,16 @@ module _ (r bytes : List ℕ) (k : ℕ) (p : Digits r (length bytes - k)) where
     some-bytes : 1 ≤ length bytes - k
     some-bytes = omega arith
 
+    -- Where bytes are left to compare, at least two bytes of the content are left.
     pub pair-left : 2 ≤ length r
     pair-left = digits-left r (length bytes - k) p some-bytes
 
     module _ (x y : ℕ) (q : List ℕ) (e : r ≡ x ∷ y ∷ q) where
+      -- The next two bytes of the content are lower-case hexadecimal digits.
       pub pair-digits : (isLowerHex x ≡ true) × (isLowerHex y ≡ true)
       pair-digits = are-digits r (length bytes - k) p some-bytes x y q e
 
+      -- After those two, the digits of one byte less are left.
       pub pair-after : Digits q (length bytes - (k + 1))
       pair-after = digits-after r (length bytes - k) p some-bytes x y q e (length bytes - (k + 1)) (omega arith)
 
@@ -180,9 +189,11 @@ module _ (r bytes : List ℕ) (k : ℕ) (p : Digits r (length bytes - k)) where
             (first-of-digest r (length bytes - k) p some-bytes x y q e ∙ ap (λ (c : ℕ). c ∷ digestOf (firstPart q)) (sym f))
             ∙ ap (same (b ∷ digestOf (firstPart q))) (drop-next bytes k h)
 
+        -- Where the byte that they stand for is not the next byte, what the digits left stand for is not equal to the bytes left.
         pub byte-differs : (b ≡ getD bytes k 0 → ⊥) → false ≡ same (digestOf (firstPart r)) (drop k bytes)
         byte-differs n = sym (at-byte ∙ sym (not-same _ _ (λ g. n (cc))))
 
+        -- Where it is the next byte, comparing what is left has the same answer as comparing what is left after that byte.
         pub byte-same : b ≡ getD bytes k 0 → same (digestOf (firstPart q)) (drop (k + 1) bytes) ≡ same (digestOf (firstPart r)) (drop k bytes)
         unfolding same
         byte-same g = sym (at-byte ∙ rw (eq-eqb b (getD bytes k 0) g, same))
@@ -200,6 +211,7 @@ next-byte s c n g h =
     (λ e. given-byte s c n e g)
     (λ e. absurd (omega (arith, ap length (given-end s c n e g))))
 
+-- Of a content of at least two bytes a cursor gives the first two, one after the other, and the rest lies before it.
 pub next-bytes : (s r : List ℕ) (x y : Next) → Gives s r x → ((d : List ℕ) → Left s (x .rest) d → Gives s d y) → 2 ≤ length r
     → (q : List ℕ) × (r ≡ x .byte ∷ y .byte ∷ q) × Left s (y .rest) q
 next-bytes s r x y g f h =
@@ -211,6 +223,7 @@ next-bytes s r x y g f h =
 pub two-within : (s : List ℕ) (j : ℕ) → 2 ≤ length (drop j s) → j + 1 < length s
 two-within s j h = omega (arith, length-drop j s)
 
+-- From a position with another one after it in the list, the list goes on with the two bytes there and what is after them.
 pub next-two : (s : List ℕ) (j : ℕ) → j + 1 < length s → drop j s ≡ getD s j 0 ∷ getD s (j + 1) 0 ∷ drop (j + 2) s
 next-two s j h =
     let e : j + 1 + 1 ≡ j + 2 = omega arith in
@@ -225,6 +238,7 @@ left-same s k c d p q =
 
 -- two bytes of a string's content that stand for themselves
 module _ (s : List ℕ) (j : ℕ) (p : Inside s j) (l : 2 ≤ length (contentFrom s j)) where
+  -- A position that stands in a string lies within the text.
   pub byte-within : j < length s
   byte-within = inside-within s j p
 
@@ -232,9 +246,11 @@ module _ (s : List ℕ) (j : ℕ) (p : Inside s j) (l : 2 ≤ length (contentFro
     open-first : (contentFrom s j ≡ getD s j 0 ∷ contentFrom s (j + 1)) × Inside s (j + 1)
     open-first = goes-on s j p (λ q. omega (arith, ap length (ends s j p q))) e
 
+    -- Where the byte there is no backslash, the next position lies within the text too.
     pub next-within : j + 1 < length s
     next-within = inside-within s (j + 1) (open-first .1)
 
+    -- Where neither of the two bytes is a backslash, both stand for themselves.
     pub plain-pair : (getD s (j + 1) 0 ≡ 0x5C → ⊥) → PlainPair s j
     plain-pair f =
         let a = open-first in

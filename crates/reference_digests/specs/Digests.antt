@@ -5,7 +5,7 @@ use mathlib.Core.Bool.{Bool, true, false, _&&_}
 use lib.Dec.{ltb, eqb}
 use lib.ListN.{length, getD}
 use Rattle.text_json.specs.Bytes.{hexValue}
-use Rattle.text_json.specs.Measure.{every}
+use Rattle.text_chars.specs.Measure.{every}
 use Rattle.reference_parts.specs.Hex.{isLowerHex}
 use Rattle.reference_digests.specs.Algorithms.{hexDigits}
 use Rattle.reference_digests.specs.declared.algorithm.Algorithm.{Algorithm}

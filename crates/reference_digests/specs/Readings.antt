@@ -4,7 +4,7 @@ use mathlib.Core.Path.{_≡_}
 use mathlib.Core.List.{List, _∷_}
 use mathlib.Core.Bool.{true}
 use lib.ListN.{length, drop, getD}
-use Rattle.text_json.specs.Measure.{every}
+use Rattle.text_chars.specs.Measure.{every}
 use Rattle.text_strings.specs.Cursor.{Left}
 use Rattle.text_strings.specs.InString.{Inside, contentFrom}
 use Rattle.text_strings.specs.declared.Cursor.{Cursor}

@@ -10,8 +10,8 @@ use borrow.Author.Tests.{leb-true, le-leb, lt-leb, eqb-false, not-true}
 use lib.Dec.{leb, eqb}
 use lib.ListN.{length, take, drop, getD, length-drop, length-take, length-append}
 use lib.Seq.{take-suc, getD-drop, getD-take, append-snoc}
-use Rattle.text_json.specs.Measure.{every, isNot, isUnmarked}
-use Rattle.text_json.proofs.Plain.{every-at, unmarked}
+use Rattle.text_chars.specs.Measure.{every, isNot, isUnmarked}
+use Rattle.text_chars.proofs.Plain.{every-at, unmarked}
 use Rattle.text_strings.specs.InString.{Inside, contentFrom}
 use Rattle.text_strings.proofs.Positions.{goes-on as over-byte}
 use Rattle.reference_parts.specs.Hex.{isLowerHex}
@@ -25,10 +25,12 @@ pub few-left : (s : List ℕ) → length s < 16 → false ≡ isBlock s
 unfolding isBlock
 few-left s h = rw (lt-leb 16 (length s) h)
 
+-- Sixteen bytes or more are a block exactly if none of the first sixteen is a quotation mark, a backslash or a `/`.
 pub enough-left : (s : List ℕ) → 16 ≤ length s → every isUnmarked (take 16 s) && every (isNot 0x2F) (take 16 s) ≡ isBlock s
 unfolding isBlock
 enough-left s h = rw (le-leb 16 (length s) h)
 
+-- A block has sixteen bytes at least, and none of the first sixteen is a quotation mark, a backslash or a `/`.
 pub block : (s : List ℕ) → isBlock s ≡ true → (16 ≤ length s) × (every isUnmarked (take 16 s) ≡ true) × (every (isNot 0x2F) (take 16 s) ≡ true)
 unfolding isBlock
 block s e =
@@ -51,6 +53,7 @@ module _ (s : List ℕ) (k n : ℕ) (h : n ≤ length (drop k s)) (e : every isU
       let w : m < length (take n (drop k s)) = omega (arith, length-take n (drop k s)) in
       unmarked (getD s (k + m) 0) (rw (getD-take n (drop k s) m 0 l, getD-drop k s m 0) at (every-at isUnmarked (take n (drop k s)) m e w))
 
+  -- In a string, the first `m` of these bytes are the start of the content, and the string goes on behind them.
   pub upto : Inside s k → (m : ℕ) → m ≤ n → (contentFrom s k ≡ take m (drop k s) ++ contentFrom s (k + m)) × Inside s (k + m)
   upto p zero l = (ap (contentFrom s) (sym (add-zero k)), subst (Inside s) (sym (add-zero k)) p)
   upto p (suc m) l =
@@ -75,9 +78,11 @@ nothing-yet s i p =
     record { bytes = []; begins = refl; inside = p; size = sym (add-zero i); undivided = refl; hex = refl }
 
 module _ (s : List ℕ) (i k : ℕ) (hex : Bool) (p : StartAt s i (record { next = k; hex = hex })) (e : isBlock (drop k s) ≡ true) where
+  -- The sixteen bytes of a block lie within the text.
   pub within : k ≤ length s → k + 16 ≤ length s
   within h = let l = rw (length-drop k s) at (block (drop k s) e .0) in omega arith
 
+  -- The start of a part goes on over a block, and whether it is all digits is asked of those bytes too.
   pub block-more : (t : Bool) → t ≡ every isLowerHex (take 16 (drop k s)) → StartAt s i (record { next = k + 16; hex = hex && t })
   block-more t f =
       let b = block (drop k s) e in

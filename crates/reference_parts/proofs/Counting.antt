@@ -14,7 +14,7 @@ use Rattle.laws.specs.Order.{same}
 use Rattle.laws.proofs.Order.{by-test, false-true, same-refl, same-eq}
 use Rattle.text_utf8.specs.Scalar.{encode}
 use Rattle.text_json.specs.Bytes.{between}
-use Rattle.text_json.specs.Measure.{every}
+use Rattle.text_chars.specs.Measure.{every}
 use Rattle.text_json.proofs.Places.{drop-next}
 use Rattle.text_strings.specs.InString.{Inside, Escapes, contentFrom}
 use Rattle.text_strings.proofs.Positions.{encode-length, ends, goes-on as over-byte, over-escape, not-longer}
@@ -28,6 +28,7 @@ and-assoc : (a b c : Bool) → a && (b && c) ≡ (a && b) && c
 and-assoc true b c = refl
 and-assoc false b c = refl
 
+-- A test holds of each byte of two lists together exactly if it holds of each byte of both.
 pub every-append : (p : ℕ → Bool) (xs ys : List ℕ) → every p (xs ++ ys) ≡ every p xs && every p ys
 unfolding every
 every-append p [] ys = refl
@@ -36,27 +37,33 @@ every-append p (x ∷ xs) ys = ap (λ (t : Bool). p x && t) (every-append p xs y
 -- one step of the definitions of the parts, at a `/` and at any other byte
 module _ (b : ℕ) (s : List ℕ) where
   module _ (e : b ≡ 0x2F) where
+    -- A list that begins with a `/` is divided.
     pub divided-here : isDivided (b ∷ s) ≡ true
     unfolding isDivided
     divided-here = rw (eq-eqb b 0x2F e, isDivided)
 
+    -- Its first part is empty.
     pub first-here : firstPart (b ∷ s) ≡ []
     unfolding firstPart
     first-here = rw (eq-eqb b 0x2F e, firstPart)
 
+    -- What is after its first part is the rest of the list.
     pub after-here : afterPart (b ∷ s) ≡ s
     unfolding afterPart
     after-here = rw (eq-eqb b 0x2F e, afterPart)
 
   module _ (n : b ≡ 0x2F → ⊥) where
+    -- A list that begins with another byte is divided exactly if the rest is.
     pub divided-on : isDivided (b ∷ s) ≡ isDivided s
     unfolding isDivided
     divided-on = rw (ne-eqb b 0x2F n, isDivided)
 
+    -- Its first part is that byte and the first part of the rest.
     pub first-on : firstPart (b ∷ s) ≡ b ∷ firstPart s
     unfolding firstPart
     first-on = rw (ne-eqb b 0x2F n, firstPart)
 
+    -- What is after its first part is what is after the first part of the rest.
     pub after-on : afterPart (b ∷ s) ≡ afterPart s
     unfolding afterPart
     after-on = rw (ne-eqb b 0x2F n, afterPart)
@@ -65,6 +72,7 @@ module _ (b : ℕ) (s : List ℕ) where
 by-byte : {C : Type 0} (b : ℕ) → (b ≡ 0x2F → C) → ((b ≡ 0x2F → ⊥) → C) → C
 by-byte b f g = by-test (eqb b 0x2F) (λ e. f (eqb-true b 0x2F e)) (λ e. g (eqb-false b 0x2F e))
 
+-- Two lists together are divided exactly if one of them is.
 pub divided-append : (xs ys : List ℕ) → isDivided (xs ++ ys) ≡ isDivided xs || isDivided ys
 unfolding isDivided
 divided-append [] ys = refl
@@ -82,6 +90,7 @@ first-divided (b ∷ d) r h =
     (λ e. false-true (sym h ∙ divided-here b d e))
     (λ n. first-on b (d ++ 0x2F ∷ r) n ∙ ap (λ (l : List ℕ). b ∷ l) (first-divided d r (sym (divided-on b d n) ∙ h)))
 
+-- Where an undivided list is followed by a `/`, what is after the first part is what follows that `/`.
 pub after-divided : (d r : List ℕ) → isDivided d ≡ false → afterPart (d ++ 0x2F ∷ r) ≡ r
 unfolding isDivided
 after-divided [] r h = after-here 0x2F r refl
@@ -90,9 +99,11 @@ after-divided (b ∷ d) r h =
     (λ e. false-true (sym h ∙ divided-here b d e))
     (λ n. after-on b (d ++ 0x2F ∷ r) n ∙ after-divided d r (sym (divided-on b d n) ∙ h))
 
+-- A list with a `/` in it is divided.
 pub is-divided : (d r : List ℕ) → isDivided (d ++ 0x2F ∷ r) ≡ true
 is-divided d r = divided-append d (0x2F ∷ r) ∙ ap (λ (t : Bool). isDivided d || t) (divided-here 0x2F r refl) ∙ or-true (isDivided d)
 
+-- The first part of an undivided list is the list.
 pub first-whole : (d : List ℕ) → isDivided d ≡ false → firstPart d ≡ d
 unfolding firstPart
 first-whole [] h = refl
@@ -101,6 +112,7 @@ first-whole (b ∷ d) h =
     (λ e. false-true (sym h ∙ divided-here b d e))
     (λ n. first-on b d n ∙ ap (λ (l : List ℕ). b ∷ l) (first-whole d (sym (divided-on b d n) ∙ h)))
 
+-- Nothing is after the first part of an undivided list.
 pub after-whole : (d : List ℕ) → isDivided d ≡ false → afterPart d ≡ []
 unfolding afterPart
 after-whole [] h = refl
@@ -118,6 +130,7 @@ take-first (b ∷ c) =
     (λ e. rw (first-here b c e))
     (λ n. rw (first-on b c n) (ap (λ (l : List ℕ). b ∷ l) (take-first c)))
 
+-- The first part has no `/`.
 pub first-undivided : (c : List ℕ) → isDivided (firstPart c) ≡ false
 unfolding firstPart isDivided
 first-undivided [] = refl
@@ -126,6 +139,7 @@ first-undivided (b ∷ c) =
     (λ e. ap isDivided (first-here b c e))
     (λ n. ap isDivided (first-on b c n) ∙ divided-on b (firstPart c) n ∙ first-undivided c)
 
+-- The first part is no longer than the list.
 pub first-shorter : (c : List ℕ) → length (firstPart c) ≤ length c
 first-shorter c = omega (arith, ap length (take-first c), length-take (length (firstPart c)) c)
 
@@ -147,6 +161,7 @@ no-hex b h = rw (le-leb 0x30 b (omega arith), lt-leb b 0x39 (omega arith), le-le
 high : (b : ℕ) (s : List ℕ) → 0x80 ≤ b → isDivided s ≡ false → isDivided (b ∷ s) ≡ false
 high b s h e = divided-on b s (λ q. omega arith) ∙ e
 
+-- The encoding of a character other than `/` has no `/`.
 pub undivided-encode : (c : ℕ) → (c ≡ 0x2F → ⊥) → isDivided (encode c) ≡ false
 unfolding encode
 undivided-encode c n =
@@ -161,6 +176,7 @@ undivided-encode c n =
     last : isDivided ((0x80 + c % 64) ∷ []) ≡ false
     last = undivided-one _ (λ q. omega arith)
 
+-- The encoding of `/` is that one byte.
 pub encode-divider : encode 0x2F ≡ 0x2F ∷ []
 unfolding encode
 encode-divider = refl
@@ -170,6 +186,7 @@ every-high : (c b : ℕ) (s : List ℕ) → 0x80 ≤ c → 0x80 ≤ b → every 
 unfolding every
 every-high c b s h k = rw (no-hex b k, no-hex c h)
 
+-- The encoding of a character is made of lower-case hexadecimal digits exactly if the character is one.
 pub hex-encode : (c : ℕ) → every isLowerHex (encode c) ≡ isLowerHex c
 unfolding encode
 hex-encode c =
@@ -188,6 +205,7 @@ pub record Progress (c r : List ℕ) (n : ℕ) (hex : Bool) : Type 0 where
   pub size : n ≡ length done
   pub digits : hex ≡ every isLowerHex done
 
+-- At the start no byte is read and the whole content is left.
 pub start : (c : List ℕ) → Progress c c 0 true
 unfolding isDivided every
 start c = record { done = []; content = refl; undivided = refl; size = refl; digits = refl }
@@ -204,6 +222,7 @@ module _ (c r : List ℕ) (n : ℕ) (hex : Bool) (p : Progress c r n hex) where
     digits = rw (p .digits, h) (sym (every-append isLowerHex (p .done) b));
   }
 
+  -- Reading goes on over one byte that is no `/`.
   pub goes-on-byte : (b : ℕ) (q : List ℕ) → r ≡ b ∷ q → (b ≡ 0x2F → ⊥) → (t : Bool) → t ≡ isLowerHex b → Progress c q (n + 1) (hex && t)
   goes-on-byte b q e u t h = goes-on (b ∷ []) q e (undivided-one b u) 1 refl t (h ∙ sym (every-one b))
 
@@ -216,6 +235,7 @@ module _ (c r : List ℕ) (n : ℕ) (hex : Bool) (p : Progress c r n hex) where
     whole : c ≡ p .done ++ 0x2F ∷ q
     whole = p .content ∙ ap (λ (l : List ℕ). p .done ++ l) e ∙ ap (λ (x : ℕ). p .done ++ x ∷ q) d
 
+    -- At a `/` what is counted of the bytes read is what is counted of the first part, which is not the last.
     pub counts-divided : (next : ℕ) → Counts c (record { next = next; length = n; hex = hex; last = false })
     counts-divided next =
         let f : firstPart c ≡ p .done = ap firstPart whole ∙ first-divided (p .done) q (p .undivided) in
@@ -225,6 +245,7 @@ module _ (c r : List ℕ) (n : ℕ) (hex : Bool) (p : Progress c r n hex) where
           last = sym (ap not (ap isDivided whole ∙ is-divided (p .done) q));
         }
 
+    -- What follows that `/` is what is after the first part.
     pub rest-divided : q ≡ afterPart c
     rest-divided = sym (ap afterPart whole ∙ after-divided (p .done) q (p .undivided))
 
@@ -233,6 +254,7 @@ module _ (c r : List ℕ) (n : ℕ) (hex : Bool) (p : Progress c r n hex) where
     all-read : c ≡ p .done
     all-read = p .content ∙ ap (λ (l : List ℕ). p .done ++ l) e ∙ append-nil (p .done)
 
+    -- At the end what is counted of the bytes read is what is counted of the first part, which is the last.
     pub counts-last : (next : ℕ) → Counts c (record { next = next; length = n; hex = hex; last = true })
     counts-last next =
         let f : firstPart c ≡ p .done = ap firstPart all-read ∙ first-whole (p .done) (p .undivided) in
@@ -242,11 +264,13 @@ module _ (c r : List ℕ) (n : ℕ) (hex : Bool) (p : Progress c r n hex) where
           last = sym (ap not (ap isDivided all-read ∙ p .undivided));
         }
 
+    -- What is left at the end is what is after the first part.
     pub rest-last : r ≡ afterPart c
     rest-last = e ∙ sym (ap afterPart all-read ∙ after-whole (p .done) (p .undivided))
 
 -- What one step over a string's content takes of it: the character of an escape, or a byte that stands for itself.
 module _ (s : List ℕ) (k : ℕ) (p : Inside s k) where
+  -- An escape at the position is taken as the character that it stands for, with the bytes of its encoding.
   pub char-escaped : (next scalar n : ℕ) → Escapes s k next scalar → n ≡ length (encode scalar)
       → CharAt s k (record { next = next; scalar = scalar; length = n })
   char-escaped next scalar n e f =
@@ -263,6 +287,7 @@ module _ (s : List ℕ) (k : ℕ) (p : Inside s k) where
         hex = hex-encode scalar;
       }
 
+  -- A byte at the position that is neither a quotation mark nor a backslash is taken as one byte.
   pub char-byte : (getD s k 0 ≡ 0x22 → ⊥) → (getD s k 0 ≡ 0x5C → ⊥)
       → CharAt s k (record { next = k + 1; scalar = getD s k 0; length = 1 })
   char-byte a b =
@@ -288,11 +313,13 @@ module _ (s : List ℕ) (i k n : ℕ) (hex : Bool) (p : Progress (contentFrom s 
       record { counts = counts-last _ _ _ _ p f k; inside = h; rest = rest-last _ _ _ _ p f }
 
   module _ (u : Char) (x : CharAt s k u) where
+    -- At a character that is a `/` the part is read, and the next one begins after that character.
     pub at-divider : u .scalar ≡ 0x2F → PartAt s i (record { next = u .next; length = n; hex = hex; last = false })
     at-divider d =
         let f : contentFrom s k ≡ 0x2F ∷ contentFrom s (u .next) = x .begins ∙ ap (λ (l : List ℕ). l ++ contentFrom s (u .next)) (x .divides d) in
         record { counts = counts-divided _ _ _ _ p _ _ f refl (u .next); inside = x .inside; rest = rest-divided _ _ _ _ p _ _ f refl }
 
+    -- Reading goes on over a character that is no `/`, by the bytes that it has.
     pub over-char : (u .scalar ≡ 0x2F → ⊥) → (t : Bool) → t ≡ isLowerHex (u .scalar)
         → Progress (contentFrom s i) (contentFrom s (u .next)) (n + u .length) (hex && t)
     over-char d t e = goes-on _ _ _ _ p (x .bytes) _ (x .begins) (x .no-divider d) (u .length) (x .size) t (e ∙ sym (x .hex))
@@ -306,6 +333,7 @@ module _ (s : List ℕ) (i k n : ℕ) (hex : Bool) (p : Progress (contentFrom s 
 pub is-same : (xs ys : List ℕ) → xs ≡ ys → true ≡ same xs ys
 is-same xs ys e = sym (ap (same xs) (sym e) ∙ same-refl xs)
 
+-- Two lists that are not equal fail the test `same`.
 pub not-same : (xs ys : List ℕ) → (xs ≡ ys → ⊥) → false ≡ same xs ys
 not-same xs ys n = by-test (same xs ys) (λ e. absurd (n (same-eq xs ys e))) (λ e. sym e)
 
@@ -336,6 +364,7 @@ module _ (c r name : List ℕ) (k : ℕ) (e : c ≡ take k name ++ r) where
           ∙ ap (λ (x : ℕ). (take k name ++ (x ∷ [])) ++ q) g
           ∙ ap (λ (l : List ℕ). l ++ q) (sym (ap (λ (n : ℕ). take n name) (add-one k) ∙ take-suc name k 0 h))
 
+      -- Where the next byte is not that of the name, the content does not begin with the name.
       pub next-differs : (b ≡ getD name k 0 → ⊥) → false ≡ same (take (length name) c) name
       next-differs n =
           not-same (take (length name) c) name
@@ -347,12 +376,15 @@ module _ (c r name : List ℕ) (k : ℕ) (e : c ≡ take k name ++ r) where
 pub next-plain : (s : List ℕ) (i k : ℕ) → i + k < length s → drop k (drop i s) ≡ getD s (i + k) 0 ∷ drop (k + 1) (drop i s)
 next-plain s i k h =
     let e : i + k + 1 ≡ i + (k + 1) = omega arith in
-    drop-drop k i s ∙ drop-next s (i + k) h ∙ ap (λ (n : ℕ). getD s (i + k) 0 ∷ drop n s) e ∙ ap (λ (l : List ℕ). getD s (i + k) 0 ∷ l) (sym (drop-drop (k + 1) i s))
+    drop-drop k i s ∙ drop-next s (i + k) h ∙ ap (λ (n : ℕ). getD s (i + k) 0 ∷ drop n s) e
+    ∙ ap (λ (l : List ℕ). getD s (i + k) 0 ∷ l) (sym (drop-drop (k + 1) i s))
 
 -- the first part is a name of its length where the content begins with it
 module _ (c name : List ℕ) where
+  -- A content begins with a name of its first part's length exactly if that part is the name.
   pub as-begins : length name ≡ length (firstPart c) → same (take (length name) c) name ≡ same (firstPart c) name
   as-begins e = ap (λ (l : List ℕ). same l name) (ap (λ (n : ℕ). take n c) e ∙ take-first c)
 
+  -- A first part of another length than the name is not the name.
   pub other-length : (length (firstPart c) ≡ length name → ⊥) → false ≡ same (firstPart c) name
   other-length n = not-same (firstPart c) name (λ q. n (ap length q))

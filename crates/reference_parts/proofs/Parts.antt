@@ -36,15 +36,19 @@ some-part c = by-test (isDivided c) (λ e. (firstPart c, parts (afterPart c), pa
 -- by what is counted of a part
 
 module _ (c : List ℕ) (p : Part) (k : Counts c p) where
+  -- A content whose first part is counted as the last has no `/`.
   pub is-last : p .last ≡ true → isDivided c ≡ false
   is-last e = not-true (isDivided c) (sym (k .last) ∙ e)
 
+  -- A content whose first part is counted as not the last has a `/`.
   pub is-not-last : p .last ≡ false → isDivided c ≡ true
   is-not-last e = not-false (isDivided c) (sym (k .last) ∙ e)
 
+  -- A content whose first part is counted as the last has one part, which is the content.
   pub last-parts : p .last ≡ true → parts c ≡ c ∷ []
   last-parts e = parts-last c (is-last e)
 
+  -- A content whose first part is counted as not the last has that part and the parts of what is after it.
   pub more-parts : (d : List ℕ) → d ≡ afterPart c → p .last ≡ false → parts c ≡ firstPart c ∷ parts d
   more-parts d r e = parts-more c (is-not-last e) ∙ ap (λ (x : List ℕ). firstPart c ∷ parts x) (sym r)
 

@@ -4,7 +4,7 @@ use mathlib.Core.List.{List, [], _∷_, _++_}
 use mathlib.Core.Bool.{Bool, true, false, _&&_}
 use lib.Dec.{eqb, leb}
 use lib.ListN.{length, take}
-use Rattle.text_json.specs.Measure.{every, isNot, isUnmarked}
+use Rattle.text_chars.specs.Measure.{every, isNot, isUnmarked}
 
 -- some `/` is there
 unfoldable pub isDivided : List ℕ → Bool

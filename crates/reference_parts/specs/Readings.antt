@@ -4,7 +4,7 @@ use mathlib.Core.Path.{_≡_}
 use mathlib.Core.List.{List, [], _∷_, _++_}
 use mathlib.Core.Bool.{false, not}
 use lib.ListN.{length, drop}
-use Rattle.text_json.specs.Measure.{every}
+use Rattle.text_chars.specs.Measure.{every}
 use Rattle.text_strings.specs.InString.{Inside, contentFrom}
 use Rattle.reference_parts.specs.Hex.{isLowerHex}
 use Rattle.reference_parts.specs.Parts.{isDivided, firstPart, afterPart}

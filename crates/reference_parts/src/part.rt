@@ -4,7 +4,7 @@ ghost use mathlib.Core.List.{List, _++_};
 ghost use Prim.Native.Nat.{ℕ, _≤_, _+_};
 ghost use lib.ListN.{length, take, drop, getD};
 ghost use Rattle.laws.specs.Order.{same};
-ghost use Rattle.text_json.specs.Measure.{every};
+ghost use Rattle.text_chars.specs.Measure.{every};
 ghost use Rattle.text_strings.specs.Cursor.{Left, Readable};
 ghost use Rattle.text_strings.specs.InString.{Inside, contentFrom};
 ghost use Rattle.reference_parts.specs.Hex.{isLowerHex};
@@ -41,7 +41,7 @@ fn undivided16(s: &[u8], at: usize) -> bool
     if s.len() - at < 16 {
         return false;
     }
-    text_json::string::unmarked16(s, at) & text_json::string::none_is(s, at, b'/')
+    text_chars::unmarked16(s, at) & text_chars::none_is(s, at, b'/')
 }
 
 // The sixteen bytes at `at` are lower-case hexadecimal digits.
@@ -162,7 +162,8 @@ fn begins(s: &[u8], i: usize, name: &[u8]) -> bool
 // The same from byte `at` of the name on, for a content whose bytes before the cursor are those of the name.
 fn cursor_begins(s: &[u8], from: Cursor, name: &[u8], at: usize) -> bool
     requires { ⌜ Readable (now s) from ⌝ }
-    ensures { λ r. ⌜ ((c d : List ℕ) → Left (now (s .entry)) from d → c ≡ take at (now (name .entry)) ++ d → r ≡ same (take (length (now (name .entry))) c) (now (name .entry))) ⌝ }
+    ensures { λ r. ⌜ ((c d : List ℕ) → Left (now (s .entry)) from d → c ≡ take at (now (name .entry)) ++ d
+        → r ≡ same (take (length (now (name .entry))) c) (now (name .entry))) ⌝ }
 {
     let mut c = from;
     let mut k = at;

@@ -50,6 +50,7 @@ Answers line buffer used number new-used after =
     (number ≡ lineNumber line buffer used) × ((new-used ≡ lineUsed line buffer used) × (after ≡ lineBytes line buffer used))
 
 module _ (line buffer : List ℕ) (used : ℕ) where
+  -- A line that is too long is answered 1, and the used count and the buffer stay.
   pub long-answer : mostLine < length line → Answers line buffer used 1 used buffer
   long-answer h =
       let n : lineNumber line buffer used ≡ 1 = long-number line buffer used h in
@@ -60,6 +61,7 @@ module _ (line buffer : List ℕ) (used : ℕ) where
     same-number : loadNumber id manifest buffer used ≡ lineNumber line buffer used
     same-number = rw (i, m) (sym (short-number line buffer used h))
 
+    -- A line whose load gives 0 is answered 0, with the used count and the buffer of the load.
     pub loaded-answer : (n new : ℕ) (after : List ℕ) → n ≡ loadNumber id manifest buffer used → n ≡ 0 → new ≡ loadUsed id manifest buffer used
         → after ≡ loadBytes id manifest buffer used → Answers line buffer used 0 new after
     loaded-answer n new after e z u b =
@@ -69,6 +71,7 @@ module _ (line buffer : List ℕ) (used : ℕ) where
         let same-bytes : loadBytes id manifest buffer used ≡ loadBytes (idPart line) (manifestPart line) buffer used = rw (i, m) in
         (sym zero-number, (u ∙ same-used ∙ sym (r .0), b ∙ same-bytes ∙ sym (r .1)))
 
+    -- A line whose load is refused is answered the number of the load, and the used count stays.
     pub refused-answer : (n : ℕ) (after : List ℕ) → n ≡ loadNumber id manifest buffer used → (n ≡ 0 → ⊥) → after ≡ loadBytes id manifest buffer used
         → Answers line buffer used n used after
     refused-answer n after e z b =

@@ -23,10 +23,12 @@ module _ (line : List ℕ) (r : ℕ) (e : r ≡ 0 + length (before 0x20 line)) w
   found : r ≡ length (before 0x20 line)
   found = omega arith
 
+  -- The bytes before the first space are the Image ID of the line.
   pub id-taken : take r line ≡ idPart line
   unfolding idPart
   id-taken = rw found (sym (before-take 0x20 line))
 
+  -- The bytes after the first space are the manifest of the line, none where there is no space.
   pub manifest-left : (p : ℕ) → p ≡ min (r + 1) (length line) → drop p line ≡ manifestPart line
   unfolding manifestPart
   manifest-left p q = drop-least (r + 1) p line q ∙ ap (λ (k : ℕ). drop k line) (add-one r ∙ ap suc found) ∙ sym (after-drop 0x20 line)

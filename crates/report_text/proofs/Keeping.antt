@@ -44,6 +44,7 @@ module _ (kept : List ℕ) (n : ℕ) (h : n ≤ length kept) (more : List ℕ) (
       ap (λ (j : ℕ). take j (take n kept ++ more)) s ∙ take-append-add (take n kept) more (length kept - n)
       ∙ ap (λ (l : List ℕ). take n kept ++ l) (take-least (length kept - n) k more e)
 
+  -- The number of bytes that are kept is the number before and the number of new ones that there is space for.
   pub kept-size : length (lineKept kept n more) ≡ n + k
   kept-size =
       let g : k ≤ length more = omega arith in

@@ -18,22 +18,27 @@ module _ (x : ℕ) where
   unfolding before
   before-here b s e = rw (e, before)
 
+  -- Where the first byte is no x, before the first x come that byte and those before the first x of the rest.
   pub before-next : (b : ℕ) (s : List ℕ) → eqb b x ≡ false → before x (b ∷ s) ≡ b ∷ before x s
   unfolding before
   before-next b s e = rw (e, before)
 
+  -- Where the first byte is an x, the rest comes after it.
   pub after-here : (b : ℕ) (s : List ℕ) → eqb b x ≡ true → after x (b ∷ s) ≡ s
   unfolding after
   after-here b s e = rw (e, after)
 
+  -- Where the first byte is no x, after the first x come the bytes after the first x of the rest.
   pub after-next : (b : ℕ) (s : List ℕ) → eqb b x ≡ false → after x (b ∷ s) ≡ after x s
   unfolding after
   after-next b s e = rw (e, after)
 
+  -- A list whose first byte is an x has one.
   pub has-here : (b : ℕ) (s : List ℕ) → eqb b x ≡ true → has x (b ∷ s) ≡ true
   unfolding has
   has-here b s e = rw (e, has)
 
+  -- A list whose first byte is no x has one exactly if the rest has.
   pub has-next : (b : ℕ) (s : List ℕ) → eqb b x ≡ false → has x (b ∷ s) ≡ has x s
   unfolding has
   has-next b s e = rw (e, has)
@@ -82,13 +87,16 @@ module _ (x : ℕ) where
 
 -- At a place of a text: how many bytes come before the first x.
 module _ (x : ℕ) (s : List ℕ) (i : ℕ) where
+  -- At an x, no byte comes before the first x.
   pub found-here : i < length s → getD s i 0 ≡ x → length (before x (drop i s)) ≡ 0
   found-here h e = ap (λ (l : List ℕ). length (before x l)) (drop-cons s i 0 h) ∙ ap length (before-here x _ _ (eq-eqb _ _ e))
 
+  -- At any other byte, one more byte comes before the first x than from the next position on.
   pub found-later : i < length s → (getD s i 0 ≡ x → ⊥) → length (before x (drop i s)) ≡ suc (length (before x (drop (i + 1) s)))
   found-later h n =
       ap (λ (l : List ℕ). length (before x l)) (drop-cons s i 0 h) ∙ ap length (before-next x _ _ (ne-eqb _ _ n))
       ∙ ap (λ (k : ℕ). suc (length (before x (drop k s)))) (sym (add-one i))
 
+  -- At the end of the text or past it, no byte comes before the first x.
   pub found-never : length s ≤ i → length (before x (drop i s)) ≡ 0
   found-never h = omega (arith, before-within x (drop i s), length-drop i s)

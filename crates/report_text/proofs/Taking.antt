@@ -48,13 +48,16 @@ module _ (kept : List ℕ) (n : ℕ) (part : List ℕ) (at : ℕ) (h : n ≤ len
 
 -- What is taken lies within the part and the buffer, and where the part is not at its end something is taken.
 module _ {kept : List ℕ} {n : ℕ} {part : List ℕ} {at : ℕ} {r : Taken} {kept′ : List ℕ} (t : Takes kept n part at r kept′) where
+  -- The position after what is taken lies within the part.
   pub taken-within : r .at ≤ length part
   taken-within = omega (arith, t .place)
 
+  -- No more bytes are kept of the line than the buffer has space for.
   pub taken-kept : r .length ≤ length kept
   unfolding lineKept
   taken-kept = omega (arith, t .size, length-take (length kept) (take n kept ++ before 0x0A (drop at part)))
 
+  -- Where the part is not at its end, the position after what is taken is a later one.
   pub taken-more : at < length part → at < r .at
   taken-more h =
       let after-size = length-drop (suc (length (before 0x0A (drop at part)))) (drop at part) in

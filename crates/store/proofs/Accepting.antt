@@ -26,7 +26,7 @@ use Rattle.store_record.specs.Store.{mostImages, storeOf, AllShaped, none-shape
 use Rattle.store_record.proofs.Sharing.{share-id-sym}
 use Rattle.store_record.proofs.Stores.{store-both}
 use Rattle.store_keys.specs.Clash.{clash, anyClash}
-use Rattle.store_clash.proofs.Clashing.{Single, clash-sym}
+use Rattle.store_conflict.proofs.Clashing.{Single, clash-sym}
 use Rattle.store_open.specs.Held.{isUnfit, areUnsound, isBroken, among}
 use Rattle.store.specs.Load.{imageOf, isNoId, noSpace, storeQuestions, imageQuestions, loadQuestions}
 use Rattle.store_open.proofs.Holding.{shaped-single, parts-sound, sound-parts}

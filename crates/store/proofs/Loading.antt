@@ -131,7 +131,8 @@ load-keeps id manifest buffer used b e =
     let k = load-accepted id manifest buffer used e xs h in
     let o = held-holds buffer used xs b h in
     let f = load-fits id manifest buffer used e xs h b in
-    let n : length (loadBytes id manifest buffer used) ≡ length buffer = ap length (bytes-accepted id manifest buffer used e) ∙ appended-length buffer used r f in
+    let n : length (loadBytes id manifest buffer used) ≡ length buffer = ap length (bytes-accepted id manifest buffer used e)
+    ∙ appended-length buffer used r f in
     let a = load-holds id manifest buffer used xs b h e in
     record {
       images = xs;

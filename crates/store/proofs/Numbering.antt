@@ -27,7 +27,7 @@ use Rattle.store_record.proofs.Records.{head-length, record-short}
 use Rattle.store_record.proofs.Stores.{store-read}
 use Rattle.store_keys.specs.Clash.{clash}
 use Rattle.store_keys.specs.Signed.{one}
-use Rattle.store_clash.proofs.Clashing.{Single, single, clash-form}
+use Rattle.store_conflict.proofs.Clashing.{Single, single, clash-form}
 use Rattle.store_open.specs.Held.{isBroken, among}
 use Rattle.store.specs.Load.{noSpace, storeQuestions}
 use Rattle.store.specs.Loading.{Readied}
@@ -61,6 +61,7 @@ module _ (a : Algorithm) (signer digest text : List ℕ) where
         record-length a signer digest text
         ∙ ap (λ (k : ℕ). k + length text) (head-length a signer digest (length text) (d .signer-size) (d .digest-size))
 
+    -- The head of a record and a text of at most 16,384 bytes have at most 16,484 bytes together.
     pub size-small : length text ≤ 16384 → headSize a (length text) + length text ≤ 16484
     size-small h =
         omega (
@@ -76,18 +77,22 @@ module _ (b : List ℕ) (bytes : (j : ℕ) → getD b j 0 < 256) (xs : List Imag
   free-is : (length b + left) - length (storeOf xs) ≡ left
   free-is = omega (arith, ap length (store-read mostImages b xs bytes e .0))
 
+  -- If a store holds 64 images or more, there is no space for another.
   pub too-many-held : mostImages ≤ length xs → noSpace (length b + left) xs x ≡ true
   unfolding noSpace
   too-many-held h = rw (le-leb mostImages (length xs) h)
 
+  -- If the record is longer than the bytes that are free, there is no space for it.
   pub record-too-long : left < length (recordOf x) → noSpace (length b + left) xs x ≡ true
   unfolding noSpace
   record-too-long h = rw (free-is, lt-ltb left (length (recordOf x)) h) (or-true (leb mostImages (length xs)))
 
+  -- If a store holds fewer than 64 images and the record is not longer than the bytes that are free, there is space for it.
   pub space-left : length xs < mostImages → length (recordOf x) ≤ left → noSpace (length b + left) xs x ≡ false
   unfolding noSpace
   space-left h l = rw (lt-leb mostImages (length xs) h, free-is) (le-ltb left (length (recordOf x)) l)
 
+-- The images of a store that could be read are those that were read.
 pub read-among : (b : List ℕ) (xs : List Image) → readRecords mostImages b ≡ some xs → among (readRecords mostImages b) ≡ xs
 unfolding among
 read-among b xs e = ap among e
@@ -97,25 +102,30 @@ module _ (size : ℕ) (images : Option (List Image)) (x : Image) where
   abbrev Number : ℕ → Type 0
   Number n = n ≡ lowest (storeQuestions size images x)
 
+  -- Of a store that is not well-formed the number is 11.
   pub number-11 : isBroken size images ≡ true → Number 11
   unfolding storeQuestions
   number-11 e = sym (asked-first _ _ e)
 
   module _ (sound : isBroken size images ≡ false) where
+    -- If the store is well-formed and the image has an ID of an image in it, the number is 12.
     pub number-12 : anyOf (shareId x) (among images) ≡ true → Number 12
     unfolding storeQuestions
     number-12 e = sym (asked-next _ _ sound ∙ asked-first _ _ e)
 
     module _ (other : anyOf (shareId x) (among images) ≡ false) where
+      -- If it has no such ID and clashes with an image in the store, the number is 13.
       pub number-13 : anyOf (clash x) (among images) ≡ true → Number 13
       unfolding storeQuestions
       number-13 e = sym (asked-next _ _ sound ∙ asked-next _ _ other ∙ asked-first _ _ e)
 
       module _ (apart : anyOf (clash x) (among images) ≡ false) where
+        -- If it clashes with none either and there is no space for it, the number is 14.
         pub number-14 : noSpace size (among images) x ≡ true → Number 14
         unfolding storeQuestions
         number-14 e = sym (asked-next _ _ sound ∙ asked-next _ _ other ∙ asked-next _ _ apart ∙ asked-first _ _ e)
 
+        -- If none of questions 11 to 14 applies, the number is 0.
         pub number-0 : noSpace size (among images) x ≡ false → Number 0
         unfolding storeQuestions
         number-0 e = sym (asked-none _ _ sound (asked-none _ _ other (asked-none _ _ apart (asked-none _ _ e nothing-asked))))
@@ -134,7 +144,8 @@ module _ (b : List ℕ) (bytes : (j : ℕ) → getD b j 0 < 256) (xs : List Imag
       (λ g. l .too-many t (eqb-true count mostImages g)
       ∙ number-14 _ _ x sound other (f ∙ t) (space-of ∙ too-many-held b bytes xs e left x (omega (arith, eqb-true count mostImages g))))
       (λ g. by-test (ltb left long)
-      (λ h. l .too-long t (ltb-true left long h) ∙ number-14 _ _ x sound other (f ∙ t) (space-of ∙ record-too-long b bytes xs e left x (omega (arith, ltb-true left long h))))
+      (λ h. l .too-long t (ltb-true left long h) ∙ number-14 _ _ x sound other (f ∙ t) (space-of
+      ∙ record-too-long b bytes xs e left x (omega (arith, ltb-true left long h))))
       (λ h. l .none t (eqb-false count mostImages g) (ltb-false left long h)
       ∙ number-0 _ _ x sound other (f ∙ t)
       (space-of ∙ space-left b bytes xs e left x (omega (arith, eqb-false count mostImages g)) (omega (arith, ltb-false left long h))))))

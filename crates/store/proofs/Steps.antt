@@ -30,7 +30,8 @@ use Rattle.store_record.specs.Store.{mostImages, storeOf, readRecords}
 use Rattle.store_record.proofs.Stores.{store-read}
 use Rattle.store_open.proofs.Holding.{first-bytes}
 use Rattle.store_open.specs.Held.{held, isBroken, among}
-use Rattle.store.specs.Load.{imageOf, isNoId, noSpace, storeQuestions, imageQuestions, loadQuestions, loadNumber, usedAfter, bytesAfter, loadUsed, loadBytes}
+use Rattle.store.specs.Load.{imageOf, isNoId, noSpace, storeQuestions, imageQuestions, loadQuestions, loadNumber, usedAfter, bytesAfter, loadUsed}
+use Rattle.store.specs.Load.{loadBytes}
 use Rattle.store.specs.Loading.{Loads}
 use Rattle.store_append.specs.Append.{imageWith, Fits}
 use Rattle.answer.specs.declared.Answer.{Answer}
@@ -76,7 +77,8 @@ module _ (x : Image) (buffer : List ℕ) (used : ℕ) where
           let j = none-asked _ _ (omega arith) (i .1) in
           let k = none-asked _ _ (omega arith) (j .1) in
           let l = none-asked _ _ (omega arith) (k .1) in
-          let s = ltb-false (length buffer - length (storeOf xs)) (length (recordOf x)) (or-none (leb mostImages (length xs)) (ltb (length buffer - length (storeOf xs)) (length (recordOf x))) (l .0) .1) in
+          let s = ltb-false (length buffer - length (storeOf xs)) (length (recordOf x))
+          (or-none (leb mostImages (length xs)) (ltb (length buffer - length (storeOf xs)) (length (recordOf x))) (l .0) .1) in
           let t = ap length (store-read mostImages (take used buffer) xs (first-bytes buffer used b) q .0) in
           omega (arith, length-take-le used buffer h)
 
@@ -101,6 +103,7 @@ module _ (size : ℕ) (images : Option (List Image)) (id text : List ℕ) where
     unfolding imageQuestions isNoId
     good-id = asked-next _ _ (rw e) ∙ ap (λ (x : Image). lowest (storeQuestions size images x)) image-is
 
+    -- Where the ID is of good form, what answers questions 11 to 14 of its image answers questions 10 to 14.
     pub image-loads : {buffer : List ℕ} {used : ℕ} {r : Answer} {after : List ℕ}
         → Loads (lowest (storeQuestions size images (imageWith a signer digest text))) (imageWith a signer digest text) buffer used r after
         → Loads (lowest (imageQuestions size images id text)) (imageOf id text) buffer used r after

@@ -1,10 +1,12 @@
 // Loading an image into a store: images in one buffer.
 use answer::Answer;
 use manifest::Checked;
+use manifest::MOST_NAMES;
 use manifest::Places;
 use reference::ImageIndex;
 use reference::id::Id;
 use reference_digests::algorithm::Algorithm;
+use text::MOST_BYTES;
 ghost use mathlib.Core.Path.{_≡_};
 ghost use mathlib.Core.Bool.{true};
 ghost use Prim.Native.Nat.{_+_};
@@ -24,9 +26,9 @@ pub fn load(id: &[u8], manifest: &[u8], store: &mut [u8], used: usize) -> Answer
     ensures { λ r. ⌜ r .value ≡ loadUsed (now (id .entry)) (now (manifest .entry)) (now (store .entry)) used ⌝ }
     ensures { λ _. ⌜ now (store .exit) ≡ loadBytes (now (id .entry)) (now (manifest .entry)) (now (store .entry)) used ⌝ }
 {
-    let mut sorted = [0u16; 4096];
-    let mut spare = [0u16; 4096];
-    let mut form = [0u8; 16384];
+    let mut sorted = [0u16; MOST_NAMES];
+    let mut spare = [0u16; MOST_NAMES];
+    let mut form = [0u8; MOST_BYTES];
     let written = text::canonical_with(manifest, &mut form, &mut sorted, &mut spare);
     let number = written.number;
     if number != 0 {
@@ -157,9 +159,9 @@ fn number_in(
     ensures { λ r. ⌜ r ≡ lowest (storeQuestions (length (now (b .entry)) + left) (readRecords mostImages (now (b .entry)))
         (imageWith a (now (signer .entry)) (now (digest .entry)) (now (text .entry)))) ⌝ }
 {
-    let mut at = [0usize; 4096];
-    let mut heads = [0u32; 4096];
-    let mut keys = [0u16; 16384];
+    let mut at = [0usize; MOST_NAMES];
+    let mut heads = [0u32; MOST_NAMES];
+    let mut keys = [0u16; MOST_BYTES];
     let opened = store_open::open(b, &mut at, sorted, spare, &mut heads, &mut keys);
     if !opened.sound {
         return 11;

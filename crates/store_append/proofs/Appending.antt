@@ -14,13 +14,16 @@ use Rattle.store_append.specs.Append.{appended, imageWith}
 
 -- The record of an image is its head and then its text.
 module _ (a : Algorithm) (signer digest text : List ℕ) where
+  -- The bytes of the record are those of the head for a text of that length, and then those of the text.
   pub record-parts : recordOf (imageWith a signer digest text) ≡ headOf (image-id a signer digest) (length text) ++ text
   record-parts = head-record (image-id a signer digest) text
 
+  -- The length of the record is that of the head and that of the text together.
   pub record-length : length (recordOf (imageWith a signer digest text)) ≡ length (headOf (image-id a signer digest) (length text)) + length text
   record-length = ap length record-parts ∙ length-append (headOf (image-id a signer digest) (length text)) text
 
 module _ (buffer : List ℕ) (used : ℕ) (within : used ≤ length buffer) where
+  -- Of a buffer that is long enough, the first `used` bytes are `used` in number.
   pub first-length : length (take used buffer) ≡ used
   first-length = length-take-le used buffer within
 

@@ -13,7 +13,7 @@ pub fn number_left(a: Algorithm, size: usize, count: usize, left: usize, clashin
     if clashing {
         return 13;
     }
-    if count == 64 {
+    if count == store_record::MOST_IMAGES {
         return 14;
     }
     if left < store_write::head_size(a, size) + size {

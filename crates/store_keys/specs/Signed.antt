@@ -8,7 +8,7 @@ use Rattle.laws.specs.Order.{same}
 use Rattle.reference_digests.specs.Algorithms.{byteOf}
 use Rattle.reference_digests.specs.declared.algorithm.Algorithm.{Algorithm}
 use Rattle.reference.specs.References.{Id, image-id, no-id}
-use Rattle.manifest_names.specs.Contents.{shareName}
+use Rattle.manifest_heads.specs.Contents.{shareName}
 use Rattle.manifest.specs.Manifest.{selfNames, contents}
 use Rattle.manifest.specs.Names.{conflict}
 use Rattle.store_record.specs.Image.{Image}

@@ -71,7 +71,7 @@ module _ (b at : List ℕ) (first n : ℕ) (before : List ℕ) where
 
 -- the numbers of the first i images are in the index, which has n, in an array of that size
 pub record IndexedTo (b at counts : List ℕ) (size i n : ℕ) (order : List ℕ) : Type 0 where
-  pub room : length order ≡ size
+  pub space : length order ≡ size
   pub few : n ≤ 64 * i
   pub index : NameIndex b at (numbersOf counts i) (take n order)
 
@@ -79,7 +79,7 @@ module _ (b at counts : List ℕ) where
   -- At first the index is empty.
   pub indexed-none : (order : List ℕ) → IndexedTo b at counts (length order) 0 0 order
   unfolding numbersOf
-  indexed-none order = record { room = refl; few = omega arith; index = no-names b at }
+  indexed-none order = record { space = refl; few = omega arith; index = no-names b at }
 
   -- The numbers of one more image are added.
   pub indexed-next : (size i n : ℕ) (order : List ℕ) → IndexedTo b at counts size i n order → getD counts i 0 ≤ 64 → (r : ℕ) (after : List ℕ)
@@ -89,7 +89,7 @@ module _ (b at counts : List ℕ) where
   unfolding numbersOf
   indexed-next size i n order p h r after e l f =
       record {
-        room = l ∙ p .room;
+        space = l ∙ p .space;
         few = omega (arith, p .few);
         index = subst (λ (m : ℕ). NameIndex b at (numbersOf counts m) (take r after)) (sym (add-one i)) (f (numbersOf counts i) (p .index));
       }

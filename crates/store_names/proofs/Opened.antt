@@ -20,4 +20,4 @@ any-default xs k d h e =
 -- The manifest of the record at an index is opened by the places there.
 pub opened-at : (b : List ℕ) (v : Survey) (places : List Places) → OpenedStore b v places → (k : ℕ) → k < v .count → (d : Places)
     → Opens (between b (getD (v .records) k noRecord .text) (getD (v .records) k noRecord .end)) (getD places k d)
-opened-at b v places o k h d = rw (any-default places k noPlaces (omega (arith, o .room, o .fills .few)) d) (o .opens k h)
+opened-at b v places o k h d = rw (any-default places k noPlaces (omega (arith, o .space, o .fills .few)) d) (o .opens k h)

@@ -39,7 +39,7 @@ module _ (m : ℕ) (l part : List ℕ) (h : m ≤ length l) where
 module _ (b : List ℕ) (v : Survey) (at counts : List ℕ) where
   -- At first no image's aliases are asked for.
   pub placed-none : length at ≡ 4096 → length counts ≡ 64 → PlacedUpTo 0 b v at counts
-  placed-none h k = record { at-room = h; counts-room = k; few = λ i l. absurd (omega arith); each = λ i l. absurd (omega arith) }
+  placed-none h k = record { at-space = h; counts-space = k; few = λ i l. absurd (omega arith); each = λ i l. absurd (omega arith) }
 
   module _ (i : ℕ) (s : PlacedUpTo i b v at counts) (h : i < 64) (n : ℕ) (part : List ℕ) (few : n ≤ mostNames)
       (size : length part + mostNames * i ≡ length at) where
@@ -47,7 +47,7 @@ module _ (b : List ℕ) (v : Survey) (at counts : List ℕ) where
     after = take (mostNames * i) at ++ part
 
     fits : mostNames * i ≤ length at
-    fits = omega (arith, s .at-room)
+    fits = omega (arith, s .at-space)
 
     -- the number and the positions of an image that came before
     count-before : (k : ℕ) → k < i → getD (set counts i n) k 0 ≡ getD counts k 0
@@ -58,7 +58,7 @@ module _ (b : List ℕ) (v : Survey) (at counts : List ℕ) where
 
     -- and those of this image
     count-here : getD (set counts i n) i 0 ≡ n
-    count-here = getD-set-same counts i n 0 (omega (arith, s .counts-room))
+    count-here = getD-set-same counts i n 0 (omega (arith, s .counts-space))
 
     names-here : drop (mostNames * i) after ≡ part
     names-here = drop-at (take (mostNames * i) at) part (mostNames * i) (before-it (mostNames * i) at part fits)
@@ -67,8 +67,8 @@ module _ (b : List ℕ) (v : Survey) (at counts : List ℕ) where
         → PlacedUpTo (i + 1) b v after (set counts i n)
     placed-after o =
         record {
-          at-room = length-append (take (mostNames * i) at) part ∙ omega (arith, before-it (mostNames * i) at part fits, s .at-room);
-          counts-room = length-set counts i n ∙ s .counts-room;
+          at-space = length-append (take (mostNames * i) at) part ∙ omega (arith, before-it (mostNames * i) at part fits, s .at-space);
+          counts-space = length-set counts i n ∙ s .counts-space;
           few = λ k l. by-test (eqb k i)
               (λ e. rw (eqb-true k i e, count-here) few)
               (λ e. let g : k < i = omega (arith, eqb-false k i e) in rw (count-before k g) (s .few k g));
@@ -87,5 +87,5 @@ module _ (b : List ℕ) (v : Survey) (at counts : List ℕ) where
   placed-numbered n h s =
       record {
         few = s .few;
-        each = λ i l k m. names-number b at (mostNames * i) (getD counts i 0) _ (s .each i l) (omega (arith, s .few i l, s .at-room)) k m;
+        each = λ i l k m. names-number b at (mostNames * i) (getD counts i 0) _ (s .each i l) (omega (arith, s .few i l, s .at-space)) k m;
       }

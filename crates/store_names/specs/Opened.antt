@@ -12,6 +12,6 @@ use Rattle.store_record.specs.declared.Survey.{Survey}
 -- the records of v fill the bytes b, and `places` are what opening their manifests gives
 pub record OpenedStore (b : List ℕ) (v : Survey) (places : List Places) : Type 0 where
   pub fills : Fills b v
-  pub room : length places ≡ mostImages
+  pub space : length places ≡ mostImages
   pub opens :
       (k : ℕ) → k < v .count → Opens (between b (getD (v .records) k noRecord .text) (getD (v .records) k noRecord .end)) (getD places k noPlaces)

@@ -15,12 +15,13 @@ mostNames = 64
 
 -- so far as image n, `counts` says how many aliases an image has, and `at` has their positions in the bytes b
 pub record PlacedUpTo (n : ℕ) (b : List ℕ) (v : Survey) (at counts : List ℕ) : Type 0 where
-  pub at-room : length at ≡ mostImages * mostNames
-  pub counts-room : length counts ≡ mostImages
+  pub at-space : length at ≡ mostImages * mostNames
+  pub counts-space : length counts ≡ mostImages
   pub few : (k : ℕ) → k < n → getD counts k 0 ≤ mostNames
   pub each :
       (k : ℕ) → k < n
-      → NamesIn b (take (getD counts k 0) (drop (mostNames * k) at)) (selfNames (between b (getD (v .records) k noRecord .text) (getD (v .records) k noRecord .end)))
+      → NamesIn b (take (getD counts k 0) (drop (mostNames * k) at))
+      (selfNames (between b (getD (v .records) k noRecord .text) (getD (v .records) k noRecord .end)))
 
 -- so far as image n, a name stands at the position of each alias
 pub record Numbered (n : ℕ) (b at counts : List ℕ) : Type 0 where

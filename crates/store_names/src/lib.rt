@@ -1,6 +1,7 @@
 // The `self` aliases of all images of a store in one index, by their numbers: alias k of image i has the number 64 * i + k.
 use manifest::Places;
 use reference::ImageIndex;
+use store_record::MOST_IMAGES;
 use store_record::Survey;
 ghost use mathlib.Core.Path.{_≡_};
 ghost use mathlib.Core.List.{List};
@@ -14,7 +15,7 @@ ghost use Rattle.store_names.specs.Placed.{withNumbers, numbersOf, Numbe
 pub fn place_all(
     b: &[u8],
     v: Survey,
-    places: [Places; 64],
+    places: [Places; MOST_IMAGES],
     own: &mut [u16],
     at: &mut [usize],
     counts: &mut [u16],

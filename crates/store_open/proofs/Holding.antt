@@ -14,7 +14,7 @@ use Rattle.store_record.specs.Image.{Image}
 use Rattle.store_record.specs.Ids.{idTwice}
 use Rattle.store_record.specs.Store.{mostImages, storeOf, AllShaped, readRecords}
 use Rattle.store_keys.specs.Clash.{anyClash}
-use Rattle.store_clash.proofs.Clashing.{Single, single}
+use Rattle.store_conflict.proofs.Clashing.{Single, single}
 use Rattle.store_open.specs.Held.{isUnfit, tooMany, areUnsound, isBroken, held}
 use Rattle.reference.specs.References.{Id}
 use Rattle.store_record.specs.Record.{Shaped}
@@ -94,12 +94,13 @@ module _ (buffer : List ℕ) (used : ℕ) (xs : List Image) where
   used-is h = sym (length-take-le used buffer (h .within)) ∙ ap length (h .bytes)
 
 -- How large a buffer that holds the records is makes no difference to whether they are a store.
-pub room-broken :
+pub space-broken :
     (b : List ℕ) → ((j : ℕ) → getD b j 0 < 256) → (size : ℕ) → length b ≤ size
     → isBroken size (readRecords mostImages b) ≡ isBroken (length b) (readRecords mostImages b)
-room-broken b bytes size h = by-images (readRecords mostImages b) refl
+space-broken b bytes size h = by-images (readRecords mostImages b) refl
   where
-    by-images : (o : Option (List Image)) → readRecords mostImages b ≡ o → isBroken size (readRecords mostImages b) ≡ isBroken (length b) (readRecords mostImages b)
+    by-images : (o : Option (List Image)) → readRecords mostImages b ≡ o
+        → isBroken size (readRecords mostImages b) ≡ isBroken (length b) (readRecords mostImages b)
     by-images none e = unread-broken b size e ∙ sym (unread-broken b (length b) e)
     by-images (some xs) e = read-broken b size bytes h xs e ∙ sym (read-broken b (length b) bytes (omega arith) xs e)
 
@@ -114,4 +115,4 @@ module _ (buffer : List ℕ) (used : ℕ) (h : used ≤ length buffer) where
       → isBroken (length buffer) (held buffer used) ≡ isBroken (length (take used buffer)) (readRecords mostImages (take used buffer))
   broken-in-use bytes =
       let l : length (take used buffer) ≤ length buffer = omega (arith, length-take-le used buffer h) in
-      ap (isBroken (length buffer)) held-in-use ∙ room-broken (take used buffer) (first-bytes buffer used bytes) (length buffer) l
+      ap (isBroken (length buffer)) held-in-use ∙ space-broken (take used buffer) (first-bytes buffer used bytes) (length buffer) l

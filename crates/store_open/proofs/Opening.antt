@@ -45,6 +45,7 @@ textAt b r = between b (r .text) (r .end)
 
 -- What checking its manifest answers tells whether an image is fit.
 module _ (b : List ℕ) (r : Record) {x : Checked} (a : Answers (textAt b r) x) where
+  -- An image whose manifest is refused is not fit.
   pub refused-unfit : {f : Fault} → x ≡ Refused f → isUnfit (heldIn b r) ≡ true
   unfolding isUnfit heldIn
   refused-unfit {f} e =
@@ -52,10 +53,12 @@ module _ (b : List ℕ) (r : Record) {x : Checked} (a : Answers (textAt b r) x) 
       rw (ne-eqb (manifestTextNumber (textAt b r)) 0 (λ z. omega (arith, fault-positive f, n))) (or-true (not (isCanonical (textAt b r))))
 
   module _ {n : ℕ} {c : Bool} {p : Places} (e : x ≡ Good n c p) where
+    -- An image whose manifest is good but not in canonical form is not fit.
     pub other-unfit : c ≡ false → isUnfit (heldIn b r) ≡ true
     unfolding isUnfit heldIn
     other-unfit f = rw (sym (subst (Answers (textAt b r)) e a .tells .1) ∙ f)
 
+    -- An image whose manifest is good and in canonical form is fit.
     pub good-fit : c ≡ true → isUnfit (heldIn b r) ≡ false
     unfolding isUnfit heldIn
     good-fit t =
@@ -65,15 +68,16 @@ module _ (b : List ℕ) (r : Record) {x : Checked} (a : Answers (textAt b r) x) 
 -- The manifests of the first i records are opened.
 pub record OpenedTo (b : List ℕ) (v : Survey) (places : List Places) (i : ℕ) : Type 0 where
   pub fit : anyOf isUnfit (imagesIn b v) ≡ anyOf isUnfit (drop i (imagesIn b v))
-  pub room : length places ≡ mostImages
+  pub space : length places ≡ mostImages
   pub each : (k : ℕ) → k < i → Opens (textAt b (getD (v .records) k noRecord)) (getD places k noPlaces)
 
 -- what is answered of all manifests
 abbrev pub Fitting : List ℕ → Survey → Bool → List Places → Type 0
 Fitting b v all places = (all ≡ not (anyOf isUnfit (imagesIn b v))) × (all ≡ true → OpenedStore b v places)
 
+-- At the start no manifest is opened.
 pub nothing-opened : (b : List ℕ) (v : Survey) (places : List Places) → length places ≡ mostImages → OpenedTo b v places 0
-nothing-opened b v places h = record { fit = refl; room = h; each = λ k l. absurd (omega arith) }
+nothing-opened b v places h = record { fit = refl; space = h; each = λ k l. absurd (omega arith) }
 
 module _ (b : List ℕ) (v : Survey) (fits : v .count ≤ length (v .records)) (places : List Places) (i : ℕ) (p : OpenedTo b v places i) where
   module _ (h : i < v .count) where
@@ -86,18 +90,18 @@ module _ (b : List ℕ) (v : Survey) (fits : v .count ≤ length (v .records)) (
         isUnfit (heldIn b (getD (v .records) i noRecord)) ≡ false → v .count ≤ mostImages
         → (q : Places) → Opens (textAt b (getD (v .records) i noRecord)) q → OpenedTo b v (set places i q) (i + 1)
     one-opened t few q o =
-        record { fit = p .fit ∙ any-next b v fits i h isUnfit t; room = length-set places i q ∙ p .room; each = λ k l. at k l (decLt k i) }
+        record { fit = p .fit ∙ any-next b v fits i h isUnfit t; space = length-set places i q ∙ p .space; each = λ k l. at k l (decLt k i) }
       where
         at : (k : ℕ) → k < i + 1 → Dec (k < i) → Opens (textAt b (getD (v .records) k noRecord)) (getD (set places i q) k noPlaces)
         at k l (yes m) = rw (getD-set-other places i k q noPlaces (λ e. omega arith)) (p .each k m)
         at k l (no m) =
             let f : k ≡ i = omega arith in
-            rw f (rw (getD-set-same places i q noPlaces (omega (arith, p .room))) o)
+            rw f (rw (getD-set-same places i q noPlaces (omega (arith, p .space))) o)
 
   -- no record is left
   pub all-opened : Fills b v → v .count ≤ i → Fitting b v true places
   all-opened f h =
-      (sym (ap not (p .fit ∙ any-image-end b v fits i isUnfit h)), λ t. record { fills = f; room = p .room; opens = λ k l. p .each k (omega arith) })
+      (sym (ap not (p .fit ∙ any-image-end b v fits i isUnfit h)), λ t. record { fills = f; space = p .space; opens = λ k l. p .each k (omega arith) })
 
 module _ (xs : List Image) {t : Bool} (e : t ≡ idTwice xs) where
   -- Images are not apart where an ID stands twice.
@@ -128,6 +132,7 @@ module _ (b : List ℕ) (size : ℕ) where
 abbrev pub Sounding : List ℕ → Survey → Bool → List Places → Type 0
 Sounding b v sound places = (sound ≡ not (isBroken (length b) (readRecords mostImages b))) × (sound ≡ true → OpenedStore b v places)
 
+-- Of bytes that no records fill, the right answer is that they are no well-formed store.
 pub unread-sound : (b : List ℕ) (v : Survey) (places : List Places) → readRecords mostImages b ≡ none → Sounding b v false places
 unread-sound b v places e = (sym (ap not (unread-broken b (length b) e)), λ f. false-true f)
 
@@ -136,12 +141,15 @@ module _ (b : List ℕ) (bytes : (j : ℕ) → getD b j 0 < 256) (v : Survey) (f
   broken-is = read-broken b (length b) bytes (omega arith) (imagesIn b v) (f .images)
 
   -- where a manifest is not fit, and where all are
-  by-fit : {t : Bool} → anyOf isUnfit (imagesIn b v) ≡ t → isBroken (length b) (readRecords mostImages b) ≡ (t || (idTwice (imagesIn b v) || anyClash (imagesIn b v)))
+  by-fit : {t : Bool} → anyOf isUnfit (imagesIn b v) ≡ t → isBroken (length b) (readRecords mostImages b)
+      ≡ (t || (idTwice (imagesIn b v) || anyClash (imagesIn b v)))
   by-fit e = broken-is ∙ ap (λ (t : Bool). t || (idTwice (imagesIn b v) || anyClash (imagesIn b v))) e
 
+  -- Of a store with an image that is not fit, the right answer is that it is not well-formed.
   pub unfit-sound : all ≡ false → Sounding b v false places
   unfit-sound e = (sym (ap not (by-fit (not-false (anyOf isUnfit (imagesIn b v)) (sym (g .0) ∙ e)))), λ t. false-true t)
 
+  -- Of a store whose images are all fit, the right answer is whether no ID stands twice and no two images clash.
   pub apart-sound : all ≡ true → {t : Bool} → t ≡ not (idTwice (imagesIn b v) || anyClash (imagesIn b v)) → Sounding b v t places
   apart-sound e h = (h ∙ sym (ap not (by-fit (not-true (anyOf isUnfit (imagesIn b v)) (sym (g .0) ∙ e)))), λ t. g .1 e)
 

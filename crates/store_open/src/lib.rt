@@ -1,6 +1,7 @@
 // Whether the bytes of a buffer are a well-formed store, and what is found on the way.
 use manifest::Checked;
 use manifest::Places;
+use store_record::MOST_IMAGES;
 use store_record::Survey;
 ghost use mathlib.Core.Path.{_≡_};
 ghost use mathlib.Core.Bool.{true, false, not, _||_};
@@ -11,7 +12,7 @@ ghost use Rattle.manifest.specs.Names.{NameSpace};
 ghost use Rattle.store_record.specs.Ids.{idTwice};
 ghost use Rattle.store_record.specs.Store.{mostImages, readRecords};
 ghost use Rattle.store_keys.specs.Clash.{anyClash};
-ghost use Rattle.store_clash.specs.Lent.{ClashSpace};
+ghost use Rattle.store_conflict.specs.Lent.{ClashSpace};
 ghost use Rattle.store_record.specs.Reading.{Fills, imagesIn};
 ghost use Rattle.store_names.specs.Opened.{OpenedStore};
 ghost use Rattle.store_open.specs.Held.{isUnfit, isBroken};
@@ -19,14 +20,14 @@ ghost use Rattle.store_open.specs.Held.{isUnfit, isBroken};
 // The places in each manifest of a store, where all are canonical and good.
 pub struct Fit {
     pub all: bool,
-    pub places: [Places; 64],
+    pub places: [Places; MOST_IMAGES],
 }
 
 // A store's records and the places in its manifests, where it is well-formed.
 pub struct Opened {
     pub sound: bool,
     pub survey: Survey,
-    pub places: [Places; 64],
+    pub places: [Places; MOST_IMAGES],
 }
 
 // Opens each manifest of a store, until one is found that is not canonical or gets one of 1 to 9. What the arrays hold is overwritten.
@@ -35,7 +36,7 @@ fn open_all(b: &[u8], v: Survey, names: &mut [u16], spare: &mut [u16]) -> Fit
     ensures { λ r. ⌜ r .all ≡ not (anyOf isUnfit (imagesIn (now (b .entry)) v)) ⌝ }
     ensures { λ r. ⌜ (r .all ≡ true → OpenedStore (now (b .entry)) v (r .places)) ⌝ }
 {
-    let mut places = [Places::none(); 64];
+    let mut places = [Places::none(); MOST_IMAGES];
     let mut i = 0;
     while i < v.count {
         let r = v.records[i];
@@ -63,7 +64,7 @@ fn open_all(b: &[u8], v: Survey, names: &mut [u16], spare: &mut [u16]) -> Fit
 fn are_apart(
     b: &[u8],
     v: Survey,
-    places: [Places; 64],
+    places: [Places; MOST_IMAGES],
     at: &mut [usize],
     sorted: &mut [u16],
     spare: &mut [u16],
@@ -95,7 +96,7 @@ pub fn open(
 {
     let survey = Survey::of(b);
     let mut sound = survey.whole;
-    let mut places = [Places::none(); 64];
+    let mut places = [Places::none(); MOST_IMAGES];
     if sound {
         let fit = open_all(b, survey, sorted, spare);
         places = fit.places;

@@ -21,7 +21,8 @@ module _ (s : List ℕ) (r : Record) where
     pub has-parts : hasId (image-id a signer manifest) (heldIn s r)
         ≡ ((eqb (byteOf a) (byteOf (r .algorithm)) && same signer (between s (r .signer) (r .manifest))) && same manifest (between s (r .manifest) (r .text)))
     unfolding hasId heldIn sameId anyOf
-    has-parts = or-false _ ∙ sym (and-assoc (eqb (byteOf a) (byteOf (r .algorithm))) (same signer (between s (r .signer) (r .manifest))) (same manifest (between s (r .manifest) (r .text))))
+    has-parts = or-false _ ∙ sym (and-assoc (eqb (byteOf a) (byteOf (r .algorithm))) (same signer (between s (r .signer) (r .manifest)))
+        (same manifest (between s (r .manifest) (r .text))))
 
     module _ (b : Bool) (e : b ≡ (eqb (byteOf a) (byteOf (r .algorithm)) && same signer (between s (r .signer) (r .manifest)))) where
       -- It has not, if it is not signed by that signer.
@@ -33,7 +34,8 @@ module _ (s : List ℕ) (r : Record) where
       signed y = sym (has-parts ∙ ap (λ (t : Bool). t && same manifest (between s (r .manifest) (r .text))) (sym e ∙ y))
 
   -- A record's image shares its one ID with another image, if that has it.
-  pub shares-one : (y : Image) → shareId (heldIn s r) y ≡ hasId (image-id (r .algorithm) (between s (r .signer) (r .manifest)) (between s (r .manifest) (r .text))) y
+  pub shares-one : (y : Image) → shareId (heldIn s r) y ≡ hasId
+      (image-id (r .algorithm) (between s (r .signer) (r .manifest)) (between s (r .manifest) (r .text))) y
   unfolding shareId heldIn anyOf
   shares-one y = or-false _
 

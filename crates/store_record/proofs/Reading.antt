@@ -49,7 +49,7 @@ module _ (s : List ℕ) where
       ∙ drop-at (take n d) (take (j - (i + n)) (drop n d)) n (length-take-le n d (omega (arith, length-drop i s)))
       ∙ ap (take (j - (i + n))) (drop-drop n i s)
 
-module _ (s : List ℕ) (i end : ℕ) (room : i ≤ end) (within : end ≤ length s) where
+module _ (s : List ℕ) (i end : ℕ) (space : i ≤ end) (within : end ≤ length s) where
   -- there is no body in no bytes
   pub no-body : i ≡ end → ReadsBody s i end Missing
   unfolding between readBody
@@ -68,9 +68,11 @@ module _ (s : List ℕ) (i end : ℕ) (room : i ≤ end) (within : end ≤ lengt
 
     -- the algorithm is known, with digests of n bytes
     module _ (a : Algorithm) (known : numbered (getD s i 0) ≡ Is a) (n : ℕ) (size : n ≡ digestBytes a) where
+      -- If fewer bytes are left than two digests have, no body stands there.
       pub cut-body : end - (i + 1) < 2 * n → ReadsBody s i end Missing
       cut-body h = ap readBody start ∙ body-cut a (getD s i 0) (between s (i + 1) end) known (omega (arith, left))
 
+      -- If two digests fit into the bytes that are left, a body stands there: they follow the first byte, and then the text.
       pub whole-body : 2 * n ≤ end - (i + 1)
           → BodyAt s i end (record { algorithm = a; signer = i + 1; manifest = i + 1 + n; text = i + 1 + n + n; end = end })
       unfolding heldIn
@@ -118,7 +120,7 @@ rest-shorter (b ∷ s) n r e = by-size (decLt b 128) (λ m. rest-shorter s m r)
         let a = above b (readVarint s) n r (sym (read-on b s (omega arith)) ∙ e) in omega (arith, ih (a .rest) (a .read))
 
 module _ (s : List ℕ) (i : ℕ) where
-  -- no number that the bytes have room for stands there
+  -- no number that the bytes have space for stands there
   pub no-length : ((n : ℕ) (r : List ℕ) → readVarint (drop i s) ≡ number n r → length s < n) → Reads s i Missing
   unfolding readRecord readSized
   no-length none-fits = by-number (readVarint (drop i s)) refl
@@ -130,6 +132,7 @@ module _ (s : List ℕ) (i : ℕ) where
 
   -- the number n stands there, and j is the position after it
   module _ (n j : ℕ) (here : NumberAt s i (length s) n j) where
+    -- If the number is more than the bytes that are left, no record stands there.
     pub too-long : length s - j < n → Reads s i Missing
     unfolding readRecord
     too-long h = ap readSized (here .reads) ∙ sized-short n (drop j s) (omega (arith, length-drop j s))
@@ -143,6 +146,7 @@ module _ (s : List ℕ) (i : ℕ) where
           ∙ ap (λ (b : Option Image). beforeRest b (drop n (drop j s))) (ap (λ (m : ℕ). readBody (take m (drop j s))) (sym k) ∙ e)
           ∙ ap (beforeRest o) (drop-drop n j s)
 
+      -- Where all bytes of the record are there, what is read of its body is read of the record.
       pub with-body : (f : Found) → ReadsBody s j (j + n) f → Reads s i f
       unfolding beforeRest
       with-body (At r) b =

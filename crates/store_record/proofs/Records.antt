@@ -17,7 +17,8 @@ use Rattle.reference.specs.References.{Id, image-id}
 use Rattle.store_varint.specs.Varint.{varint, readVarint, Parsed, number, no-number}
 use Rattle.store_varint.proofs.Laws.{read-varint, varint-read, varint-positive, varint-short}
 use Rattle.store_record.specs.Image.{Image}
-use Rattle.store_record.specs.Record.{idBytes, idsBytes, bodyOf, recordOf, headOf, headSize, Shaped, bodyUnder, readBody, image, no-image, beforeRest, readSized, readRecord}
+use Rattle.store_record.specs.Record.{idBytes, idsBytes, bodyOf, recordOf, headOf, headSize, Shaped, bodyUnder, readBody, image, no-image, beforeRest}
+use Rattle.store_record.specs.Record.{readSized, readRecord}
 
 -- The record of an image with one ID is its head and then the manifest.
 pub head-record : (i : Id) (t : List ℕ) → recordOf (record { ids = i ∷ []; text = t }) ≡ headOf i (length t) ++ t
@@ -210,6 +211,14 @@ unfolding recordOf
 record-short x h l =
     let n = length (bodyOf x) in
     let m = h .manifest ++ x .text in
-    let b : n ≡ 1 + length (h .signer ++ m) = ap (λ (y : Image). length (bodyOf y)) (shape x h) ∙ ap length (parts (h .algorithm) (h .signer) (h .manifest) (x .text)) ∙ omega arith in
-    let small : n ≤ 16481 = omega (arith, length-append (h .signer) m, length-append (h .manifest) (x .text), digest-bounds (h .algorithm) .1, h .signer-size, h .manifest-size) in
+    let b : n ≡ 1 + length (h .signer ++ m) = ap (λ (y : Image). length (bodyOf y)) (shape x h)
+    ∙ ap length (parts (h .algorithm) (h .signer) (h .manifest) (x .text)) ∙ omega arith in
+    let small : n ≤ 16481 = omega (
+      arith,
+      length-append (h .signer) m,
+      length-append (h .manifest) (x .text),
+      digest-bounds (h .algorithm) .1,
+      h .signer-size,
+      h .manifest-size,
+    ) in
     omega (arith, length-append (varint n) (bodyOf x), varint-short n (omega arith))

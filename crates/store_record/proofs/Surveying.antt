@@ -38,12 +38,13 @@ pub record Surveyed (s : List ℕ) (records : List Record) (count i : ℕ) : Typ
   pub front : readRecords mostImages s ≡ resumed (map (heldIn s) (take count records)) (readRecords (mostImages - count) (drop i s))
   pub few : count ≤ mostImages
   pub within : i ≤ length s
-  pub room : length records ≡ mostImages
+  pub space : length records ≡ mostImages
   pub each : (k : ℕ) → k < count → RecordIn s (getD records k noRecord)
 
+-- At the start no record was read, and the rest begins at position 0.
 pub nothing-read : (s : List ℕ) (records : List Record) → length records ≡ mostImages → Surveyed s records 0 0
 nothing-read s records h =
-    record { front = resumed-start (readRecords mostImages s); few = omega arith; within = omega arith; room = h; each = λ k l. absurd (omega arith) }
+    record { front = resumed-start (readRecords mostImages s); few = omega arith; within = omega arith; space = h; each = λ k l. absurd (omega arith) }
 
 -- what is answered of bytes that no records fill
 pub not-filled : (s : List ℕ) (v : Survey) → v .whole ≡ false → readRecords mostImages s ≡ none → Surveys s v
@@ -99,7 +100,7 @@ module _ (s : List ℕ) (records : List Record) (count i : ℕ) (p : Surveyed s 
                 ∙ ap (λ (xs : List Image). resumed xs (readRecords (mostImages - (count + 1)) (drop (r .end) s))) (sym now-held);
             few = omega arith;
             within = a .is-in .within;
-            room = length-set records count r ∙ p .room;
+            space = length-set records count r ∙ p .space;
             each = λ k l. at k l (decLt k count);
           }
         where
@@ -107,7 +108,7 @@ module _ (s : List ℕ) (records : List Record) (count i : ℕ) (p : Surveyed s 
           held = map (heldIn s) (take count records)
 
           free-place : count < length records
-          free-place = omega (arith, p .room)
+          free-place = omega (arith, p .space)
 
           now-held : map (heldIn s) (take (count + 1) (set records count r)) ≡ held ++ (heldIn s r ∷ [])
           now-held =

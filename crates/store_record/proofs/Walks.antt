@@ -68,7 +68,8 @@ module _ (s : List ℕ) (v : Survey) (fits : v .count ≤ length (v .records)) w
 
     -- Some two images from a position on pass, if that of the record there does with one after it, or two after it do.
     pub pair-image : (p : Image → Image → Bool) → k < v .count
-        → anyPair p (drop k (imagesIn s v)) ≡ (anyOf (p (heldIn s (getD (v .records) k noRecord))) (drop (k + 1) (imagesIn s v)) || anyPair p (drop (k + 1) (imagesIn s v)))
+        → anyPair p (drop k (imagesIn s v)) ≡ (anyOf (p (heldIn s (getD (v .records) k noRecord))) (drop (k + 1) (imagesIn s v))
+        || anyPair p (drop (k + 1) (imagesIn s v)))
     pair-image p h =
         pair-dropped p (imagesIn s v) k (heldIn s noRecord) (omega (arith, images-length))
         ∙ ap (λ (x : Image). anyOf (p x) (drop (k + 1) (imagesIn s v)) || anyPair p (drop (k + 1) (imagesIn s v))) (image-at h)

@@ -13,6 +13,9 @@ ghost use Rattle.reference.specs.References.{image-id};
 ghost use Rattle.store_record.specs.Ids.{hasId};
 ghost use Rattle.store_record.specs.Reading.{between, heldIn, RecordIn, Reads, ReadsBody, Surveys, noRecord};
 
+// The most images that a store may hold.
+pub const MOST_IMAGES: usize = 64;
+
 // The positions in a store of one record's parts: the signer's digest, the manifest's, the manifest itself, and the end.
 pub struct Record {
     pub algorithm: Algorithm,
@@ -26,7 +29,8 @@ impl Record {
     // The record's ID has that algorithm and that signer.
     pub fn is_signed_by(self, s: &[u8], a: Algorithm, signer: &[u8]) -> bool
         requires { ⌜ RecordIn (now s) self ⌝ }
-        ensures { λ r. ⌜ r ≡ (eqb (byteOf a) (byteOf (self .algorithm)) && same (now (signer .entry)) (between (now (s .entry)) (self .signer) (self .manifest))) ⌝ }
+        ensures { λ r. ⌜ r ≡ (eqb (byteOf a) (byteOf (self .algorithm))
+            && same (now (signer .entry)) (between (now (s .entry)) (self .signer) (self .manifest))) ⌝ }
     {
         let own = self.algorithm;
         if a.byte() != own.byte() {
@@ -78,7 +82,7 @@ pub enum Found {
 pub struct Survey {
     pub whole: bool,
     pub count: usize,
-    pub records: [Record; 64],
+    pub records: [Record; MOST_IMAGES],
 }
 
 // The record that begins at position i.
@@ -143,11 +147,11 @@ impl Survey {
     pub fn of(s: &[u8]) -> Survey
         ensures { λ r. ⌜ Surveys (now (s .entry)) r ⌝ }
     {
-        let mut records = [no_record(); 64];
+        let mut records = [no_record(); MOST_IMAGES];
         let mut count = 0;
         let mut i = 0;
         while i < s.len() {
-            if count == 64 {
+            if count == MOST_IMAGES {
                 return broken();
             }
             match read(s, i) {
@@ -174,6 +178,6 @@ fn broken() -> Survey
     Survey {
         whole: false,
         count: 0,
-        records: [no_record(); 64],
+        records: [no_record(); MOST_IMAGES],
     }
 }

@@ -15,7 +15,7 @@ use Rattle.reference_digests.specs.declared.algorithm.Algorithm.{Algorithm}
 use Rattle.store_record.specs.Reading.{between, noRecord}
 use Rattle.store_record.specs.declared.Record.{Record}
 use Rattle.store_record.specs.declared.Survey.{Survey}
-use Rattle.store_shared.specs.Shared.{signedAs, oneSigner, FirstSigned, GroupsOf}
+use Rattle.store_names.specs.Shared.{signedAs, oneSigner, FirstSigned, GroupsOf}
 
 -- where a conjunction is true, both of its parts are
 and-parts : (x y : Bool) → (x && y) ≡ true → (x ≡ true) × (y ≡ true)

@@ -15,7 +15,7 @@ use Rattle.laws.proofs.Order.{by-test, false-true, leq-antisym, same-refl, same
 use Rattle.manifest_index.specs.Index.{nameAt, NameIndex}
 use Rattle.manifest_index.proofs.Indexing.{index-rising}
 use Rattle.store_record.proofs.Sharing.{eqb-sym}
-use Rattle.store_shared.specs.Shared.{groupOf, shared, Run, RunBefore}
+use Rattle.store_names.specs.Shared.{groupOf, shared, Run, RunBefore}
 use Rattle.store_names.proofs.Pairs.{any-places, none-places, pair-last, pair-part}
 
 module _ (b at order : List ℕ) where
@@ -83,11 +83,14 @@ module _ (b at order : List ℕ) where
         ∙ ap₂ (λ (x y : Bool). x || y)
         (none-places (sharing m) (take start order) (λ i l.
         let k : i < start = omega (arith, length-take-le start order (omega (arith, r .within))) in
-        ap (sharing m) (getD-take start order i 0 k) ∙ ap (λ (x : Bool). beside m (getD order i 0) && x) (r .other i k) ∙ and-false (beside m (getD order i 0))))
+        ap (sharing m) (getD-take start order i 0 k) ∙ ap (λ (x : Bool). beside m (getD order i 0) && x) (r .other i k)
+        ∙ and-false (beside m (getD order i 0))))
         (any-places (sharing m) (beside m) (take (m - start) (drop start order)) (λ i l.
         let k : i < m - start = omega (arith, length-take-le (m - start) (drop start order) (omega (arith, length-drop start order, r .within))) in
-        let g : getD (take (m - start) (drop start order)) i 0 ≡ getD order (start + i) 0 = getD-take (m - start) (drop start order) i 0 k ∙ getD-drop start order i 0 in
-        ap (sharing m) g ∙ ap (λ (x : Bool). beside m (getD order (start + i) 0) && x) (r .equal (start + i) (omega arith) (omega arith)) ∙ and-true (beside m (getD order (start + i) 0))
+        let g : getD (take (m - start) (drop start order)) i 0 ≡ getD order (start + i) 0 = getD-take (m - start) (drop start order) i 0 k
+        ∙ getD-drop start order i 0 in
+        ap (sharing m) g ∙ ap (λ (x : Bool). beside m (getD order (start + i) 0) && x) (r .equal (start + i) (omega arith) (omega arith))
+        ∙ and-true (beside m (getD order (start + i) 0))
         ∙ ap (beside m) (sym g)))
       where
         parts : m ≡ start + (m - start)
@@ -99,6 +102,7 @@ module _ (b at order : List ℕ) where
       pub last : RunBefore b at order start m
       pub none : anyPair (shared b at groups) (take m order) ≡ false
 
+    -- Of the first 0 places no two share a name.
     pub none-first : NoneTo 0 0
     unfolding anyPair
     none-first = record { within = omega arith; last = λ n e. absurd (omega arith); none = refl }

@@ -21,15 +21,12 @@ use Rattle.store_record.specs.declared.Record.{Record}
 use Rattle.store_record.specs.declared.Survey.{Survey}
 use Rattle.store_record.proofs.Sharing.{eqb-sym}
 use Rattle.store_names.specs.Placed.{mostNames, PlacedUpTo, withNumbers, numbersOf}
-use Rattle.store_shared.specs.Shared.{signedAs, oneSigner, GroupsOf, groupOf, shared, named, ownNames, haveShared}
+use Rattle.store_names.proofs.Named.{named-sym}
+use Rattle.store_names.specs.Shared.{signedAs, oneSigner, GroupsOf, groupOf, shared, ownNames, haveShared}
 use Rattle.store_shared.proofs.Groups.{groups-equal}
 use Rattle.store_names.proofs.Numbering.{numbers-names, numbers-none, numbers-append}
 use Rattle.store_names.proofs.Pairs.{any-last, pair-both, pair-last, pair-permuted}
 use Rattle.store_shared.proofs.Runs.{shared-sym}
-
--- Which of the lists is the first makes no difference.
-pub named-sym : (ns ms : List (List ℕ)) → named ns ms ≡ named ms ns
-named-sym ns ms = any-swapped (λ (n m : List ℕ). same n m) ns ms ∙ any-pointwise _ _ (λ m. any-pointwise _ _ (λ n. same-sym n m) ns) ms
 
 have-sym : (b : List ℕ) (q r : Record) → haveShared b q r ≡ haveShared b r q
 unfolding signedAs
@@ -37,7 +34,7 @@ have-sym b q r = λ i.
     (eqb-sym (byteOf (q .algorithm)) (byteOf (r .algorithm)) i && same-sym (between b (q .signer) (q .manifest)) (between b (r .signer) (r .manifest)) i)
     && named-sym (ownNames b q) (ownNames b r) i
 
-module _ (b : List ℕ) (v : Survey) (at counts groups : List ℕ) (few : v .count ≤ 64) (room : v .count ≤ length (v .records))
+module _ (b : List ℕ) (v : Survey) (at counts groups : List ℕ) (few : v .count ≤ 64) (space : v .count ≤ length (v .records))
     (s : PlacedUpTo (v .count) b v at counts) (g : GroupsOf b v (v .count) groups) where
   abbrev its : ℕ → Record
   its i = getD (v .records) i noRecord
@@ -48,7 +45,7 @@ module _ (b : List ℕ) (v : Survey) (at counts groups : List ℕ) (few : v .cou
 
   module _ (i : ℕ) (h : i < v .count) where
     fits : mostNames * i + getD counts i 0 ≤ length at
-    fits = omega (arith, s .few i h, s .at-room)
+    fits = omega (arith, s .few i h, s .at-space)
 
     size : getD counts i 0 ≡ length (ownNames b (its i))
     size = names-size b at (mostNames * i) (getD counts i 0) (ownNames b (its i)) (s .each i h) fits
@@ -84,10 +81,12 @@ module _ (b : List ℕ) (v : Survey) (at counts groups : List ℕ) (few : v .cou
             → anyOf (shared b at groups e) (withNumbers (mostNames * m) (getD counts m 0) (numbersOf counts m))
             ≡ anyOf (λ (r : Record). oneSigner b (its n) r && anyOf (same c) (ownNames b r)) (first (suc m))
         next ih =
-            numbers-names (shared b at groups e) (λ (d : List ℕ). oneSigner b (its n) (its m) && same c d) (mostNames * m) (ownNames b (its m)) (numbersOf counts m)
+            numbers-names (shared b at groups e) (λ (d : List ℕ). oneSigner b (its n) (its m)
+            && same c d) (mostNames * m) (ownNames b (its m)) (numbersOf counts m)
             (λ k o. beside-one m (omega arith) k (omega (arith, size m (omega arith)))) (getD counts m 0) (omega (arith, size m (omega arith)))
             ∙ ap₂ (λ (x y : Bool). x || y)
-            (ap (anyOf (λ (d : List ℕ). oneSigner b (its n) (its m) && same c d)) (whole m (omega arith)) ∙ any-and (oneSigner b (its n) (its m)) (same c) (ownNames b (its m))) ih
+            (ap (anyOf (λ (d : List ℕ). oneSigner b (its n) (its m) && same c d)) (whole m (omega arith))
+            ∙ any-and (oneSigner b (its n) (its m)) (same c) (ownNames b (its m))) ih
             ∙ or-comm (oneSigner b (its n) (its m) && anyOf (same c) (ownNames b (its m)))
             (anyOf (λ (r : Record). oneSigner b (its n) r && anyOf (same c) (ownNames b r)) (first m))
             ∙ sym (any-last (λ (r : Record). oneSigner b (its n) r && anyOf (same c) (ownNames b r)) (v .records) m noRecord (omega arith))
@@ -107,7 +106,8 @@ module _ (b : List ℕ) (v : Survey) (at counts groups : List ℕ) (few : v .cou
         ∙ or-false _
         ∙ ap (anyOf (λ (c : List ℕ). anyOf (λ (r : Record). oneSigner b (its n) r && anyOf (same c) (ownNames b r)) (first n))) (whole n h)
         ∙ any-swapped (λ (c : List ℕ) (r : Record). oneSigner b (its n) r && anyOf (same c) (ownNames b r)) (ownNames b (its n)) (first n)
-        ∙ any-pointwise _ _ (λ r. any-and (oneSigner b (its n) r) (λ (c : List ℕ). anyOf (same c) (ownNames b r)) (ownNames b (its n)) ∙ have-sym b (its n) r) (first n)
+        ∙ any-pointwise _ _ (λ r. any-and (oneSigner b (its n) r) (λ (c : List ℕ). anyOf (same c) (ownNames b r)) (ownNames b (its n))
+        ∙ have-sym b (its n) r) (first n)
 
     -- the numbers of an image among themselves
     within : (c : ℕ) → c ≤ getD counts n 0 → anyPair (shared b at groups) (withNumbers (mostNames * n) c []) ≡ false

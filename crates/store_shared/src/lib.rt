@@ -1,6 +1,7 @@
 // Whether images of one signer share a `self` alias. In the index of all of them equal names stand side by side, so that one walk finds out.
 use manifest::Places;
 use reference_digests::algorithm::Algorithm;
+use store_record::MOST_IMAGES;
 use store_record::Survey;
 ghost use mathlib.Core.Path.{_≡_};
 ghost use Prim.Native.Nat.{ℕ, _+_, _-_, _/_, _≤_, _<_};
@@ -10,7 +11,7 @@ ghost use Rattle.laws.specs.Any.{anyOf, anyPair};
 ghost use Rattle.manifest_index.specs.Index.{SomeNameIndex};
 ghost use Rattle.store_record.specs.Reading.{Fills};
 ghost use Rattle.store_names.specs.Opened.{OpenedStore};
-ghost use Rattle.store_shared.specs.Shared.{FirstSigned, GroupsOf, groupOf, shared, haveShared, Run, RunBefore};
+ghost use Rattle.store_names.specs.Shared.{FirstSigned, GroupsOf, groupOf, shared, haveShared, Run, RunBefore};
 
 // The index of the first image of that algorithm and signer, if it is below k, and else k.
 fn first_signed(b: &[u8], v: Survey, a: Algorithm, signer: &[u8], k: usize) -> usize
@@ -99,7 +100,7 @@ pub fn shares_any(b: &[u8], at: &[usize], order: &[u16], groups: &[u16]) -> bool
 pub fn any_shared(
     b: &[u8],
     v: Survey,
-    places: [Places; 64],
+    places: [Places; MOST_IMAGES],
     at: &mut [usize],
     order: &mut [u16],
     own: &mut [u16],
@@ -109,10 +110,10 @@ pub fn any_shared(
     ensures { λ _. ⌜ (length (now (at .exit)) ≡ length (now (at .entry))) × (length (now (order .exit)) ≡ length (now (order .entry)))
         × (length (now (own .exit)) ≡ length (now (own .entry))) ⌝ }
 {
-    let mut counts = [0u16; 64];
+    let mut counts = [0u16; MOST_IMAGES];
     store_names::place_all(b, v, places, own, at, &mut counts);
     let n = store_names::index_all(b, at, &counts, v.count, order);
-    let mut groups = [0u16; 64];
+    let mut groups = [0u16; MOST_IMAGES];
     group_all(b, v, &mut groups);
     shares_any(b, at, &order[..n], &groups)
 }

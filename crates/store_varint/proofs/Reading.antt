@@ -26,9 +26,11 @@ module _ (s : List ℕ) (i most : ℕ) (inside : i < length s) where
   last-group : getD s i 0 < 128 → readVarint (drop i s) ≡ number (getD s i 0) (drop (i + 1) s)
   last-group h = ap readVarint next-byte ∙ read-last (getD s i 0) (drop (i + 1) s) h
 
+  -- A byte below 128 that is at most `most` is the number at its position, which ends after that byte.
   pub one-byte : getD s i 0 < 128 → getD s i 0 ≤ most → NumberAt s i most (getD s i 0) (i + 1)
   one-byte h l = record { reads = last-group h; small = l; later = omega arith; within = omega arith }
 
+  -- If a byte below 128 is more than `most`, no number of at most `most` stands at its position.
   pub large-byte : getD s i 0 < 128 → most < getD s i 0 → Reads s i most Missing
   large-byte h l n r e =
       let f : number (getD s i 0) (drop (i + 1) s) ≡ number n r = sym (last-group h) ∙ e in
@@ -44,6 +46,7 @@ module _ (s : List ℕ) (i most : ℕ) (inside : i < length s) where
     none-here large n r e =
         let a = above (getD s i 0) (readVarint (drop (i + 1) s)) n r (sym more-groups ∙ e) in omega (arith, large (a .rest) r (a .read) (a .some))
 
+    -- If no number of at most `most` divided by 128 stands at the next position, none of at most `most` stands here.
     pub rest-missing : Reads s (i + 1) (most / 128) Missing → Reads s i most Missing
     rest-missing none = none-here λ m r e p. omega (arith, none m r e)
 
@@ -52,12 +55,15 @@ module _ (s : List ℕ) (i most : ℕ) (inside : i < length s) where
       same-rest : (k : ℕ) (r : List ℕ) → readVarint (drop (i + 1) s) ≡ number k r → k ≡ m
       same-rest k r e = let f : number k r ≡ number m (drop j s) = sym e ∙ rest .reads in cc
 
+      -- If the other groups are zero, no number of at most `most` stands here.
       pub zero-rest : m ≡ 0 → Reads s i most Missing
       zero-rest z = none-here λ k r e p. omega (arith, same-rest k r e)
 
+      -- If the number that the groups make together is more than `most`, no number of at most `most` stands here.
       pub large-rest : most < 128 * m + (getD s i 0 - 128) → Reads s i most Missing
       large-rest h = none-here λ k r e p. omega (arith, same-rest k r e)
 
+      -- If the other groups are not zero and the number is at most `most`, it stands here and ends where they end.
       pub with-rest : 0 < m → getD s i 0 - 128 + 128 * m ≤ most → NumberAt s i most (getD s i 0 - 128 + 128 * m) j
       with-rest p h =
           record {

@@ -13,6 +13,7 @@ pub record Writes (before after bytes : List ℕ) : Type 0 where
   pub fits : length bytes ≤ length before
   pub all : after ≡ bytes ++ drop (length bytes) before
 
+-- Writing no bytes leaves the list as it is.
 pub nothing-written : (l : List ℕ) → Writes l l []
 nothing-written l = record { fits = omega arith; all = refl }
 
@@ -24,6 +25,7 @@ post-nothing : (n : ℕ) (l : List ℕ) → drop (length l - n) (drop n l) ≡ [
 post-nothing n l = drop-of-length-le (drop n l) {i = length l - n} (omega (arith, length-drop n l))
 
 module _ {before mid xs : List ℕ} (w : Writes before mid xs) where
+  -- Writing at the start of a list keeps its length.
   pub kept-length : length mid ≡ length before
   kept-length =
       ap length (w .all) ∙ length-append xs (drop (length xs) before) ∙ omega (arith, length-drop (length xs) before, w .fits)
@@ -32,13 +34,18 @@ module _ {before mid xs : List ℕ} (w : Writes before mid xs) where
   part-as-before : (n : ℕ) → n ≡ length xs → drop n mid ≡ drop n before
   part-as-before n e = ap (drop n) (w .all) ∙ drop-at xs (drop (length xs) before) n (sym e) ∙ ap (λ (k : ℕ). drop k before) (sym e)
 
+  -- The part past the bytes that are written is as long as the list without them.
   pub lent-length : (n : ℕ) → n ≡ length xs → length (midOf n (length mid - n) mid) + n ≡ length before
   lent-length n e = omega (arith, ap length (mid-drop n mid), ap length (part-as-before n e), length-drop n before, w .fits)
 
   -- One byte more is written.
   pub byte-written : (n b : ℕ) → n ≡ length xs → n < length before → Writes before (set mid n b) (xs ++ b ∷ [])
   byte-written n b e h =
-      record { fits = omega (arith, length-append xs (b ∷ [])); all = ap (λ (l : List ℕ). set l n b) (w .all ∙ ap (λ (l : List ℕ). xs ++ l) next) ∙ set-at xs _ _ b n (sym e) ∙ sym after }
+      record {
+        fits = omega (arith, length-append xs (b ∷ []));
+        all = ap (λ (l : List ℕ). set l n b) (w .all ∙ ap (λ (l : List ℕ). xs ++ l) next)
+            ∙ set-at xs _ _ b n (sym e) ∙ sym after;
+      }
     where
       next : drop (length xs) before ≡ getD before (length xs) 0 ∷ drop (suc (length xs)) before
       next = drop-cons before (length xs) 0 (subst (λ (k : ℕ). k < length before) e h)
@@ -55,7 +62,8 @@ module _ {before mid xs : List ℕ} (w : Writes before mid xs) where
   part-written n part ys e v =
       record {
         fits = omega (arith, length-append xs ys, lent-length n e, v .fits);
-        all = ap (λ (l : List ℕ). take n mid ++ (part ++ l)) (post-nothing n mid) ∙ ap (λ (l : List ℕ). take n mid ++ l) (append-nil part) ∙ ap (λ (l : List ℕ). l ++ part) first
+        all = ap (λ (l : List ℕ). take n mid ++ (part ++ l)) (post-nothing n mid) ∙ ap (λ (l : List ℕ). take n mid ++ l) (append-nil part)
+            ∙ ap (λ (l : List ℕ). l ++ part) first
             ∙ ap (λ (l : List ℕ). xs ++ l) (v .all ∙ ap (λ (l : List ℕ). ys ++ l) rest) ∙ sym (append-assoc xs ys _);
       }
     where

@@ -28,7 +28,8 @@ pub fn write_head(
     text: usize,
     out: &mut [u8],
 ) -> usize
-    requires { ⌜ (length (now signer) ≡ digestBytes a) × (length (now manifest) ≡ digestBytes a) × (text ≤ 16384) × (length (headOf (image-id a (now signer) (now manifest)) text) ≤ length (now out)) ⌝ }
+    requires { ⌜ (length (now signer) ≡ digestBytes a) × (length (now manifest) ≡ digestBytes a) × (text ≤ 16384)
+        × (length (headOf (image-id a (now signer) (now manifest)) text) ≤ length (now out)) ⌝ }
     ensures { λ r. ⌜ r ≡ length (headOf (image-id a (now (signer .entry)) (now (manifest .entry))) text) ⌝ }
     ensures { λ r. ⌜ now (out .exit) ≡ headOf (image-id a (now (signer .entry)) (now (manifest .entry))) text ++ drop r (now (out .entry)) ⌝ }
 {

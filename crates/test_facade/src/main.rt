@@ -136,7 +136,8 @@ fn show_rules(
 // Makes the index of the first n names of t.
 fn index_names(t: &[u8], at: &[usize], n: usize, order: &mut [u16])
     requires { ⌜ ((k : ℕ) → k < n → NumberOf (now t) (now at) k) × (n ≤ 64) × (n ≤ length (now order)) ⌝ }
-    ensures { λ _. ⌜ SomeNameIndex (now (t .entry)) (now (at .entry)) (take n (now (order .exit))) × (length (now (order .exit)) ≡ length (now (order .entry))) ⌝ }
+    ensures { λ _. ⌜ SomeNameIndex (now (t .entry)) (now (at .entry)) (take n (now (order .exit)))
+        × (length (now (order .exit)) ≡ length (now (order .entry))) ⌝ }
 {
     let mut k = 0;
     while k < n {

@@ -253,7 +253,7 @@ fn show_string(letter: u8, s: &[u8]) {
     match letter {
         b'L' => show_layer(s, at),
         b'R' => show_rule(s, at),
-        _ => print_alias(reference::alias::is_alias(s, at)),
+        _ => print_alias(reference_aliases::is_alias(s, at)),
     }
 }
 

@@ -31,6 +31,7 @@ use Rattle.text.specs.declared.Fault.the-variants.{TooLong, NotJson, Bad
 use Rattle.text.specs.declared.Checked.{Checked}
 use Rattle.text.specs.declared.Checked.the-variants.{Accepted, Refused}
 
+-- A text whose reading is stuck at a position is refused as no JSON text at that position.
 pub stuck-at : (s : List ℕ) (x : Read Syntax) (e : ℕ) → (e ≤ length s) × (x ≡ stuck (drop e s)) → Refused (NotJson e) ≡ byTree s x
 unfolding byTree
 stuck-at s x e p =
@@ -61,12 +62,14 @@ module _ (sum : Summary) (t : Syntax) (p : sum ≡ summary t) (n : ℕ) where
   unfolding isForm
   other-size h = sym (rw (ne-eqb (length (canonical (content t))) n (λ e. h (size-of ∙ e))))
 
+  -- If the form is as long as the text, the order of the keys tells whether the text passes as its own form.
   pub same-size : sum .size ≡ n → sum .ordered ≡ isForm n t
   unfolding isForm summary
   same-size e = ap (λ (y : Summary). y .ordered) p ∙ sym (rw (eq-eqb (length (canonical (content t))) n (sym size-of ∙ e)))
 
   -- the answer, where c is the flag of a text that is taken
   module _ (c : Bool) where
+    -- A text with a string fault is refused for its first bad string, at that string's position.
     pub bad-string : (k : ℕ) → k ≡ n - sum .string → 0 < sum .string → Refused (BadString k) ≡ byFaults n c t
     unfolding byFaults
     bad-string k e h =
@@ -77,6 +80,7 @@ module _ (sum : Summary) (t : Syntax) (p : sum ≡ summary t) (n : ℕ) where
       no-string : ltb 0 (stringFault t) ≡ false
       no-string = le-ltb 0 _ (rw string-of at g)
 
+      -- A text with a number fault and no string fault is refused for its first bad number, at that number's position.
       pub bad-number : (k : ℕ) → k ≡ n - sum .number → 0 < sum .number → Refused (BadNumber k) ≡ byFaults n c t
       unfolding byFaults
       bad-number k e h =
@@ -87,12 +91,14 @@ module _ (sum : Summary) (t : Syntax) (p : sum ≡ summary t) (n : ℕ) where
         no-number : ltb 0 (numberFault t) ≡ false
         no-number = le-ltb 0 _ (rw number-of at h)
 
+        -- A text with a key fault and neither of those is refused for its first repeated key, at that key's position.
         pub same-keys : (k : ℕ) → k ≡ n - sum .key → 0 < sum .key → Refused (SameKeys k) ≡ byFaults n c t
         unfolding byFaults
         same-keys k e i =
             let a : ltb 0 (keyFault t) ≡ true = lt-ltb 0 _ (rw key-of at i) in
             sym (rw (no-string, byFaults) (rw no-number (rw a (ap (λ (m : ℕ). Refused (SameKeys m)) (sym (e ∙ ap (λ (m : ℕ). n - m) key-of))))))
 
+        -- A text with none of these faults is accepted, with the length of its canonical form and the given flag.
         pub accepted : sum .key ≤ 0 → Accepted (sum .size) c ≡ byFaults n c t
         unfolding byFaults
         accepted i =
@@ -118,6 +124,7 @@ form-flag s t h =
     none : ltb 0 (stringFault t) ≡ false → stringFault t ≡ 0
     none e = let l = ltb-false 0 (stringFault t) e in omega arith
 
+-- For a text that is read, the length and the order of keys give the same answer as comparing the text with its form.
 pub by-tree : (s : List ℕ) (f : Found) (p : IsValue s (readText 8 s) f) → byFaults (length s) (isForm (length s) (p .tree)) (p .tree) ≡ byTree s (readText 8 s)
 unfolding byTree
 by-tree s f p =
@@ -129,6 +136,7 @@ pub too-long : (s : List ℕ) → 16384 < length s → Refused TooLong ≡ check
 unfolding checked tooLong
 too-long s h = sym (rw (lt-ltb 16384 (length s) h, checked))
 
+-- For a text of at most 16384 bytes, the answer by the verdict on its UTF-8 is the answer of checking.
 pub by-verdict : (s : List ℕ) (v : Verdict) (r : Checked) → length s ≤ 16384 → v ≡ verdict s → r ≡ byVerdict s v → r ≡ checked s
 unfolding checked tooLong
 by-verdict s v r h e q = q ∙ ap (byVerdict s) e ∙ sym (rw (le-ltb 16384 (length s) h, checked))

@@ -38,6 +38,7 @@ no-question : (s : List ℕ) → tooLong s ≡ false → notUtf8 s ≡ false →
 unfolding textNumber questions lowest
 no-question s a b c d f g = rw (a, lowest) (rw (b, lowest) (rw (c, lowest) (rw (d, lowest) (rw (f, lowest) (rw (g, lowest))))))
 
+-- A text of at most 16384 bytes that is UTF-8 and is read without a fault gets the number 0.
 pub is-taken : (s : List ℕ) → Taken s → utf8 s ≡ true → textNumber s ≡ 0
 unfolding tooLong notUtf8 notJson badString badNumber sameKeys isStuck faulty
 is-taken s p e =
@@ -87,6 +88,7 @@ form-again s e =
     let p = taken s e in
     taken-form (form s) (form-parts s p) ∙ form-parts-fixed s p ∙ sym (taken-form s p)
 
+-- The form of a text that is taken is taken and is its own form.
 pub form-canonical : (s : List ℕ) → textNumber s ≡ 0 → isCanonical (form s) ≡ true
 unfolding isCanonical
 form-canonical s e = rw (eq-eqb (textNumber (form s)) 0 (form-taken s e)) (rw (form-again s e) (same-refl (form s)))
@@ -97,6 +99,7 @@ form-means s t u e h g =
     let p = taken s e in
     ap content (tree-is (form s) (form-parts s p) u g) ∙ form-parts-mean s p ∙ sym (ap (λ (x : Syntax). sorted (content x)) (tree-is s p t h))
 
+-- The form of a text that is taken has the same content as the text.
 pub form-content : (s : List ℕ) (t u : Syntax) → textNumber s ≡ 0 → Text 8 s t → Text 8 (form s) u → Same (content t) (content u)
 form-content s t u e h g = rw (form-means s t u e h g) (same-sorted (content t))
 

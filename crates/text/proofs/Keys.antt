@@ -24,6 +24,7 @@ use Rattle.text.specs.declared.Checked.{Checked}
 use Rattle.text.specs.declared.Checked.the-variants.{Accepted, Refused}
 use Rattle.text.specs.declared.Known.{Known}
 
+-- What is known of a text that is refused has the refusal as its answer, and leaves no keys.
 pub refused-keys : (s keys : List ℕ) (x : Checked) (r : Known) (f : Fault) → r ≡ refusedText f → Refused f ≡ x
     → (r .answer ≡ x) × RootKeys s (r .answer) (r .count) keys
 refused-keys s keys x r f e q = subst (λ (y : Known). (y .answer ≡ x) × RootKeys s (y .answer) (y .count) keys) (sym e) (q, refl)
@@ -32,6 +33,7 @@ refused-keys s keys x r f e q = subst (λ (y : Known). (y .answer ≡ x) × Root
 pub taken-count : (x : Checked) (n m : ℕ) (c : Bool) → x ≡ Accepted m c → _≡_ {A = Known} (record { answer = x; count = n }) (withCount x n)
 taken-count x n m c e = rw e
 
+-- For a text that is refused, whatever the count of keys, what is known is the refusal without keys.
 pub refused-count : (x : Checked) (n : ℕ) (f : Fault) (r : Known) → x ≡ Refused f → r ≡ refusedText f → r ≡ withCount x n
 refused-count x n f r e q = q ∙ sym (ap (λ (y : Checked). withCount y n) e)
 

@@ -51,6 +51,7 @@ unfolding notUtf8
 not-utf8 s k e =
     by-test (utf8 s) (λ f. let g = verdict-well-formed s .1 f in let z : _≡_ {A = ℕ} 0 1 = cc in absurd (omega arith)) (λ f. rw f)
 
+-- The number that checking answers is the lowest of the questions that apply to the text, or 0 where none does.
 pub number-checked : (s : List ℕ) → numberOf (checked s) ≡ textNumber s
 unfolding checked byVerdict notJson badString badNumber sameKeys
 number-checked s = by-test (tooLong s) (λ e. rw (e, checked) (sym (number-long s e))) (λ e. rw (e, checked) (go (verdict s) refl e))

@@ -20,7 +20,8 @@ use Rattle.text_content.specs.Value.{content}
 use Rattle.text_content.specs.Canonical.{canonical}
 use Rattle.text_content.specs.Fault.{stringFault, numberFault, keyFault}
 use Rattle.text.specs.Question.{tooLong, textNumber}
-use Rattle.text.specs.Answer.{faultNumber, byFaults, byTree, byVerdict, checked, numberOf, numberWithin, formOf, form, canonicalNumber, canonicalLength, canonicalBytes, isCanonical}
+use Rattle.text.specs.Answer.{faultNumber, byFaults, byTree, byVerdict, checked, numberOf, numberWithin, formOf, form, canonicalNumber, canonicalLength}
+use Rattle.text.specs.Answer.{canonicalBytes, isCanonical}
 use Rattle.text.specs.declared.Fault.{Fault}
 use Rattle.text.specs.declared.Fault.the-variants.{TooLong, NotUtf8, NotJson, BadString, BadNumber, SameKeys}
 use Rattle.text.specs.declared.Checked.{Checked}
@@ -37,6 +38,7 @@ fault-positive (BadString k) = omega arith
 fault-positive (BadNumber k) = omega arith
 fault-positive (SameKeys k) = omega arith
 
+-- The number of a fault is greater than 0.
 pub refused-positive : (f : Fault) (n : ℕ) → n ≡ faultNumber f → 0 < n
 refused-positive f n e = let h = fault-positive f in omega arith
 
@@ -77,6 +79,7 @@ module _ (s out : List ℕ) where
     not-zero : eqb (textNumber s) 0 ≡ false
     not-zero = let h = fault-positive f in ne-eqb (textNumber s) 0 (λ z. omega (arith, number-is))
 
+    -- Where checking refuses a text, canonical's number is that of the fault.
     pub refused-number : faultNumber f ≡ canonicalNumber s (length out)
     unfolding canonicalNumber
     refused-number = sym (ap (λ (x : Checked). numberWithin x (length out)) e)
@@ -86,18 +89,22 @@ module _ (s out : List ℕ) where
     is-number : eqb (canonicalNumber s (length out)) 0 ≡ false
     is-number = ne-eqb (canonicalNumber s (length out)) 0 (λ z. omega (arith, e))
 
+    -- Where canonical's number is not 0, the length that it tells is 0.
     pub refused-length : 0 ≡ canonicalLength s (length out)
     unfolding canonicalLength
     refused-length = sym (rw (is-number, canonicalLength))
 
+    -- Where canonical's number is not 0, the buffer stays as it was.
     pub refused-bytes : out ≡ canonicalBytes s out
     unfolding canonicalBytes
     refused-bytes = sym (rw (is-number, canonicalBytes))
 
   module _ (n : ℕ) (c : Bool) (e : checked s ≡ Accepted n c) where
+    -- A text that checking accepts gets the number 0.
     pub accepted-number : textNumber s ≡ 0
     accepted-number = sym (number-checked s) ∙ ap numberOf e
 
+    -- The length that checking tells of a text that it accepts is that of its form.
     pub accepted-size : n ≡ length (form s)
     accepted-size = holds s (form s) (checked s) n c (outcome s) e .0
 
@@ -106,6 +113,7 @@ module _ (s out : List ℕ) where
     unfolding canonicalNumber
     too-small h = sym (ap (λ (x : Checked). numberWithin x (length out)) e ∙ rw (lt-ltb (length out) n h, numberWithin))
 
+    -- If the form of an accepted text fits in the buffer, canonical's number is 0.
     pub done-number : n ≤ length out → 0 ≡ canonicalNumber s (length out)
     unfolding canonicalNumber
     done-number h = sym (ap (λ (x : Checked). numberWithin x (length out)) e ∙ rw (le-ltb (length out) n h, numberWithin))
@@ -114,17 +122,20 @@ module _ (s out : List ℕ) where
       is-zero : eqb (canonicalNumber s (length out)) 0 ≡ true
       is-zero = eq-eqb (canonicalNumber s (length out)) 0 (sym (done-number h))
 
+      -- The length that canonical then tells is that of the form.
       pub done-length : length (form s) ≡ canonicalLength s (length out)
       unfolding canonicalLength
       done-length = sym (rw (is-zero, canonicalLength))
 
+      -- The buffer then has the form at its start, and past it the bytes that it had.
       pub done-bytes : form s ++ drop (length (form s)) out ≡ canonicalBytes s out
       unfolding canonicalBytes
       done-bytes = sym (rw (is-zero, canonicalBytes))
 
 -- canonical's number is the lowest that applies of questions 1 to 6 and then 20
 pub canonical-lowest :
-    (s : List ℕ) (m : ℕ) → canonicalNumber s m ≡ elim (eqb (textNumber s) 0) [ true ↦ elim (ltb m (length (form s))) [ true ↦ 20 | false ↦ 0 ] | false ↦ textNumber s ]
+    (s : List ℕ) (m : ℕ) → canonicalNumber s m ≡ elim (eqb (textNumber s) 0)
+    [ true ↦ elim (ltb m (length (form s))) [ true ↦ 20 | false ↦ 0 ] | false ↦ textNumber s ]
 unfolding canonicalNumber
 canonical-lowest s m = go (checked s) (textNumber s) (number-checked s) (outcome s)
   where
@@ -163,6 +174,7 @@ form-first s out e =
     let z = eq-eqb (canonicalNumber s (length out)) 0 e in
     rw (z, canonicalLength) (rw (z, canonicalBytes) (take-at (form s) _ _ refl))
 
+-- The length that canonical tells is at most 16384.
 pub length-small : (s : List ℕ) (m : ℕ) → canonicalLength s m ≤ 16384
 unfolding canonicalLength
 length-small s m =

@@ -32,6 +32,7 @@ pub record Taken (s : List ℕ) : Type 0 where
   pub numbers : numberFault tree ≡ 0
   pub keys : keyFault tree ≡ 0
 
+-- A text with the number 0 has at most 16384 bytes and is read whole, without a string, number or key fault.
 pub taken : (s : List ℕ) → textNumber s ≡ 0 → Taken s
 unfolding textNumber questions lowest tooLong notJson badString badNumber sameKeys isStuck faulty
 taken s e =
@@ -46,14 +47,24 @@ taken s e =
     none : (n : ℕ) → ltb 0 n ≡ false → n ≡ 0
     none n h = let l = ltb-false 0 n h in omega arith
 
-    go : (x : Read Syntax) → readText 8 s ≡ x → length s ≤ 16384 → isStuck x ≡ false → faulty stringFault x ≡ false → faulty numberFault x ≡ false → faulty keyFault x ≡ false → Taken s
+    go : (x : Read Syntax) → readText 8 s ≡ x → length s ≤ 16384 → isStuck x ≡ false → faulty stringFault x ≡ false → faulty numberFault x ≡ false
+        → faulty keyFault x ≡ false → Taken s
     go (found t r) q h c d f g =
-        record { tree = t; short = h; reads = q ∙ ap (found t) (text-rest 8 s t r q); strings = none (stringFault t) d; numbers = none (numberFault t) f; keys = none (keyFault t) g }
+        record {
+          tree = t;
+          short = h;
+          reads = q ∙ ap (found t) (text-rest 8 s t r q);
+          strings = none (stringFault t) d;
+          numbers = none (numberFault t) f;
+          keys = none (keyFault t) g;
+        }
     go (stuck r) q h c d f g = false-true (sym c)
 
+-- A text that is taken is a text of the grammar, with its tree, nested at most 8 deep.
 pub taken-text : (s : List ℕ) (p : Taken s) → Text 8 s (p .tree)
 taken-text s p = text-agrees 8 s (p .tree) .1 (p .reads)
 
+-- The form of a text that is taken is the canonical form of the content of its tree.
 pub taken-form : (s : List ℕ) (p : Taken s) → form s ≡ canonical (content (p .tree))
 unfolding form formOf
 taken-form s p = ap formOf (p .reads)

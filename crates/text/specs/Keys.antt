@@ -14,8 +14,8 @@ use Rattle.text.specs.declared.Checked.{Checked}
 use Rattle.text.specs.declared.Checked.the-variants.{Accepted, Refused}
 use Rattle.text.specs.declared.Known.{Known}
 
--- room for the keys of any text that is not too long
-pub record KeyRoom (keys spare : List ℕ) : Type 0 where
+-- space for the keys of any text that is not too long
+pub record KeySpace (keys spare : List ℕ) : Type 0 where
   pub enough : 4096 ≤ length keys
   pub sorting : length keys ≤ length spare
 
@@ -34,9 +34,9 @@ abbrev pub withCount : Checked → ℕ → Known
 withCount (Accepted m c) n = record { answer = Accepted m c; count = n }
 withCount (Refused f) n = refusedText f
 
--- a text that is taken, with room for its form, and the n keys that checking it left
+-- a text that is taken, with space for its form, and the n keys that checking it left
 pub record FormReady (s : List ℕ) (n : ℕ) (out keys spare : List ℕ) : Type 0 where
   pub taken : textNumber s ≡ 0
   pub fits : length (form s) ≤ length out
-  pub room : KeyRoom keys spare
+  pub space : KeySpace keys spare
   pub sorted : KeysOf s (readText 8 s) n keys

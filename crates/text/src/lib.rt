@@ -4,15 +4,22 @@ use text_tokens::Scanned;
 use text_utf8::Verdict;
 ghost use mathlib.Core.Path.{_≡_};
 ghost use mathlib.Core.List.{_++_};
-ghost use Rattle.text.specs.Keys.{KeyRoom, RootKeys, FormReady, refusedText, withCount};
-ghost use Rattle.text.specs.Answer.{faultNumber, faultPlace, checked, byTree, byFaults, isForm, form, canonicalNumber, canonicalLength, canonicalBytes, isCanonical};
+ghost use Rattle.text.specs.Keys.{KeySpace, RootKeys, FormReady, refusedText, withCount};
+ghost use Rattle.text.specs.Answer.{faultNumber, faultPlace, checked, byTree, byFaults, isForm, form, canonicalNumber, canonicalLength, canonicalBytes};
+ghost use Rattle.text.specs.Answer.{isCanonical};
 ghost use Rattle.text.specs.Question.{textNumber};
 ghost use Prim.Native.Nat.{_-_, _≤_};
 ghost use lib.ListN.{length, drop};
 ghost use Rattle.text_json.specs.Syntax.{Syntax};
 ghost use Rattle.text_json.specs.Read.{readText};
-ghost use Rattle.text_canonical.specs.Room.{WritableRoot, WritesValue};
+ghost use Rattle.text_canonical.specs.Space.{WritableRoot, WritesValue};
 ghost use Rattle.text_tokens.specs.Summary.{summary};
+
+// The most bytes that a text may have.
+pub const MOST_BYTES: usize = 16384;
+
+// The most keys that a text has: each takes four bytes at least.
+pub const MOST_KEYS: usize = MOST_BYTES / 4;
 
 // Why a text is refused, by document 01's questions 1 to 6, each with the offset of the fault; a text that is too long has none.
 pub enum Fault {
@@ -63,8 +70,8 @@ pub enum Checked {
 pub fn check(text: &[u8]) -> Checked
     ensures { λ r. ⌜ r ≡ checked (now (text .entry)) ⌝ }
 {
-    let mut keys = [0u16; 4096];
-    let mut spare = [0u16; 4096];
+    let mut keys = [0u16; MOST_KEYS];
+    let mut spare = [0u16; MOST_KEYS];
     let known = check_with(text, &mut keys, &mut spare);
     known.answer
 }
@@ -87,11 +94,11 @@ fn refusal(fault: Fault) -> Known
 
 // Checks a text with the arrays that it is lent for the keys of its objects, so that the writer gets the keys that are left in them.
 pub fn check_with(text: &[u8], keys: &mut [u16], spare: &mut [u16]) -> Known
-    requires { ⌜ KeyRoom (now keys) (now spare) ⌝ }
+    requires { ⌜ KeySpace (now keys) (now spare) ⌝ }
     ensures { λ r. ⌜ r .answer ≡ checked (now (text .entry)) ⌝ }
     ensures { λ r. ⌜ RootKeys (now (text .entry)) (r .answer) (r .count) (now (keys .exit)) ⌝ }
 {
-    if 16384 < text.len() {
+    if MOST_BYTES < text.len() {
         return refusal(Fault::TooLong);
     }
     match text_utf8::check(text) {
@@ -101,7 +108,7 @@ pub fn check_with(text: &[u8], keys: &mut [u16], spare: &mut [u16]) -> Known
 }
 
 fn check_json(text: &[u8], keys: &mut [u16], spare: &mut [u16]) -> Known
-    requires { ⌜ (length (now text) ≤ 16384) × KeyRoom (now keys) (now spare) ⌝ }
+    requires { ⌜ (length (now text) ≤ 16384) × KeySpace (now keys) (now spare) ⌝ }
     ensures { λ r. ⌜ r .answer ≡ byTree (now (text .entry)) (readText 8 (now (text .entry))) ⌝ }
     ensures { λ r. ⌜ RootKeys (now (text .entry)) (r .answer) (r .count) (now (keys .exit)) ⌝ }
 {
@@ -170,14 +177,14 @@ pub fn canonical(text: &[u8], out: &mut [u8]) -> Answer
     ensures { λ r. ⌜ r .value ≡ canonicalLength (now (text .entry)) (length (now (out .entry))) ⌝ }
     ensures { λ _. ⌜ now (out .exit) ≡ canonicalBytes (now (text .entry)) (now (out .entry)) ⌝ }
 {
-    let mut keys = [0u16; 4096];
-    let mut spare = [0u16; 4096];
+    let mut keys = [0u16; MOST_KEYS];
+    let mut spare = [0u16; MOST_KEYS];
     canonical_with(text, out, &mut keys, &mut spare)
 }
 
 // The same with the arrays that it is lent, so that a caller that needs them again makes them once; what they hold is overwritten.
 pub fn canonical_with(text: &[u8], out: &mut [u8], keys: &mut [u16], spare: &mut [u16]) -> Answer
-    requires { ⌜ KeyRoom (now keys) (now spare) ⌝ }
+    requires { ⌜ KeySpace (now keys) (now spare) ⌝ }
     ensures { λ r. ⌜ r .number ≡ canonicalNumber (now (text .entry)) (length (now (out .entry))) ⌝ }
     ensures { λ r. ⌜ r .value ≡ canonicalLength (now (text .entry)) (length (now (out .entry))) ⌝ }
     ensures { λ _. ⌜ now (out .exit) ≡ canonicalBytes (now (text .entry)) (now (out .entry)) ⌝ }

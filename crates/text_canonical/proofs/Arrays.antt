@@ -15,16 +15,16 @@ use Rattle.text_view.specs.Place.{ValueAt, kindOf}
 use Rattle.text_view.specs.Listed.{ListAt, SomeList, Gives}
 use Rattle.text_view.specs.declared.value.Item.the-variants.{At, End}
 use Rattle.text_view.proofs.Values.{Opened, opened-kind}
-use Rattle.text_canonical.specs.Room.{Room, Writable, WritableArray, Written}
+use Rattle.text_canonical.specs.Space.{WriteSpace, Writable, WritableArray, Written}
 use Rattle.text_canonical.proofs.Forms.{array-form, no-values-form, value-form}
 use Rattle.text_view.proofs.ByKind.{one-value}
-use Rattle.text_canonical.proofs.Marks.{mark-written, room-again}
+use Rattle.text_canonical.proofs.Marks.{mark-written, space-again}
 
 -- Of the canonical form of the array at position `at`, n bytes are written, and its other elements stand from position i on;
 -- `start` says whether all of them do.
 pub record Progress (s : List ℕ) (at depth : ℕ) (before keys spare out : List ℕ) (n : ℕ) (start : Bool) (i : ℕ) : Type 0 where
   pub all : Values
-  pub room : Room s at depth (array all) before keys spare
+  pub space : WriteSpace s at depth (array all) before keys spare
   pub some : 0 < depth
   pub trees : List Syntax
   pub rest : List ℕ
@@ -46,17 +46,19 @@ opened-values s at depth vs v =
     cc
 
 module _ {s : List ℕ} {at depth : ℕ} {out keys spare : List ℕ} (p : WritableArray s at depth out keys spare) where
+  -- Where an array may be written, the output has at least one byte.
   pub mark-fits : 0 < length out
-  mark-fits = omega (arith, ap length (array-form (p .values)), p .room .form)
+  mark-fits = omega (arith, ap length (array-form (p .values)), p .space .form)
 
+  -- With the opening bracket put in the output, one byte of the form is written, and all elements stand from the position after `at` on.
   pub started : Progress s at depth (set out 0 0x5B) keys spare (set out 0 0x5B) 1 true (at + 1)
   started =
-      let v = p .room .here in
+      let v = p .space .here in
       let o = array-opened s at depth (p .values) v in
       let e = opened-values s at depth (p .values) v in
       record {
         all = p .values;
-        room = room-again (set out 0 0x5B) keys spare (length-set out 0 0x5B) refl refl (p .room);
+        space = space-again (set out 0 0x5B) keys spare (length-set out 0 0x5B) refl refl (p .space);
         some = o .some;
         trees = o .trees;
         rest = v .rest;
@@ -80,6 +82,7 @@ record Next {s : List ℕ} {at depth : ℕ} {before keys spare out : List ℕ} {
 
 module _ {s : List ℕ} {at depth : ℕ} {before keys spare out : List ℕ} {n : ℕ} {start : Bool} {i : ℕ}
     (p : Progress s at depth before keys spare out n start i) where
+  -- From position `i` on stand elements and the end mark of an array.
   pub items-left : SomeList s i (depth - 1) false
   items-left = record { trees = p .trees; rest = p .rest; here = p .left }
 
@@ -120,27 +123,31 @@ module _ {s : List ℕ} {at depth : ℕ} {before keys spare out : List ℕ} {n :
           length-append tail (0x5D ∷ []),
         )
 
+    -- The position from which the other elements stand is after `i` and within the text.
     pub later : (i < next) × (next ≤ length s)
     later = taken .later
 
+    -- Before another element there is space for the comma, where it takes one.
     pub comma-fits : n + length (comma start) ≤ length out
-    comma-fits = omega (arith, total, p .room .form, same-length (p .written))
+    comma-fits = omega (arith, total, p .space .form, same-length (p .written))
 
     -- once the comma is written
     module _ (m : ℕ) (mid : List ℕ) (f : m ≡ n + length (comma start)) (w : Writes before mid (p .done ++ comma start)) where
       size : m ≡ length (p .done ++ comma start)
       size = omega (arith, p .size, length-append (p .done) (comma start))
 
+      -- What is written up to the element is no longer than the output.
       pub part-fits : m ≤ length mid
-      part-fits = omega (arith, total, p .room .form, same-length w)
+      part-fits = omega (arith, total, p .space .form, same-length w)
 
+      -- The element may be written into the rest of the output, with arrays of keys that are as long as the given ones.
       pub element : (ks ss : List ℕ) → length ks ≡ length keys → length ss ≡ length spare
           → Writable s v (depth - 1) (midOf m (length mid - m) mid) ks ss
       element ks ss a b =
-          let r = p .room in
+          let r = p .space in
           record {
             value = taken .value;
-            room = record {
+            space = record {
               here = taken .here;
               short = r .short;
               form = omega (arith, total, r .form, lent-length w m size);
@@ -153,16 +160,18 @@ module _ {s : List ℕ} {at depth : ℕ} {before keys spare out : List ℕ} {n :
         here : Written (midOf m (length mid - m) mid) part r (canonical (taken .value))
         here = h (taken .value) (taken .here)
 
+        -- What is written up to the element's end is shorter than the output.
         pub next-fits : m + r < length before
-        next-fits = omega (arith, total, p .room .form, here .0)
+        next-fits = omega (arith, total, p .space .form, here .0)
 
+        -- Once the element is written too, its bytes count as written, and the other elements stand from position `next` on.
         pub advanced : Progress s at depth before keys spare (putMid m (length mid - m) mid part) (m + r) false next
         advanced =
             let k = taken in
             let d = p .done ++ comma start in
             record {
               all = p .all;
-              room = p .room;
+              space = p .space;
               some = p .some;
               trees = k .others;
               rest = p .rest;
@@ -185,13 +194,15 @@ module _ {s : List ℕ} {at depth : ℕ} {before keys spare out : List ℕ} {n :
         go (t ∷ ts) j f = absurd f
 
     last-fits : n < length before
-    last-fits = omega (arith, p .size, ap length ended, length-append (p .done) (0x5D ∷ []), p .room .form)
+    last-fits = omega (arith, p .size, ap length ended, length-append (p .done) (0x5D ∷ []), p .space .form)
 
+    -- Where no element is left, there is space for the closing bracket.
     pub end-fits : n < length out
     end-fits = omega (arith, last-fits, same-length (p .written))
 
+    -- With the closing bracket, the canonical form of the value at position `at` is written.
     pub finished : (v : Value) → ValueAt s at depth v → Written before (set out n 0x5D) (n + 1) (canonical v)
     finished v h =
-        let same : array (p .all) ≡ v = one-value s at depth _ v (p .room .here) h in
+        let same : array (p .all) ≡ v = one-value s at depth _ v (p .space .here) h in
         let form : canonical v ≡ p .done ++ (0x5D ∷ []) = ap canonical (sym same) ∙ sym ended in
         rw form (omega (arith, p .size, length-append (p .done) (0x5D ∷ [])), byte-written (p .written) n 0x5D (p .size) last-fits)

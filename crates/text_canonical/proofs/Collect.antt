@@ -21,7 +21,7 @@ use Rattle.text_view.specs.declared.value.Item.the-variants.{At, End}
 use Rattle.text_view.proofs.Values.{Opened, opened-kind}
 use Rattle.text_view.proofs.Items.{item-within}
 use Rattle.text_canonical.specs.Members.{MemberAt, MembersAt, Collected, Sorted}
-use Rattle.text_canonical.specs.Room.{KeysFit}
+use Rattle.text_canonical.specs.Space.{KeysFit}
 use Rattle.text_canonical.proofs.Forms.{count, keys-fit}
 use Rattle.text_view.proofs.ByKind.{one-value}
 use Rattle.text_canonical.proofs.Members.{member-key, members-sort, no-members-sort}
@@ -34,22 +34,26 @@ pub record Progress (s : List ℕ) (at depth : ℕ) (keys : List ℕ) (n i : ℕ
   pub trees : List Member
   pub rest : List ℕ
   pub left : ListAt s i (depth - 1) true trees rest
-  pub room : n + count (fields (members trees)) ≤ length keys
+  pub space : n + count (fields (members trees)) ≤ length keys
   pub known : KeysAt s (take n keys)
   pub joins : (us : List ℕ) → MembersAt s (depth - 1) (sort (keyLe s) us) (sortedFields (fields (members trees)))
       → MembersAt s (depth - 1) (sort (keyLe s) (take n keys ++ us)) (sortedFields all)
 
+-- Where an object stands, the depth is not 0, and its members stand after the opening brace.
 pub object-opened : (s : List ℕ) (at depth : ℕ) (fs : Fields) (v : ValueAt s at depth (object fs)) → Opened s at depth true (v .tree) (v .rest)
 unfolding kindOf
 object-opened s at depth fs v = opened-kind s at depth (v .tree) (v .rest) (v .derives) true (ap kindOf (v .means))
 
-pub opened-fields : (s : List ℕ) (at depth : ℕ) (fs : Fields) (v : ValueAt s at depth (object fs)) → fields (members (object-opened s at depth fs v .trees)) ≡ fs
+-- The members that stand there have the content of the object's members.
+pub opened-fields : (s : List ℕ) (at depth : ℕ) (fs : Fields) (v : ValueAt s at depth (object fs))
+    → fields (members (object-opened s at depth fs v .trees)) ≡ fs
 unfolding content
 opened-fields s at depth fs v =
     let o = object-opened s at depth fs v in
     let e : object (fields (members (o .trees))) ≡ object fs = ap content (sym (o .tree)) ∙ v .means in
     cc
 
+-- Where the keys of an object fit, none is collected yet and all members stand from the position after the opening brace on.
 pub started : (s : List ℕ) (at depth : ℕ) (keys : List ℕ) → KeysFit s at depth keys → Progress s at depth keys 0 (at + 1)
 started s at depth keys p =
     let o = object-opened s at depth (p .fields) (p .here) in
@@ -61,12 +65,13 @@ started s at depth keys p =
       trees = o .trees;
       rest = p .here .rest;
       left = o .items;
-      room = omega (arith, ap count e, keys-fit (p .fields), p .enough);
+      space = omega (arith, ap count e, keys-fit (p .fields), p .enough);
       known = no-keys;
       joins = λ us h. rw e at h;
     }
 
 module _ {s : List ℕ} {at depth : ℕ} {keys : List ℕ} {n i : ℕ} (p : Progress s at depth keys n i) where
+  -- From position `i` on stand members and the end mark of an object.
   pub items-left : SomeList s i (depth - 1) true
   items-left = record { trees = p .trees; rest = p .rest; here = p .left }
 
@@ -76,29 +81,33 @@ module _ {s : List ℕ} {at depth : ℕ} {keys : List ℕ} {n i : ℕ} (p : Prog
         → MemberAt s q (depth - 1) (unescape (m .key)) (content (m .value))
     member m ms f = record { tree = m; rest = f .after; derives = f .derives; stops = f .stops; key = refl; means = refl }
 
+    -- The next member stands at a position within the text.
     pub position : (ms : List Member) → Gives s i (depth - 1) true ms (p .rest) (At q v next) → q < length s
     position [] g = absurd g
     position (m ∷ ms) g = item-within s q true (depth - 1) m (g .after) (g .derives)
 
+    -- The position from which the other members stand is after `i` and within the text.
     pub later : (ms : List Member) → Gives s i (depth - 1) true ms (p .rest) (At q v next) → (i < next) × (next ≤ length s)
     later [] g = absurd g
     later (m ∷ ms) g = (g .later, g .within)
 
-    key-room : (ms : List Member) → n + count (fields (members ms)) ≤ length keys → Gives s i (depth - 1) true ms (p .rest) (At q v next) → n < length keys
+    key-space : (ms : List Member) → n + count (fields (members ms)) ≤ length keys → Gives s i (depth - 1) true ms (p .rest) (At q v next) → n < length keys
     unfolding members fields count
-    key-room [] h g = absurd g
-    key-room (m ∷ ms) h g = omega arith
+    key-space [] h g = absurd g
+    key-space (m ∷ ms) h g = omega arith
 
     module _ (g : Gives s i (depth - 1) true (p .trees) (p .rest) (At q v next)) where
+      -- Where another member is read, there is space for its key.
       pub fits : n < length keys
-      fits = key-room (p .trees) (p .room) g
+      fits = key-space (p .trees) (p .space) g
 
       stored : take (n + 1) (set keys n q) ≡ take n keys ++ (q ∷ [])
       stored = rw add-one (take-suc-set keys n q fits)
 
+      -- With the member's position stored, one more key is collected, and the other members stand from position `next` on.
       pub collected : Progress s at depth (set keys n q) (n + 1) next
       unfolding members fields count
-      collected = go (p .trees) (p .room) (p .joins) g
+      collected = go (p .trees) (p .space) (p .joins) g
         where
           go : (ms : List Member) → n + count (fields (members ms)) ≤ length keys
               → ((us : List ℕ) → MembersAt s (depth - 1) (sort (keyLe s) us) (sortedFields (fields (members ms)))
@@ -116,9 +125,10 @@ module _ {s : List ℕ} {at depth : ℕ} {keys : List ℕ} {n i : ℕ} (p : Prog
                 trees = ms;
                 rest = p .rest;
                 left = f .others;
-                room = omega (arith, length-set keys n q);
+                space = omega (arith, length-set keys n q);
                 known = rw stored (keys-append (p .known) (key-at (record { bytes = k; here = member-key s q (depth - 1) k x h }) no-keys));
-                joins = λ us l. rw (stored, append-assoc (take n keys) (q ∷ []) us) (j (q ∷ us) (members-sort s (depth - 1) q k x us (fields (members ms)) h l));
+                joins = λ us l. rw (stored, append-assoc (take n keys) (q ∷ []) us)
+                    (j (q ∷ us) (members-sort s (depth - 1) q k x us (fields (members ms)) h l));
               }
 
   -- no member is left

@@ -13,27 +13,33 @@ use Rattle.text_content.specs.Canonical.{insertField, sorted, sortedValues, sor
 use Rattle.text_content.proofs.Same.{insert-before, insert-after}
 use Rattle.text_canonical.specs.Members.{memberForm}
 
+-- The canonical form of an array is those of its elements, separated by commas, between brackets.
 pub array-form : (vs : Values) → canonical (array vs) ≡ 0x5B ∷ (writeValues true (sortedValues vs) ++ (0x5D ∷ []))
 unfolding canonical sorted write
 array-form vs = refl
 
+-- The canonical form of an object is its sorted members, separated by commas, between braces.
 pub object-form : (fs : Fields) → canonical (object fs) ≡ 0x7B ∷ (writeFields true (sortedFields fs) ++ (0x7D ∷ []))
 unfolding canonical sorted write
 object-form fs = refl
 
+-- No elements are written as no bytes.
 pub no-values-form : (first : Bool) → writeValues first (sortedValues no-values) ≡ []
 unfolding sortedValues writeValues
 no-values-form first = refl
 
+-- Elements are written as a comma, unless they come first, the canonical form of the first one, and then the others.
 pub value-form : (first : Bool) (v : Value) (vs : Values)
     → writeValues first (sortedValues (value v vs)) ≡ comma first ++ (canonical v ++ writeValues false (sortedValues vs))
 unfolding sortedValues writeValues canonical
 value-form first v vs = refl
 
+-- No members are written as no bytes.
 pub no-fields-form : (first : Bool) → writeFields first no-fields ≡ []
 unfolding writeFields
 no-fields-form first = refl
 
+-- A member with a sorted value is written as a comma, unless it comes first, and its canonical form; then follow the others.
 pub field-form : (first : Bool) (k : List ℕ) (v : Value) (fs : Fields)
     → writeFields first (field k (sorted v) fs) ≡ comma first ++ (memberForm k v ++ writeFields false fs)
 unfolding writeFields canonical
@@ -44,6 +50,7 @@ pub comma-none : (first : Bool) → first ≡ true → comma first ≡ []
 unfolding comma
 comma-none first e = rw e
 
+-- An element or member that is not the first has one comma before it.
 pub comma-one : (first : Bool) → first ≡ false → comma first ≡ 0x2C ∷ []
 unfolding comma
 comma-one first e = rw e
@@ -76,14 +83,27 @@ pub fields-size : (fs : Fields) → 4 * count fs ≤ length (writeFields false f
 unfolding count writeFields comma quoted
 fields-size no-fields = omega arith
 fields-size (field k v fs) =
-    omega (arith, fields-size fs, length-append (quoted k) (0x3A ∷ (write v ++ writeFields false fs)), length-append (escaped k) (0x22 ∷ []), length-append (write v) (writeFields false fs))
+    omega (
+      arith,
+      fields-size fs,
+      length-append (quoted k) (0x3A ∷ (write v ++ writeFields false fs)),
+      length-append (escaped k) (0x22 ∷ []),
+      length-append (write v) (writeFields false fs),
+    )
 
 first-size : (fs : Fields) → 4 * count fs ≤ length (writeFields true fs) + 1
 unfolding count writeFields comma quoted
 first-size no-fields = omega arith
 first-size (field k v fs) =
-    omega (arith, fields-size fs, length-append (quoted k) (0x3A ∷ (write v ++ writeFields false fs)), length-append (escaped k) (0x22 ∷ []), length-append (write v) (writeFields false fs))
+    omega (
+      arith,
+      fields-size fs,
+      length-append (quoted k) (0x3A ∷ (write v ++ writeFields false fs)),
+      length-append (escaped k) (0x22 ∷ []),
+      length-append (write v) (writeFields false fs),
+    )
 
+-- The canonical form of an object has at least four bytes for each of its members.
 pub keys-fit : (fs : Fields) → 4 * count fs ≤ length (canonical (object fs))
 keys-fit fs =
     omega (arith, ap length (object-form fs), length-append (writeFields true (sortedFields fs)) (0x7D ∷ []), first-size (sortedFields fs), count-sorted fs)

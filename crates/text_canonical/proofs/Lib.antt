@@ -8,4 +8,3 @@ pub mod Marks
 pub mod Arrays
 pub mod Objects
 pub mod MemberParts
-pub mod Fits

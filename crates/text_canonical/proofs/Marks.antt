@@ -7,8 +7,9 @@ use native.Mathlib.Numerals.{add-one}
 use lib.ListN.{length, drop, set, length-set}
 use Rattle.text_content.specs.Value.{Value}
 use Rattle.text_printer.specs.Writes.{Writes}
-use Rattle.text_canonical.specs.Room.{Room, Written}
+use Rattle.text_canonical.specs.Space.{WriteSpace, Written}
 
+-- A slice that is not empty, once its first byte is `b`, counts as one in which the byte `b` is written.
 pub mark-written : (l : List ℕ) (b : ℕ) → 0 < length l → Writes (set l 0 b) (set l 0 b) (b ∷ [])
 mark-written [] b h = absurd (omega arith)
 mark-written (x ∷ l) b h = record { fits = omega arith; all = refl }
@@ -17,6 +18,7 @@ past-mark : (l : List ℕ) (b n : ℕ) → drop (suc n) (set l 0 b) ≡ drop (su
 past-mark [] b n = refl
 past-mark (x ∷ l) b n = refl
 
+-- At least one byte written over a slice whose first byte was set is written over the slice as it was before that.
 pub from-mark : (l : List ℕ) (b n : ℕ) {after bytes : List ℕ} → Written (set l 0 b) after (n + 1) bytes → Written l after (n + 1) bytes
 from-mark l b n {after} {bytes} w =
     let size : suc n ≡ length bytes = sym (add-one n) ∙ w .0 in (
@@ -28,10 +30,10 @@ from-mark l b n {after} {bytes} w =
       },
     )
 
--- room goes by lengths alone
-pub room-again : {s : List ℕ} {at depth : ℕ} {v : Value} {out keys spare : List ℕ} (out′ keys′ spare′ : List ℕ) → length out′ ≡ length out
-    → length keys′ ≡ length keys → length spare′ ≡ length spare → Room s at depth v out keys spare → Room s at depth v out′ keys′ spare′
-room-again out′ keys′ spare′ e f g r =
+-- space goes by lengths alone
+pub space-again : {s : List ℕ} {at depth : ℕ} {v : Value} {out keys spare : List ℕ} (out′ keys′ spare′ : List ℕ) → length out′ ≡ length out
+    → length keys′ ≡ length keys → length spare′ ≡ length spare → WriteSpace s at depth v out keys spare → WriteSpace s at depth v out′ keys′ spare′
+space-again out′ keys′ spare′ e f g r =
     record {
       here = r .here;
       short = r .short;
@@ -40,6 +42,7 @@ room-again out′ keys′ spare′ e f g r =
       sorting = omega (arith, r .sorting);
     }
 
-pub room-of : {s : List ℕ} {at depth : ℕ} {v w : Value} {out keys spare : List ℕ} → v ≡ w → Room s at depth v out keys spare
-    → Room s at depth w out keys spare
-room-of {s} {at} {depth} {out = out} {keys = keys} {spare = spare} e r = subst (λ (x : Value). Room s at depth x out keys spare) e r
+-- Space for the writing of a value is space for the writing of an equal value.
+pub space-of : {s : List ℕ} {at depth : ℕ} {v w : Value} {out keys spare : List ℕ} → v ≡ w → WriteSpace s at depth v out keys spare
+    → WriteSpace s at depth w out keys spare
+space-of {s} {at} {depth} {out = out} {keys = keys} {spare = spare} e r = subst (λ (x : Value). WriteSpace s at depth x out keys spare) e r

@@ -20,12 +20,15 @@ use Rattle.text_canonical.specs.Members.{MemberAt, MembersAt, no-members
 use Rattle.text_canonical.proofs.Forms.{count}
 
 module _ (s : List ℕ) (p depth : ℕ) (k : List ℕ) (v : Value) (m : MemberAt s p depth k v) where
+  -- From the position after the opening quotation mark on, a string has the content of the member's key.
   pub member-key : InString s (p + 1) k
   member-key = rw (← m .key) (Strings.member-key s p depth (m .tree) (m .rest) (m .derives) .1)
 
+  -- The content that is read from that position on is the member's key.
   pub member-content : contentFrom s (p + 1) ≡ k
   member-content = content-from s (p + 1) k member-key
 
+  -- At the position of the member's value stands a value with the content `v`.
   pub member-value : (q : ℕ) → ItemValue s p true q → ValueAt s q depth v
   member-value q h =
       record { tree = m .tree .value; rest = m .rest; derives = h .value depth (m .tree) (m .rest) (m .derives); stops = m .stops; means = m .means }
@@ -57,10 +60,12 @@ pub members-sort : (s : List ℕ) (depth p : ℕ) (k : List ℕ) (v : Value) (ks
 unfolding sort sortedFields
 members-sort s depth p k v ks fs m h = members-insert s depth p k v m h
 
+-- No positions, sorted, are those of no members.
 pub no-members-sort : (s : List ℕ) (depth : ℕ) → MembersAt s depth (sort (keyLe s) []) (sortedFields no-fields)
 unfolding sort sortedFields
 no-members-sort s depth = no-members
 
+-- There are as many positions of keys as there are members.
 pub members-count : {s : List ℕ} {depth : ℕ} {ks : List ℕ} {fs : Fields} → MembersAt s depth ks fs → length ks ≡ count fs
 unfolding count
 members-count no-members = refl

@@ -17,17 +17,17 @@ use Rattle.text_printer.specs.Writes.{Writes}
 use Rattle.text_printer.proofs.Written.{same-length, lent-length, byte-written, part-written}
 use Rattle.text_view.specs.Place.{ValueAt}
 use Rattle.text_canonical.specs.Members.{MemberAt, MembersAt, no-members, member-at, Sorted, memberForm}
-use Rattle.text_canonical.specs.Room.{Room, WritableObject, WritableMembers, WritableMember, KeysFit, Written}
+use Rattle.text_canonical.specs.Space.{WriteSpace, WritableObject, WritableMembers, WritableMember, KeysFit, Written}
 use Rattle.text_canonical.proofs.Forms.{object-form, no-fields-form, field-form, comma-one, member-size, count, fields-size}
 use Rattle.text_view.proofs.ByKind.{one-value}
-use Rattle.text_canonical.proofs.Marks.{mark-written, room-again}
+use Rattle.text_canonical.proofs.Marks.{mark-written, space-again}
 use Rattle.text_canonical.proofs.Members.{members-count}
 use Rattle.text_canonical.proofs.Collect.{object-opened}
 
 -- Of the canonical form of the object at position `at`, n bytes are written: its first i members, in the order of the `total` keys.
 pub record Progress (s : List ℕ) (at depth : ℕ) (before keys₀ spare out keys : List ℕ) (total n i : ℕ) : Type 0 where
   pub all : Fields
-  pub room : Room s at depth (object all) before keys₀ spare
+  pub space : WriteSpace s at depth (object all) before keys₀ spare
   pub some : 0 < depth
   pub within : total ≤ length keys
   pub same : length keys ≡ length keys₀
@@ -41,30 +41,33 @@ pub record Progress (s : List ℕ) (at depth : ℕ) (before keys₀ spare out ke
   pub joins : done ++ (writeFields (eqb i 0) left ++ (0x7D ∷ [])) ≡ canonical (object all)
 
 module _ {s : List ℕ} {at depth : ℕ} {out keys spare : List ℕ} (p : WritableObject s at depth out keys spare) where
-  pub keys-room : KeysFit s at depth keys × (length keys ≤ length spare)
-  keys-room =
-      let r = p .room in
+  -- Where an object may be written, there is space to collect its keys and to sort them.
+  pub keys-space : KeysFit s at depth keys × (length keys ≤ length spare)
+  keys-space =
+      let r = p .space in
       (record { fields = p .fields; here = r .here; short = r .short; enough = r .enough }, r .sorting)
 
   -- once the keys are sorted
   pub keys-given : (ks ss : List ℕ) (total : ℕ) → length ks ≡ length keys → length ss ≡ length spare → Sorted s at depth total ks
       → WritableMembers s at depth total out ks ss
-  keys-given ks ss total e f h = record { fields = p .fields; room = room-again out ks ss refl e f (p .room); sorted = h }
+  keys-given ks ss total e f h = record { fields = p .fields; space = space-again out ks ss refl e f (p .space); sorted = h }
 
 module _ {s : List ℕ} {at depth total : ℕ} {out keys spare : List ℕ} (p : WritableMembers s at depth total out keys spare) where
+  -- Where the members of an object may be written, the output has at least one byte.
   pub mark-fits : 0 < length out
-  mark-fits = omega (arith, ap length (object-form (p .fields)), p .room .form)
+  mark-fits = omega (arith, ap length (object-form (p .fields)), p .space .form)
 
+  -- With the opening brace put in the output, one byte of the form is written, and no member.
   pub started : Progress s at depth (set out 0 0x7B) keys spare (set out 0 0x7B) keys total 1 0
   started =
       record {
         all = p .fields;
-        room = room-again (set out 0 0x7B) keys spare (length-set out 0 0x7B) refl refl (p .room);
-        some = object-opened s at depth (p .fields) (p .room .here) .some;
+        space = space-again (set out 0 0x7B) keys spare (length-set out 0 0x7B) refl refl (p .space);
+        some = object-opened s at depth (p .fields) (p .space .here) .some;
         within = p .sorted .within;
         same = refl;
         left = sortedFields (p .fields);
-        members = p .sorted .members (p .fields) (p .room .here);
+        members = p .sorted .members (p .fields) (p .space .here);
         done = 0x7B ∷ [];
         size = refl;
         written = mark-written out 0x7B mark-fits;
@@ -131,21 +134,24 @@ module _ {s : List ℕ} {at depth : ℕ} {before keys₀ spare out keys : List �
     others-count =
         omega (arith, members-count (taken .left), length-drop (i + 1) (take total keys), length-take-le total keys (p .within))
 
+    -- Before another member there is space for the comma, where it takes one.
     pub comma-fits : n + length (comma (eqb i 0)) ≤ length out
-    comma-fits = omega (arith, sum, p .room .form, same-length (p .written))
+    comma-fits = omega (arith, sum, p .space .form, same-length (p .written))
 
     -- once the comma is written
     module _ (m : ℕ) (mid : List ℕ) (f : m ≡ n + length (comma (eqb i 0))) (w : Writes before mid (p .done ++ comma (eqb i 0))) where
       size : m ≡ length (p .done ++ comma (eqb i 0))
       size = omega (arith, p .size, length-append (p .done) (comma (eqb i 0)))
 
+      -- What is written up to the member is no longer than the output.
       pub part-fits : m ≤ length mid
-      part-fits = omega (arith, sum, p .room .form, same-length w)
+      part-fits = omega (arith, sum, p .space .form, same-length w)
 
+      -- The next member may be written into the rest of the output, with the places past the object's own keys.
       pub member : (ss : List ℕ) → length ss ≡ length spare
           → WritableMember s (getD keys i 0) (depth - 1) (midOf m (length mid - m) mid) (midOf total (length keys - total) keys) ss
       member ss b =
-          let r = p .room in
+          let r = p .space in
           let l : length (midOf total (length keys - total) keys) ≡ length keys - total = mid-len total (length keys) keys (omega arith) in
           record {
             key = taken .key;
@@ -162,8 +168,9 @@ module _ {s : List ℕ} {at depth : ℕ} {before keys₀ spare out keys : List �
         here : Written (midOf m (length mid - m) mid) part r (memberForm (taken .key) (taken .value))
         here = h (taken .key) (taken .value) (taken .here)
 
+        -- What is written up to the member's end is shorter than the output.
         pub next-fits : m + r < length before
-        next-fits = omega (arith, sum, p .room .form, here .0)
+        next-fits = omega (arith, sum, p .space .form, here .0)
 
         paid-more : 4 * (i + 1) ≤ m + r
         paid-more =
@@ -180,7 +187,7 @@ module _ {s : List ℕ} {at depth : ℕ} {before keys₀ spare out keys : List �
             let form = memberForm (k .key) (k .value) in
             record {
               all = p .all;
-              room = p .room;
+              space = p .space;
               some = p .some;
               within = omega (arith, p .within);
               same = e ∙ p .same;
@@ -204,13 +211,15 @@ module _ {s : List ℕ} {at depth : ℕ} {before keys₀ spare out keys : List �
         go fs j no-members = rw (no-fields-form (eqb i 0)) at j
 
     last-fits : n < length before
-    last-fits = omega (arith, p .size, ap length ended, length-append (p .done) (0x7D ∷ []), p .room .form)
+    last-fits = omega (arith, p .size, ap length ended, length-append (p .done) (0x7D ∷ []), p .space .form)
 
+    -- Where no member is left, there is space for the closing brace.
     pub end-fits : n < length out
     end-fits = omega (arith, last-fits, same-length (p .written))
 
+    -- With the closing brace, the canonical form of the value at position `at` is written.
     pub finished : (v : Value) → ValueAt s at depth v → Written before (set out n 0x7D) (n + 1) (canonical v)
     finished v h =
-        let same : object (p .all) ≡ v = one-value s at depth _ v (p .room .here) h in
+        let same : object (p .all) ≡ v = one-value s at depth _ v (p .space .here) h in
         let form : canonical v ≡ p .done ++ (0x7D ∷ []) = ap canonical (sym same) ∙ sym ended in
         rw form (omega (arith, p .size, length-append (p .done) (0x7D ∷ [])), byte-written (p .written) n 0x7D (p .size) last-fits)

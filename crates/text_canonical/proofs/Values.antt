@@ -36,6 +36,7 @@ told k v e = subst (λ (j : Kind). IsKind j v) (sym e) (is-kind v)
 abbrev pub tag : Kind → ℕ
 tag k = tagOf Kind.the-type k
 
+-- A kind with one of the last three numbers that is neither that of an array nor of an object is that of a string.
 pub left-string : (k : Kind) → (tag k ≡ 3) ⊎ ((tag k ≡ 4) ⊎ (tag k ≡ 5)) → (k ≡ Array → ⊥) → (k ≡ Object → ⊥) → k ≡ String
 left-string Null e a o = absurd (⊎-elim (λ x. omega arith) (⊎-elim (λ x. omega arith) (λ x. omega arith)) e)
 left-string (Boolean b) e a o = absurd (⊎-elim (λ x. omega arith) (⊎-elim (λ x. omega arith) (λ x. omega arith)) e)
@@ -51,36 +52,42 @@ no-branch k e = (λ a. other (ap tag a) (omega arith), λ o. other (ap tag o) (o
     other : {n : ℕ} → tag k ≡ n → 3 < n → ⊥
     other f h = ⊎-elim (λ x. omega arith) (⊎-elim (λ x. omega arith) (⊎-elim (λ x. omega arith) (λ x. omega arith))) e
 
+-- A value of the kind null is null.
 pub null-value : (v : Value) → Null ≡ kindOf v → v ≡ null
 null-value v e = go (told Null v e)
   where
     go : {v : Value} → IsKind Null v → v ≡ null
     go is-null = refl
 
+-- A value of the kind of the boolean `b` is the boolean `b`.
 pub boolean-value : (b : Bool) (v : Value) → Boolean b ≡ kindOf v → v ≡ boolean b
 boolean-value b v e = go (told (Boolean b) v e)
   where
     go : {v : Value} → IsKind (Boolean b) v → v ≡ boolean b
     go (is-boolean _) = refl
 
+-- A value of the kind number is a number with some sign and some digits.
 pub number-value : (v : Value) → Number ≡ kindOf v → (n : Bool) × (ds : List ℕ) × (v ≡ number n ds)
 number-value v e = go (told Number v e)
   where
     go : {v : Value} → IsKind Number v → (n : Bool) × (ds : List ℕ) × (v ≡ number n ds)
     go (is-number n ds) = (n, ds, refl)
 
+-- A value of the kind string is a string with some content.
 pub string-value : (v : Value) → String ≡ kindOf v → (c : List ℕ) × (v ≡ string c)
 string-value v e = go (told String v e)
   where
     go : {v : Value} → IsKind String v → (c : List ℕ) × (v ≡ string c)
     go (is-string c) = (c, refl)
 
+-- A value of the kind array is an array of some elements.
 pub array-value : (v : Value) → Array ≡ kindOf v → (vs : Values) × (v ≡ array vs)
 array-value v e = go (told Array v e)
   where
     go : {v : Value} → IsKind Array v → (vs : Values) × (v ≡ array vs)
     go (is-array vs) = (vs, refl)
 
+-- A value of the kind object is an object with some members.
 pub object-value : (v : Value) → Object ≡ kindOf v → (fs : Fields) × (v ≡ object fs)
 object-value v e = go (told Object v e)
   where

@@ -1,5 +1,6 @@
 // The canonical form of a value of a checked JSON text. Each function writes at the start of the slice that it is lent and says how
 // many bytes it wrote; what is left of the slice is lent on to the next writer.
+use text_json::MOST_NESTING;
 use text_view::Kind;
 ghost use mathlib.Core.Path.{_≡_};
 ghost use mathlib.Core.List.{List, _++_};
@@ -9,7 +10,8 @@ ghost use Rattle.text_content.specs.Value.{boolean};
 ghost use Rattle.text_content.specs.Canonical.{canonical, comma};
 ghost use Rattle.text_printer.specs.Writes.{Writes};
 ghost use Rattle.text_canonical.specs.Members.{Collected, Sorted};
-ghost use Rattle.text_canonical.specs.Room.{Writable, WritableArray, WritableObject, WritableMembers, WritableRoot, KeysFit, WritableScalar, WritableMember, Written, WritesValue, WritesMember, NumberAt, DigitsEnd};
+ghost use Rattle.text_canonical.specs.Space.{Writable, WritableArray, WritableObject, WritableMembers, WritableRoot, KeysFit, WritableScalar};
+ghost use Rattle.text_canonical.specs.Space.{WritableMember, Written, WritesValue, WritesMember, NumberAt, DigitsEnd};
 
 // The value at `at`, whose arrays and objects are nested at most `depth` deep. `keys` and `spare` hold the keys of its objects
 // while they are sorted and written; what they hold afterwards means nothing.
@@ -46,8 +48,8 @@ pub fn write_root(
     ensures { λ r. ⌜ WritesValue (now (s .entry)) at 8 (now (out .entry)) (now (out .exit)) r ⌝ }
 {
     match text_view::value::kind(s, at) {
-        Kind::Object => write_members(s, at, 8, count, out, keys, spare),
-        _ => write_value(s, at, 8, out, keys, spare),
+        Kind::Object => write_members(s, at, MOST_NESTING, count, out, keys, spare),
+        _ => write_value(s, at, MOST_NESTING, out, keys, spare),
     }
 }
 
@@ -153,7 +155,8 @@ fn write_member(
 fn separate(out: &mut [u8], n: usize, first: bool) -> usize
     requires { ⌜ n + length (comma first) ≤ length (now out) ⌝ }
     ensures { λ r. ⌜ r ≡ n + length (comma first) ⌝ }
-    ensures { λ _. ⌜ ((before done : List ℕ) → n ≡ length done → Writes before (now (out .entry)) done → Writes before (now (out .exit)) (done ++ comma first)) ⌝ }
+    ensures { λ _. ⌜ ((before done : List ℕ) → n ≡ length done → Writes before (now (out .entry)) done
+        → Writes before (now (out .exit)) (done ++ comma first)) ⌝ }
 {
     if first {
         return n;
@@ -191,10 +194,10 @@ fn digits_end(s: &[u8], at: usize) -> usize
     requires { ⌜ NumberAt (now s) at ⌝ }
     ensures { λ r. ⌜ DigitsEnd (now (s .entry)) at r ⌝ }
 {
-    let first = at + text_json::number::sign_size(s[at] == b'-');
-    match text_json::number::int_part(s, first) {
-        text_json::number::Int::Digits { end, value: _ } => end,
-        text_json::number::Int::NoInt(end) => end,
+    let first = at + text_numbers::sign_size(s[at] == b'-');
+    match text_numbers::int_part(s, first) {
+        text_numbers::Int::Digits { end, value: _ } => end,
+        text_numbers::Int::NoInt(end) => end,
     }
 }
 

@@ -10,12 +10,17 @@ use Rattle.laws.proofs.Order.{by-test, false-true, same-refl, same-eq}
 use Rattle.text_json.specs.Syntax.{Syntax, Elements, Members, no-elements, element, no-members, member}
 use Rattle.text_json.specs.Grammar
 use Rattle.text_json.specs.Content.{unescape}
-use Rattle.text_content.specs.Value.{Value, Values, Fields, null, boolean, number, string, array, object, no-values, value, no-fields, field, content, contents, fields, Same, SameValues, SameFields, Inserted, same-null, same-boolean, same-number, same-string, same-array, same-object, same-none, same-value, same-empty, same-field, here, there}
-use Rattle.text_content.specs.Distinct.{Fresh, fresh-none, fresh-field, Distinct, distinct-null, distinct-boolean, distinct-number, distinct-string, distinct-array, distinct-object, DistinctValues, distinct-none, distinct-value, DistinctFields, distinct-empty, distinct-field}
+use Rattle.text_content.specs.Value.{Value, Values, Fields, null, boolean, number, string, array, object, no-values, value, no-fields, field, content}
+use Rattle.text_content.specs.Value.{contents, fields, Same, SameValues, SameFields, Inserted, same-null, same-boolean, same-number, same-string}
+use Rattle.text_content.specs.Value.{same-array, same-object, same-none, same-value, same-empty, same-field, here, there}
+use Rattle.text_content.specs.Distinct.{Fresh, fresh-none, fresh-field, Distinct, distinct-null, distinct-boolean, distinct-number, distinct-string}
+use Rattle.text_content.specs.Distinct.{distinct-array, distinct-object, DistinctValues, distinct-none, distinct-value, DistinctFields, distinct-empty}
+use Rattle.text_content.specs.Distinct.{distinct-field}
 use Rattle.text_content.specs.Canonical.{insertField, sorted, sortedValues, sortedFields}
 use Rattle.text_content.specs.Fault.{mark, among, repeated, keyFault, keyFaults, memberKeyFaults}
 use Rattle.text_content.proofs.Basic.{max-left, max-right}
-use Rattle.text_content.proofs.Formed.{Formed, FormedElements, FormedMembers, formed-null, formed-boolean, formed-number, formed-string, formed-array, formed-object, formed-none, formed-element, formed-empty, formed-member, formed, unmarked}
+use Rattle.text_content.proofs.Formed.{Formed, FormedElements, FormedMembers, formed-null, formed-boolean, formed-number, formed-string, formed-array}
+use Rattle.text_content.proofs.Formed.{formed-object, formed-none, formed-element, formed-empty, formed-member, formed, unmarked}
 use Rattle.text_content.proofs.Same.{same-sorted, same-sorted-fields, insert-swap, insert-before, insert-after, strictly}
 
 -- contents that are the same have the same keys
@@ -23,6 +28,7 @@ fresh-inserted : {k j : List ℕ} {v : Value} {fs gs : Fields} → Inserted j v 
 fresh-inserted here n f = fresh-field n f
 fresh-inserted (there i) n (fresh-field m f) = fresh-field m (fresh-inserted i n f)
 
+-- A key that no member of an object has is a key that no member of an object with the same content has.
 pub fresh-same : {k : List ℕ} {fs gs : Fields} → SameFields fs gs → Fresh k fs → Fresh k gs
 fresh-same same-empty f = f
 fresh-same (same-field p i h) (fresh-field n f) = fresh-inserted i n (fresh-same h f)
@@ -32,6 +38,7 @@ distinct-inserted here f p h = distinct-field f p h
 distinct-inserted (there i) (fresh-field n f) p (distinct-field g q h) = distinct-field (fresh-inserted i (λ e. n (sym e)) g) q (distinct-inserted i f p h)
 
 mutual
+  -- If no object of a content has a key twice, no object of a content that is the same has.
   pub distinct-same : {v w : Value} → Same v w → Distinct v → Distinct w
   distinct-same same-null d = d
   distinct-same same-boolean d = d
@@ -48,6 +55,7 @@ mutual
   distinct-same-fields same-empty d = d
   distinct-same-fields (same-field p i h) (distinct-field f d ds) = distinct-inserted i (fresh-same h f) (distinct-same p d) (distinct-same-fields h ds)
 
+-- If no object of a content has a key twice, no object of the sorted content has.
 pub distinct-sorted : (v : Value) → Distinct v → Distinct (sorted v)
 distinct-sorted v d = distinct-same (same-sorted v) d
 
@@ -61,6 +69,7 @@ sorted-inserted {k} {v} (there {j = j} {w = w} {fs = fs} i) (fresh-field n f) =
 mutual
   unfolding sorted
 
+  -- Contents that are the same are equal when sorted, if no object of the first has a key twice.
   pub sorted-same : {v w : Value} → Same v w → Distinct v → sorted v ≡ sorted w
   sorted-same same-null d = refl
   sorted-same same-boolean d = refl
@@ -120,6 +129,7 @@ rising-insert {k} {v} (fresh-field n f) p (rising-field {k = j} {v = w} {fs = fs
 mutual
   unfolding sorted
 
+  -- If no object of a content has a key twice, the sorted content has the keys of every object in strictly rising order.
   pub rising-sorted : {v : Value} → Distinct v → Rising (sorted v)
   rising-sorted distinct-null = rising-null
   rising-sorted distinct-boolean = rising-boolean
@@ -188,6 +198,7 @@ mutual
       (distinct-formed h (max-left (keyFault t) (memberKeyFaults ms) f))
       (distinct-members hs (unescape cs ∷ earlier) rest (max-right (keyFault t) (memberKeyFaults ms) f))
 
+-- If a value of the text has no key fault, no object of its content has a key twice.
 pub content-distinct : (d : ℕ) (s : List ℕ) (t : Syntax) (r : List ℕ) → Grammar.Value d s t r → keyFault t ≡ 0 → Distinct (content t)
 content-distinct d s t r h e = distinct-formed (formed d s t r h) e
 
@@ -218,6 +229,7 @@ repeated-none (member p cs t ms) earlier f (distinct-field g c d) =
 mutual
   unfolding content keyFault among
 
+  -- If no object of a tree's content has a key twice, the tree has no key fault.
   pub distinct-unmarked : (t : Syntax) → Distinct (content t) → keyFault t ≡ 0
   distinct-unmarked Syntax.null d = refl
   distinct-unmarked (Syntax.boolean b) d = refl

@@ -14,7 +14,8 @@ use Rattle.text_json.specs.Syntax.{Char, Syntax, Member, elements, members}
 use Rattle.text_json.specs.Grammar
 use Rattle.text_json.specs.Grammar.{Space, Word, String, Scalar, Items, Listed, Pair, Nested, Text}
 use Rattle.text_json.specs.Content.{unescape, lone, anyControl, refusedString, escaped, quoted, signed}
-use Rattle.text_content.specs.Value.{Value, Values, Fields, null, boolean, number, string, array, object, no-values, value, no-fields, field, content, contents, fields}
+use Rattle.text_content.specs.Value.{Value, Values, Fields, null, boolean, number, string, array, object, no-values, value, no-fields, field, content}
+use Rattle.text_content.specs.Value.{contents, fields}
 use Rattle.text_content.specs.Canonical.{insertField, sorted, sortedValues, sortedFields, comma, write, writeValues, writeFields, canonical}
 use Rattle.text_content.specs.Fault.{mark, stringFault, stringFaults, keyStringFaults}
 use Rattle.text_content.proofs.Basic.{or-left, max-left, max-right}
@@ -54,6 +55,7 @@ utf8-insert k {v} c p (utf8-field {k = j} {v = w} {fs = fs} c′ q h) = by-test 
 mutual
   unfolding sorted
 
+  -- If the strings, keys and digits of a content are well-formed UTF-8, those of the sorted content are.
   pub utf8-sorted : {v : Value} → Utf8Value v → Utf8Value (sorted v)
   utf8-sorted utf8-null = utf8-null
   utf8-sorted utf8-boolean = utf8-boolean
@@ -94,6 +96,7 @@ escaped-from rs (b ∷ s) h w = go (λ qs. escaped-from qs s)
             let n = next rs b s h w in
             rw (e, escaped) (n .same (escaped s) ∙ ih (n .left) (n .above) (n .well))
 
+-- A string in canonical form is well-formed UTF-8 if its content is.
 pub quoted-utf8 : (s : List ℕ) → utf8 s ≡ true → utf8 (quoted s) ≡ true
 unfolding quoted utf8
 quoted-utf8 s e =
@@ -119,6 +122,7 @@ boolean-utf8 false = ascii-utf8 (0x66 ∷ 0x61 ∷ 0x6C ∷ 0x73 ∷ 0x65 ∷ []
 mutual
   unfolding write
 
+  -- If the strings, keys and digits of a content are well-formed UTF-8, it is written as well-formed UTF-8.
   pub utf8-write : {v : Value} → Utf8Value v → utf8 (write v) ≡ true
   utf8-write utf8-null = ascii-utf8 (0x6E ∷ 0x75 ∷ 0x6C ∷ 0x6C ∷ []) (omega arith)
   utf8-write (utf8-boolean {b = b}) = boolean-utf8 b

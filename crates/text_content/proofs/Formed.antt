@@ -4,7 +4,8 @@ use mathlib.Core.Path.{_≡_, refl, subst}
 use mathlib.Core.List.{List, [], _∷_, _++_, append-nil}
 use mathlib.Core.Bool.{Bool, true, false}
 use native.Mathlib.Omega.{arith}
-use Rattle.text_json.specs.Syntax.{Char, Numeral, Syntax, Elements, Members, null, boolean, number, string, array, object, no-elements, element, no-members, member, Member, elements, members}
+use Rattle.text_json.specs.Syntax.{Char, Numeral, Syntax, Elements, Members, null, boolean, number, string, array, object, no-elements, element, no-members}
+use Rattle.text_json.specs.Syntax.{member, Member, elements, members}
 use Rattle.text_json.specs.Grammar
 use Rattle.text_json.specs.Grammar.{Digits, Int, Unsigned, Number, String, Scalar, Items, Listed, Pair, Nested}
 use Rattle.text_content.specs.Fault.{mark}
@@ -42,6 +43,7 @@ digits-again : {s ds r : List ℕ} → Digits s ds r → (q : List ℕ) → Digi
 digits-again Digits.end q = Digits.end
 digits-again (Digits.more e h) q = Digits.more e (digits-again h q)
 
+-- The digits of a number's int are an int of the grammar again, whatever follows them.
 pub int-again : {s ds r : List ℕ} → Int s ds r → (q : List ℕ) → Int (ds ++ q) ds q
 int-again (Int.lone-zero e) q = Int.lone-zero e
 int-again (Int.from-nonzero e n h) q = Int.from-nonzero e n (digits-again h q)
@@ -88,6 +90,7 @@ module _ (d : ℕ) (Value : List ℕ → Syntax → List ℕ → Type 0) (formed
   formed-members (Listed.empty g w) = formed-empty
   formed-members (Listed.items g i) = formed-pairs i
 
+-- The tree of a value of the grammar is at most `d` deep, its digits are ints, and its places are not the text's end.
 pub formed : (d : ℕ) (s : List ℕ) (t : Syntax) (r : List ℕ) → Grammar.Value d s t r → Formed d t
 formed zero s t r h = formed-scalar zero h
 formed (suc d) s t r (Nested.is-scalar h) = formed-scalar (suc d) h

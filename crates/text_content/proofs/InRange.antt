@@ -8,11 +8,13 @@ use Rattle.laws.proofs.Order.{by-test}
 use Rattle.text_json.specs.Syntax.{Numeral, Syntax, Elements, Members}
 use Rattle.text_json.specs.Grammar
 use Rattle.text_json.specs.Content.{refusedNumber}
-use Rattle.text_content.specs.Value.{Value, Values, Fields, null, boolean, number, string, array, object, no-values, value, no-fields, field, content, contents, fields}
+use Rattle.text_content.specs.Value.{Value, Values, Fields, null, boolean, number, string, array, object, no-values, value, no-fields, field, content}
+use Rattle.text_content.specs.Value.{contents, fields}
 use Rattle.text_content.specs.Canonical.{insertField, sorted, sortedValues, sortedFields}
 use Rattle.text_content.specs.Fault.{numberFault, numberFaults, memberNumberFaults}
 use Rattle.text_content.proofs.Basic.{or-right, max-left, max-right}
-use Rattle.text_content.proofs.Formed.{Formed, FormedElements, FormedMembers, formed-null, formed-boolean, formed-number, formed-string, formed-array, formed-object, formed-none, formed-element, formed-empty, formed-member, formed, unmarked}
+use Rattle.text_content.proofs.Formed.{Formed, FormedElements, FormedMembers, formed-null, formed-boolean, formed-number, formed-string, formed-array}
+use Rattle.text_content.proofs.Formed.{formed-object, formed-none, formed-element, formed-empty, formed-member, formed, unmarked}
 
 -- every number is accepted when it is written as a whole number
 mutual
@@ -36,15 +38,19 @@ mutual
 pub range-of-array : {vs : Values} → InRange (array vs) → InRangeValues vs
 range-of-array (range-array h) = h
 
+-- If every number of an object is accepted, every number of its members is.
 pub range-of-object : {fs : Fields} → InRange (object fs) → InRangeFields fs
 range-of-object (range-object h) = h
 
+-- A number that is accepted in a content is not refused as a whole number.
 pub range-of-number : {n : Bool} {ds : List ℕ} → InRange (number n ds) → refusedNumber (record { negative = n; digits = ds; whole = true }) ≡ false
 range-of-number (range-number e) = e
 
+-- If every number of some elements is accepted, so is every number of the first element and of the others.
 pub range-of-value : {v : Value} {vs : Values} → InRangeValues (value v vs) → (InRange v) × (InRangeValues vs)
 range-of-value (range-value p h) = (p, h)
 
+-- If every number of some members is accepted, so is every number of the first member and of the others.
 pub range-of-field : {k : List ℕ} {v : Value} {fs : Fields} → InRangeFields (field k v fs) → (InRange v) × (InRangeFields fs)
 range-of-field (range-field p h) = (p, h)
 
@@ -74,6 +80,7 @@ mutual
   range-members (formed-member {t = t} {ms = ms} q h hs) e =
       range-field (range-formed h (max-left (numberFault t) (memberNumberFaults ms) e)) (range-members hs (max-right (numberFault t) (memberNumberFaults ms) e))
 
+-- If a value of the text has no number fault, every number of its content is accepted.
 pub content-in-range : (d : ℕ) (s : List ℕ) (t : Syntax) (r : List ℕ) → Grammar.Value d s t r → numberFault t ≡ 0 → InRange (content t)
 content-in-range d s t r h e = range-formed (formed d s t r h) e
 
@@ -92,6 +99,7 @@ range-insert k {v} p (range-field {k = j} {v = w} {fs = fs} q h) = by-test (leq 
 mutual
   unfolding sorted
 
+  -- If every number of a content is accepted, so is every number of the sorted content.
   pub range-sorted : {v : Value} → InRange v → InRange (sorted v)
   range-sorted range-null = range-null
   range-sorted range-boolean = range-boolean

@@ -29,6 +29,7 @@ text-distinct {d} (Text.text {s₁ = s₁} {s₂ = s₂} {t = t} g h g′) e = c
 text-in-range : {d : ℕ} {s : List ℕ} {t : Syntax} → Text d s t → numberFault t ≡ 0 → InRange (content t)
 text-in-range {d} (Text.text {s₁ = s₁} {s₂ = s₂} {t = t} g h g′) e = content-in-range d s₁ t s₂ h e
 
+-- The canonical form of a text without a string fault is a text with the sorted content and without a string fault.
 pub text-reads-back : {d : ℕ} {s : List ℕ} {t : Syntax} → Text d s t → stringFault t ≡ 0 → ReadsText d (canonical (content t)) (sorted (content t))
 text-reads-back {d} (Text.text {s₁ = s₁} {s₂ = s₂} {t = t} g h g′) e = canonical-reads-back d s₁ t s₂ h e
 
@@ -48,6 +49,7 @@ pub record Canonical (d : ℕ) (t : Syntax) : Type 0 where
   pub means : content tree ≡ sorted (content t)
   pub fixed : canonical (content tree) ≡ canonical (content t)
 
+-- The canonical form of a clean text is a clean text with the sorted content, and is its own canonical form.
 pub canonical-text : {d : ℕ} {s : List ℕ} {t : Syntax} → Clean d s t → Canonical d t
 unfolding canonical
 canonical-text {t = t} c =
@@ -73,6 +75,7 @@ canonical-shortest {s′ = s′} c h e = subst (λ (l : List ℕ). length l ≤ 
 
 -- where a text has one tree, the same canonical form has the same content: what the canonical form reads as
 module _ (one-tree : (d : ℕ) (s : List ℕ) (t u : Syntax) → Text d s t → Text d s u → t ≡ u) where
+  -- Where a text has one tree, clean texts with equal canonical forms have the same content.
   pub same-of-canonical : {d : ℕ} {s s′ : List ℕ} {t t′ : Syntax} → Clean d s t → Clean d s′ t′ → canonical (content t) ≡ canonical (content t′)
       → Same (content t) (content t′)
   same-of-canonical {d} {t = t} {t′ = t′} c c′ e =
@@ -81,6 +84,7 @@ module _ (one-tree : (d : ℕ) (s : List ℕ) (t u : Syntax) → Text d s t → 
       let q = one-tree d (canonical (content t′)) (u .tree) (u′ .tree) (subst (λ (s : List ℕ). Text d s (u .tree)) e (u .reads)) (u′ .reads) in
       same-of-sorted (content t) (content t′) (sym (u .means) ∙ ap content q ∙ u′ .means)
 
+  -- Where a text has one tree, clean texts have equal canonical forms exactly if they have the same content.
   pub canonical-same : {d : ℕ} {s s′ : List ℕ} {t t′ : Syntax} → Clean d s t → Clean d s′ t′
       → (canonical (content t) ≡ canonical (content t′)) ↔ Same (content t) (content t′)
   canonical-same c c′ = (same-of-canonical c c′, canonical-of-same c)

@@ -23,6 +23,7 @@ pub space-length : {s r : List ℕ} → Space s r → length r ≤ length s
 space-length Space.end = omega arith
 space-length (Space.more e h) = omega (arith, space-length h)
 
+-- A fixed run of bytes takes as many bytes of the text as it has.
 pub word-length : {w s r : List ℕ} → Word w s r → length w + length r ≡ length s
 word-length Word.end = omega arith
 word-length (Word.more e h) = omega (arith, word-length h)
@@ -31,17 +32,21 @@ digits-length : {s ds r : List ℕ} → Digits s ds r → length ds + length r �
 digits-length Digits.end = omega arith
 digits-length (Digits.more e h) = omega (arith, digits-length h)
 
+-- What follows one or more digits is no longer than the text with them.
 pub some-digits-length : {s r : List ℕ} → SomeDigits s r → length r ≤ length s
 some-digits-length (SomeDigits.digits e h) = omega (arith, digits-length h)
 
+-- An int takes as many bytes of the text as it has digits.
 pub int-length : {s ds r : List ℕ} → Int s ds r → length ds + length r ≡ length s
 int-length (Int.lone-zero e) = omega arith
 int-length (Int.from-nonzero e n h) = omega (arith, digits-length h)
 
+-- What follows a fraction, or none, is no longer than the text with it.
 pub frac-length : {s r : List ℕ} {f : Bool} → Frac s f r → length r ≤ length s
 frac-length Frac.absent = omega arith
 frac-length (Frac.present e h) = omega (arith, some-digits-length h)
 
+-- What follows an exponent, or none, is no longer than the text with it.
 pub exp-length : {s r : List ℕ} {e : Bool} → Exp s e r → length r ≤ length s
 exp-length Exp.absent = omega arith
 exp-length (Exp.unsigned e h) = omega (arith, some-digits-length h)
@@ -50,6 +55,7 @@ exp-length (Exp.signed e f h) = omega (arith, some-digits-length h)
 unsigned-length : {negative : Bool} {s r : List ℕ} {n : Numeral} → Unsigned negative s n r → length (n .digits) + length r ≤ length s
 unsigned-length (Unsigned.unsigned i f e) = omega (arith, int-length i, frac-length f, exp-length e)
 
+-- The tree of a number has the sign that was read before its int.
 pub unsigned-sign : {negative : Bool} {s r : List ℕ} {n : Numeral} → Unsigned negative s n r → n .negative ≡ negative
 unsigned-sign (Unsigned.unsigned i f e) = refl
 
@@ -63,6 +69,7 @@ pub escaped-byte : (b : ℕ) (s : List ℕ) → length (escaped (b ∷ s)) ≤ 2
 unfolding escaped
 escaped-byte b s = by-test (eqb b 0x22 || eqb b 0x5C) (λ e. rw (e, escaped) (omega arith)) (λ e. rw (e, escaped) (omega arith))
 
+-- A byte that is neither the quotation mark nor the backslash is written as it stands.
 pub escaped-plain : (b : ℕ) (s : List ℕ) → (b ≡ 0x22 → ⊥) → (b ≡ 0x5C → ⊥) → escaped (b ∷ s) ≡ b ∷ escaped s
 unfolding escaped
 escaped-plain b s p q = rw (ne-eqb b 0x22 p, escaped) (rw (ne-eqb b 0x5C q))
@@ -132,6 +139,7 @@ unfolding unescape
 unescape-lone u v cs e =
     ap (λ (t : Bool). elim t as (λ _. List ℕ) [ true ↦ encode (pairValue u v) ++ unescape cs | false ↦ encode u ++ unescape (unit v ∷ cs) ]) e
 
+-- A string's content in canonical form is no longer than the most that its chars take, added up.
 pub escaped-size : (cs : List Char) → length (escaped (unescape cs)) ≤ charsSize cs
 unfolding unescape charSize charsSize
 escaped-size [] = omega (arith, escaped-none)
@@ -156,6 +164,7 @@ escaped-unescaped b s e = escaped-plain b s (λ q. false-true (ap isUnescaped (s
 unescaped-size : (b : ℕ) → isUnescaped b ≡ true → length (escaped (b ∷ [])) ≡ 1
 unescaped-size b e = ap length (escaped-unescaped b [] e) ∙ omega (arith, escaped-none)
 
+-- In the text, a string's chars take at least the most that they take in canonical form, and its closing mark one byte.
 pub chars-size : {s r : List ℕ} {cs : List Char} → Chars s cs r → charsSize cs + 1 + length r ≤ length s
 unfolding charSize charsSize
 chars-size (Chars.close e) = omega arith
@@ -163,6 +172,7 @@ chars-size (Chars.unescaped {b = b} e h) = omega (arith, chars-size h, unescaped
 chars-size (Chars.short {b = b} e f h) = omega (arith, chars-size h, escaped-byte (shortValue b) [], escaped-none)
 chars-size (Chars.hex e f g i j k h) = omega (arith, chars-size h)
 
+-- A string takes at least as many bytes of the text as its canonical form has.
 pub string-length : {s r : List ℕ} {cs : List Char} → String s cs r → length (quoted (unescape cs)) + length r ≤ length s
 unfolding quoted
 string-length (String.quoted {cs = cs} e h) = simp length-append (omega (arith, chars-size h, escaped-size cs))
@@ -183,11 +193,13 @@ totalSize f (t ∷ ts) = f t + 1 + totalSize f ts
 unfoldable pub memberSize : Member → ℕ
 memberSize m = length (quoted (unescape (m .key))) + 1 + sizeOf (m .value)
 
+-- The size of an array's elements is the sum of their sizes, each with one byte for the mark after it.
 pub elements-size : (ts : List Syntax) → sizeOfElements (elements ts) ≡ totalSize sizeOf ts
 unfolding elements sizeOfElements totalSize
 elements-size [] = refl
 elements-size (t ∷ ts) = omega (arith, elements-size ts)
 
+-- The size of an object's members is the sum of their sizes, each with one byte for the mark after it.
 pub members-size : (ms : List Member) → sizeOfMembers (members ms) ≡ totalSize memberSize ms
 unfolding members sizeOfMembers totalSize memberSize
 members-size [] = refl
@@ -195,21 +207,25 @@ members-size (m ∷ ms) = omega (arith, members-size ms)
 
 module _
     {A : Type 0} (Item : List ℕ → A → List ℕ → Type 0) (f : A → ℕ) (fits : (s : List ℕ) (t : A) (r : List ℕ) → Item s t r → f t + length r ≤ length s) where
+  -- The total size of items up to an end mark is at least 1, and they take at least that many bytes of the text.
   pub items-length : {m : ℕ} {s r : List ℕ} {ts : List A} → Items Item m s ts r → (1 ≤ totalSize f ts) × (totalSize f ts + length r ≤ length s)
   unfolding totalSize
   items-length (Items.last h g w) = omega (arith, fits _ _ _ h, space-length g, word-length w)
   items-length (Items.next h g w g′ i) = omega (arith, fits _ _ _ h, space-length g, word-length w, space-length g′, items-length i)
 
+  -- The items of an array or an object, with both of its marks, take at least as many bytes of the text as their enclosed size.
   pub listed-length : {m : ℕ} {s r : List ℕ} {ts : List A} → Listed Item m s ts r → enclosed (totalSize f ts) + length r ≤ suc (length s)
   unfolding totalSize enclosed
   listed-length (Listed.empty g w) = omega (arith, space-length g, word-length w)
   listed-length (Listed.items g i) = omega (arith, space-length g, items-length i)
 
+-- If every value takes at least as many bytes of the text as its size, so does every member.
 pub pair-length : (Value : List ℕ → Syntax → List ℕ → Type 0) → ((s : List ℕ) (t : Syntax) (r : List ℕ) → Value s t r → sizeOf t + length r ≤ length s)
     → (s : List ℕ) (m : Member) (r : List ℕ) → Pair Value s m r → memberSize m + length r ≤ length s
 unfolding memberSize
 pair-length Value fits s m r (Pair.pair k g w g′ v) = omega (arith, string-length k, space-length g, word-length w, space-length g′, fits _ _ _ v)
 
+-- A value takes at least as many bytes of the text as the size of its tree.
 pub value-length : (d : ℕ) (s : List ℕ) (t : Syntax) (r : List ℕ) → Grammar.Value d s t r → sizeOf t + length r ≤ length s
 unfolding sizeOf
 value-length zero s t r h = scalar-length h
@@ -218,8 +234,10 @@ value-length (suc d) s t r (Nested.is-array {ts = ts} e h) = rw (elements-size t
 value-length (suc d) s t r (Nested.is-object {ms = ms} e h) =
     rw (members-size ms) (listed-length (Pair (Grammar.Value d)) memberSize (pair-length (Grammar.Value d) (value-length d)) h)
 
+-- A value takes at least as many bytes of the text as its canonical form has.
 pub value-not-longer : (d : ℕ) (s : List ℕ) (t : Syntax) (r : List ℕ) → Grammar.Value d s t r → length (canonical (content t)) + length r ≤ length s
 value-not-longer d s t r h = omega (arith, size-canonical t, value-length d s t r h)
 
+-- The canonical form of a text's content is no longer than the text.
 pub not-longer : {d : ℕ} {s : List ℕ} {t : Syntax} → Text d s t → length (canonical (content t)) ≤ length s
 not-longer {d} (Text.text {s₁ = s₁} {s₂ = s₂} {t = t} g h g′) = omega (arith, space-length g, value-not-longer d s₁ t s₂ h, space-length g′)

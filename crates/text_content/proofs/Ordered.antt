@@ -14,6 +14,7 @@ use Rattle.text_content.proofs.Same.{insert-before, insert-after}
 mutual
   unfolding sorted insertField ordered keysOrdered
 
+  -- A content in which the keys of every object are in rising order is equal to itself sorted.
   pub sorted-ordered : (v : Value) → ordered v ≡ true → sorted v ≡ v
   sorted-ordered null e = refl
   sorted-ordered (boolean b) e = refl
@@ -74,6 +75,7 @@ insert-ordered-fields k v (field j w fs) o e = go (and-both (ordered w) (ordered
 mutual
   unfolding sorted ordered keysOrdered
 
+  -- A sorted content has the keys of every object in rising order.
   pub ordered-sorted : (v : Value) → ordered (sorted v) ≡ true
   ordered-sorted null = refl
   ordered-sorted (boolean b) = refl

@@ -14,7 +14,8 @@ use Rattle.laws.proofs.Order.{by-test}
 use Rattle.text_json.specs.Bytes.{shortValue}
 use Rattle.text_json.specs.Syntax.{Char, unit, Numeral, Syntax, Member, elements, members}
 use Rattle.text_json.specs.Grammar
-use Rattle.text_json.specs.Grammar.{hexNumber, Space, Word, Digits, SomeDigits, Int, Frac, Exp, Unsigned, Number, Chars, String, Scalar, Items, Listed, Pair, Nested, Text}
+use Rattle.text_json.specs.Grammar.{hexNumber, Space, Word, Digits, SomeDigits, Int, Frac, Exp, Unsigned, Number, Chars, String, Scalar, Items, Listed, Pair}
+use Rattle.text_json.specs.Grammar.{Nested, Text}
 use Rattle.text_json.specs.Content.{unescape, escaped, quoted, signed}
 use Rattle.text_json.proofs.Grammar.Agree.{one-tree}
 use Rattle.text_json.proofs.Grammar.Bytes.{or-cases}
@@ -22,7 +23,9 @@ use Rattle.text_content.specs.Value.{content, contents, fields}
 use Rattle.text_content.specs.Canonical.{sorted, comma, write, writeValues, writeFields, canonical, ordered}
 use Rattle.text_content.specs.Fault.{stringFault}
 use Rattle.text_content.proofs.Size.{enclosed, sizeOf, size-canonical}
-use Rattle.text_content.proofs.NotLonger.{space-length, word-length, some-digits-length, int-length, frac-length, exp-length, unsigned-sign, escaped-unescaped, escaped-plain, charSize, charsSize, escaped-size, chars-size, string-length, totalSize, memberSize, elements-size, members-size, items-length, pair-length, value-length}
+use Rattle.text_content.proofs.NotLonger.{space-length, word-length, some-digits-length, int-length, frac-length, exp-length, unsigned-sign}
+use Rattle.text_content.proofs.NotLonger.{escaped-unescaped, escaped-plain, charSize, charsSize, escaped-size, chars-size, string-length, totalSize}
+use Rattle.text_content.proofs.NotLonger.{memberSize, elements-size, members-size, items-length, pair-length, value-length}
 use Rattle.text_content.proofs.Ordered.{sorted-ordered, ordered-sorted}
 use Rattle.text_content.proofs.Laws.{text-reads-back}
 
@@ -145,7 +148,8 @@ module _
       let d = space-length g′ in
       let e = items-length Item f fits i in
       is _ _ _ h (omega arith)
-      ∙ ap (λ (l : List ℕ). form t ++ l) (same-space g (omega arith) ∙ word-is w ∙ ap (λ (l : List ℕ). 0x2C ∷ l) (same-space g′ (omega arith) ∙ items-are i (omega arith)))
+      ∙ ap (λ (l : List ℕ). form t ++ l) (same-space g (omega arith) ∙ word-is w
+      ∙ ap (λ (l : List ℕ). 0x2C ∷ l) (same-space g′ (omega arith) ∙ items-are i (omega arith)))
       ∙ sym (ap (λ (l : List ℕ). form t ++ l ++ (m ∷ r)) (items-join i) ∙ append-assoc (form t) (0x2C ∷ joined form true ts) (m ∷ r))
 
   listed-is : {m : ℕ} {s r : List ℕ} {ts : List A} → Listed Item m s ts r → enclosed (totalSize f ts) + length r ≡ suc (length s)
@@ -174,7 +178,8 @@ pair-is Value fits is s m r (Pair.pair {cs = cs} {t = t} k g w g′ v) q =
     let d = space-length g′ in
     let e = fits _ _ _ v in
     string-is k (omega arith)
-    ∙ ap (λ (l : List ℕ). quoted (unescape cs) ++ l) (same-space g (omega arith) ∙ word-is w ∙ ap (λ (l : List ℕ). 0x3A ∷ l) (same-space g′ (omega arith) ∙ is _ _ _ v (omega arith)))
+    ∙ ap (λ (l : List ℕ). quoted (unescape cs) ++ l) (same-space g (omega arith) ∙ word-is w
+    ∙ ap (λ (l : List ℕ). 0x3A ∷ l) (same-space g′ (omega arith) ∙ is _ _ _ v (omega arith)))
     ∙ sym (append-assoc (quoted (unescape cs)) (0x3A ∷ write (content t)) r)
 
 elements-are : (first : Bool) (ts : List Syntax) → writeValues first (contents (elements ts)) ≡ joined (λ t. write (content t)) first ts

@@ -13,12 +13,15 @@ use Rattle.text_json.specs.Syntax.{Char, byte, Syntax, Elements, Members, Membe
 use Rattle.text_json.specs.Grammar
 use Rattle.text_json.specs.Grammar.{Space, Word, Int, Frac, Exp, Unsigned, Number, Chars, String, Scalar, Items, Listed, Pair, Nested, Text, both}
 use Rattle.text_json.specs.Content.{unescape, lone, isControl, anyControl, refusedString, escaped, quoted, signed}
-use Rattle.text_content.specs.Value.{Value, Values, Fields, null, boolean, number, string, array, object, no-values, value, no-fields, field, content, contents, fields}
+use Rattle.text_content.specs.Value.{Value, Values, Fields, null, boolean, number, string, array, object, no-values, value, no-fields, field, content}
+use Rattle.text_content.specs.Value.{contents, fields}
 use Rattle.text_content.specs.Canonical.{insertField, sorted, sortedValues, sortedFields, comma, write, writeValues, writeFields, canonical}
 use Rattle.text_content.specs.Fault.{mark, stringFault, stringFaults, keyStringFaults, numberFault, numberFaults, memberNumberFaults}
 use Rattle.text_content.proofs.Basic.{or-left, or-right, max-left, max-right}
-use Rattle.text_content.proofs.Formed.{Formed, FormedElements, FormedMembers, formed-null, formed-boolean, formed-number, formed-string, formed-array, formed-object, formed-none, formed-element, formed-empty, formed-member, formed, unmarked, int-again}
-use Rattle.text_content.proofs.InRange.{InRange, InRangeValues, InRangeFields, range-of-array, range-of-object, range-of-number, range-of-value, range-of-field}
+use Rattle.text_content.proofs.Formed.{Formed, FormedElements, FormedMembers, formed-null, formed-boolean, formed-number, formed-string, formed-array}
+use Rattle.text_content.proofs.Formed.{formed-object, formed-none, formed-element, formed-empty, formed-member, formed, unmarked, int-again}
+use Rattle.text_content.proofs.InRange.{InRange, InRangeValues, InRangeFields, range-of-array, range-of-object, range-of-number, range-of-value}
+use Rattle.text_content.proofs.InRange.{range-of-field}
 
 -- Contents that have a text: no control character in a string or a key, digits that are an int, arrays and objects at most so deep.
 mutual
@@ -68,6 +71,7 @@ mutual
       (plain-formed h (max-right (mark (refusedString cs) p) (stringFault t) own))
       (plain-members hs (max-right (max (mark (refusedString cs) p) (stringFault t)) (keyStringFaults ms) e))
 
+-- The content of a value without a string fault has no control character, has ints as digits, and is at most as deep.
 pub content-plain : (d : ℕ) (s : List ℕ) (t : Syntax) (r : List ℕ) → Grammar.Value d s t r → stringFault t ≡ 0 → Plain d (content t)
 content-plain d s t r h e = plain-formed (formed d s t r h) e
 
@@ -86,6 +90,7 @@ plain-insert {d} k {v} c p (plain-field {k = j} {v = w} {fs = fs} c′ q h) = by
 mutual
   unfolding sorted
 
+  -- A content that has a text of some depth has one of that depth when sorted.
   pub plain-sorted : {d : ℕ} {v : Value} → Plain d v → Plain d (sorted v)
   plain-sorted plain-null = plain-null
   plain-sorted plain-boolean = plain-boolean
@@ -156,14 +161,16 @@ escaped-chars (b ∷ s) r e = go (escaped-chars s r (or-right (isControl b) (any
     go : Chars (escaped s ++ 0x22 ∷ r) (bytes s) r → Chars (escaped (b ∷ s) ++ 0x22 ∷ r) (bytes (b ∷ s)) r
     go ih =
         by-test (eqb b 0x22 || eqb b 0x5C)
-        (λ q. rw (q, escaped) (subst (λ (c : ℕ). Chars (0x5C ∷ b ∷ (escaped s ++ 0x22 ∷ r)) (byte c ∷ bytes s) r) (marked b q .1) (Chars.short refl (marked b q .0) ih)))
+        (λ q. rw (q, escaped) (subst (λ (c : ℕ). Chars (0x5C ∷ b ∷ (escaped s ++ 0x22 ∷ r)) (byte c ∷ bytes s) r) (marked b q .1)
+        (Chars.short refl (marked b q .0) ih)))
         (λ q. rw (q, escaped) (Chars.unescaped (unmarked-byte b (or-left (isControl b) (anyControl s) e) q) ih))
 
 quoted-string : (s r : List ℕ) → anyControl s ≡ false → String (quoted s ++ r) (bytes s) r
 unfolding quoted
 quoted-string s r e = rw append-assoc (String.quoted refl (escaped-chars s r e))
 
-signed-number : (negative : Bool) (ds r : List ℕ) → Int ds ds [] → Number (signed negative ds ++ r) (record { negative = negative; digits = ds; whole = true }) r
+signed-number : (negative : Bool) (ds r : List ℕ) → Int ds ds []
+    → Number (signed negative ds ++ r) (record { negative = negative; digits = ds; whole = true }) r
 unfolding signed both
 signed-number true ds r i = Number.minus refl (Unsigned.unsigned (int-again i r) Frac.absent Exp.absent)
 signed-number false ds r i = Number.plain (Unsigned.unsigned (int-again i r) Frac.absent Exp.absent)
@@ -261,7 +268,13 @@ values-read (more w {vs = vs} second h) v first r =
 array-reads : {d : ℕ} {vs : Values} → Readable d vs → (r : List ℕ) → Reads (suc d) (write (array vs) ++ r) (array vs) r
 unfolding content stringFault numberFault elements
 array-reads none r = unfold write in
-    record { tree = Syntax.array (elements []); reads = Nested.is-array refl (Listed.empty Space.end (Word.more refl Word.end)); means = refl; strings = refl; numbers = λ x. refl }
+    record {
+      tree = Syntax.array (elements []);
+      reads = Nested.is-array refl (Listed.empty Space.end (Word.more refl Word.end));
+      means = refl;
+      strings = refl;
+      numbers = λ x. refl;
+    }
 array-reads (more v {vs = vs} first h) r =
     let rest = values-read h v first r in
     rw (written-array v vs r) (record {
@@ -304,7 +317,13 @@ fields-read (more j c′ w {fs = fs} second h) k c v first r =
 object-reads : {d : ℕ} {fs : Fields} → ReadableFields d fs → (r : List ℕ) → Reads (suc d) (write (object fs) ++ r) (object fs) r
 unfolding content stringFault numberFault members
 object-reads none r = unfold write in
-    record { tree = Syntax.object (members []); reads = Nested.is-object refl (Listed.empty Space.end (Word.more refl Word.end)); means = refl; strings = refl; numbers = λ x. refl }
+    record {
+      tree = Syntax.object (members []);
+      reads = Nested.is-object refl (Listed.empty Space.end (Word.more refl Word.end));
+      means = refl;
+      strings = refl;
+      numbers = λ x. refl;
+    }
 object-reads (more k c v {fs = fs} first h) r =
     let rest = fields-read h k c v first r in
     rw (written-object k v fs r) (record {
@@ -339,6 +358,7 @@ string-reads d s r c =
 mutual
   unfolding write content stringFault numberFault
 
+  -- A content that has a text is read as a value with that content and without a string fault where it is written, whatever follows.
   pub write-reads : {d : ℕ} {v : Value} → Plain d v → (r : List ℕ) → Reads d (write v ++ r) v r
   write-reads (plain-null {d = d}) r = scalar-reads d Syntax.null (Scalar.is-null (word _ r)) refl refl (λ x. refl)
   write-reads (plain-boolean {d = d} {b = b}) r = boolean-reads d b r
@@ -363,6 +383,7 @@ pub record ReadsText (d : ℕ) (s : List ℕ) (v : Value) : Type 0 where
   pub strings : stringFault tree ≡ 0
   pub numbers : InRange v → numberFault tree ≡ 0
 
+-- A content that has a text is, where it is written, a text with that content and without a string fault.
 pub write-reads-text : {d : ℕ} {v : Value} → Plain d v → ReadsText d (write v) v
 write-reads-text {d} {v} p =
     let h = write-reads p [] in

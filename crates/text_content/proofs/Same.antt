@@ -5,7 +5,9 @@ use mathlib.Core.List.{List}
 use mathlib.Core.Bool.{true, false}
 use Rattle.laws.specs.Order.{leq}
 use Rattle.laws.proofs.Order.{by-test, false-true, leq-refl, leq-total, leq-trans, leq-antisym}
-use Rattle.text_content.specs.Value.{Value, Values, Fields, null, boolean, number, string, array, object, no-values, value, no-fields, field, Same, SameValues, SameFields, Inserted, same-null, same-boolean, same-number, same-string, same-array, same-object, same-none, same-value, same-empty, same-field, here, there}
+use Rattle.text_content.specs.Value.{Value, Values, Fields, null, boolean, number, string, array, object, no-values, value, no-fields, field, Same}
+use Rattle.text_content.specs.Value.{SameValues, SameFields, Inserted, same-null, same-boolean, same-number, same-string, same-array, same-object}
+use Rattle.text_content.specs.Value.{same-none, same-value, same-empty, same-field, here, there}
 use Rattle.text_content.specs.Canonical.{insertField, sorted, sortedValues, sortedFields}
 
 -- a member put in its place is inserted
@@ -20,6 +22,7 @@ inserted k v (field j w fs) = by-test (leq k j) (λ e. rw (e, insertField) here)
 mutual
   unfolding sorted
 
+  -- A content is the same as itself sorted.
   pub same-sorted : (v : Value) → Same v (sorted v)
   same-sorted null = same-null
   same-sorted (boolean b) = same-boolean
@@ -32,11 +35,13 @@ mutual
   same-sorted-values no-values = same-none
   same-sorted-values (value v vs) = same-value (same-sorted v) (same-sorted-values vs)
 
+  -- The members of an object are the same as themselves sorted.
   pub same-sorted-fields : (fs : Fields) → SameFields fs (sortedFields fs)
   same-sorted-fields no-fields = same-empty
   same-sorted-fields (field k v fs) = same-field (same-sorted v) (inserted k (sorted v) (sortedFields fs)) (same-sorted-fields fs)
 
 mutual
+  -- A content is the same as itself.
   pub same-refl : (v : Value) → Same v v
   same-refl null = same-null
   same-refl (boolean b) = same-boolean
@@ -74,6 +79,7 @@ same-insert (there i) (same-field p′ i′ h) p q =
     same-field p′ (s .second) (same-insert i h p (s .first))
 
 mutual
+  -- If a content is the same as a second one, the second one is the same as it.
   pub same-sym : {v w : Value} → Same v w → Same w v
   same-sym same-null = same-null
   same-sym same-boolean = same-boolean
@@ -106,6 +112,7 @@ partner (there i) (same-field p j h) =
     record { other = q .other; rest = s .between; same = q .same; place = s .second; others = same-field p (s .first) (q .others) }
 
 mutual
+  -- If a content is the same as a second one and the second one as a third, it is the same as the third.
   pub same-trans : {u v w : Value} → Same u v → Same v w → Same u w
   same-trans same-null q = q
   same-trans same-boolean q = q
@@ -133,6 +140,7 @@ pub insert-before : (k j : List ℕ) (v w : Value) (fs : Fields) → leq k j ≡
 unfolding insertField
 insert-before k j v w fs e = rw (e, insertField)
 
+-- A member whose key comes after the first of some members' keys is put in its place among the others.
 pub insert-after : (k j : List ℕ) (v w : Value) (fs : Fields) → leq k j ≡ false → insertField k v (field j w fs) ≡ field j w (insertField k v fs)
 unfolding insertField
 insert-after k j v w fs e = rw (e, insertField)
@@ -167,6 +175,7 @@ swap-around k j i v w x fs e f =
     above : leq j k ≡ false
     above = by-test (leq j k) (λ g. false-true (sym f ∙ leq-trans j k i g e)) (λ g. g)
 
+-- Two members with different keys that are put in their places one after the other give the same in either order.
 pub insert-swap : (k j : List ℕ) (v w : Value) (fs : Fields) → (k ≡ j → ⊥) → insertField k v (insertField j w fs) ≡ insertField j w (insertField k v fs)
 unfolding insertField
 insert-swap k j v w no-fields n = swap-front k j v w no-fields n refl refl
@@ -200,6 +209,7 @@ sorted-insert k v (field j w fs) = by-test (leq k j) (λ e. ap sortedFields (ins
 mutual
   unfolding sorted
 
+  -- Sorting a sorted content changes nothing.
   pub sorted-twice : (v : Value) → sorted (sorted v) ≡ sorted v
   sorted-twice null = refl
   sorted-twice (boolean b) = refl

@@ -9,7 +9,8 @@ use Rattle.laws.specs.Order.{leq}
 use Rattle.laws.proofs.Order.{by-test}
 use Rattle.text_json.specs.Syntax.{Syntax, Elements, Members, no-elements, element, no-members, member, elements, members, Member}
 use Rattle.text_json.specs.Content.{unescape, quoted, signed}
-use Rattle.text_content.specs.Value.{Value, Values, Fields, null, boolean, number, string, array, object, no-values, value, no-fields, field, content, contents, fields}
+use Rattle.text_content.specs.Value.{Value, Values, Fields, null, boolean, number, string, array, object, no-values, value, no-fields, field, content}
+use Rattle.text_content.specs.Value.{contents, fields}
 use Rattle.text_content.specs.Canonical.{insertField, sorted, sortedValues, sortedFields, comma, write, writeValues, writeFields, canonical}
 
 -- what follows a first value or member has one comma less before it
@@ -48,6 +49,7 @@ size-insert k v (field j w fs) = by-test (leq k j) (λ e. rw (e, insertField) (s
 mutual
   unfolding sorted write comma
 
+  -- A sorted content is written with as many bytes as the content itself.
   pub sorted-size : (v : Value) → length (write (sorted v)) ≡ length (write v)
   sorted-size null = refl
   sorted-size (boolean b) = refl
@@ -72,6 +74,7 @@ unfoldable pub enclosed : ℕ → ℕ
 enclosed sum = max 2 (1 + sum)
 
 unfoldable mutual
+  -- The size of a syntax tree: the length of its canonical form, added up over its parts.
   pub sizeOf : Syntax → ℕ
   sizeOf Syntax.null = 4
   sizeOf (Syntax.boolean b) = elim b [ true ↦ 4 | false ↦ 5 ]
@@ -80,18 +83,22 @@ unfoldable mutual
   sizeOf (Syntax.array es) = enclosed (sizeOfElements es)
   sizeOf (Syntax.object ms) = enclosed (sizeOfMembers ms)
 
+  -- The size of an array's elements, each with one byte for the mark after it.
   pub sizeOfElements : Elements → ℕ
   sizeOfElements no-elements = 0
   sizeOfElements (element t es) = sizeOf t + 1 + sizeOfElements es
 
+  -- The size of an object's members: for each its quoted key, a colon, its value and one byte for the mark after it.
   pub sizeOfMembers : Members → ℕ
   sizeOfMembers no-members = 0
   sizeOfMembers (member p cs t ms) = length (quoted (unescape cs)) + 1 + sizeOf t + 1 + sizeOfMembers ms
 
+-- The enclosed size of an empty array or object is 2.
 pub size-empty : enclosed 0 ≡ 2
 unfolding enclosed
 size-empty = refl
 
+-- The enclosed size of elements or members of size 1 or more is that size and 1 for the opening mark.
 pub size-enclosed : (sum : ℕ) → 1 ≤ sum → enclosed sum ≡ 1 + sum
 unfolding enclosed
 size-enclosed sum h = omega arith
@@ -102,6 +109,7 @@ unfolding elements sizeOfElements
 size-elements-append [] us = omega arith
 size-elements-append (t ∷ ts) us = simp (size-elements-append ts us) (omega arith)
 
+-- The size of members followed by other members is the sum of both sizes.
 pub size-members-append : (ms ns : List Member) → sizeOfMembers (members (ms ++ ns)) ≡ sizeOfMembers (members ms) + sizeOfMembers (members ns)
 unfolding members sizeOfMembers
 size-members-append [] ns = omega arith

@@ -80,11 +80,13 @@ abbrev pub AllAscii : List ℕ → Type 0
 AllAscii [] = Unit {0}
 AllAscii (b ∷ s) = (b < 0x80) × AllAscii s
 
+-- Bytes below 80 (hex) are well-formed UTF-8.
 pub ascii-utf8 : (s : List ℕ) → AllAscii s → utf8 s ≡ true
 unfolding utf8 utf8From
 ascii-utf8 [] a = refl
 ascii-utf8 (b ∷ s) a = ascii-before b s (a .0) (ascii-utf8 s (a .1))
 
+-- What follows a fixed run of ASCII bytes in a well-formed text is well-formed.
 pub word-utf8 : {m s r : List ℕ} → AllAscii m → Word m s r → utf8 s ≡ true → utf8 r ≡ true
 word-utf8 a Word.end w = w
 word-utf8 a (Word.more {w = c} {b = b} {s = s} e h) w = word-utf8 (a .1) h (mark-utf8 b c s e (a .0) w)
@@ -122,6 +124,7 @@ int-list-utf8 (Int.from-nonzero {b = b} {ds = ds} e n h) = ascii-before b ds (di
 unsigned-utf8 : {negative : Bool} {s r : List ℕ} {n : Numeral} → Unsigned negative s n r → utf8 s ≡ true → (utf8 (n .digits) ≡ true) × (utf8 r ≡ true)
 unsigned-utf8 (Unsigned.unsigned i f e) w = (int-list-utf8 i, exp-utf8 e (frac-utf8 f (int-utf8 i w)))
 
+-- The digits of a number in a well-formed text are well-formed, and so is what follows the number.
 pub number-utf8 : {s r : List ℕ} {n : Numeral} → Number s n r → utf8 s ≡ true → (utf8 (n .digits) ≡ true) × (utf8 r ≡ true)
 number-utf8 (Number.plain h) w = unsigned-utf8 h w
 number-utf8 (Number.minus {b = b} {s = s} e h) w = unsigned-utf8 h (mark-utf8 b 0x2D s e (omega arith) w)

@@ -37,7 +37,7 @@ comma first = elim first [ true ↦ [] | false ↦ 0x2C ∷ [] ]
 -- a content written without spaces, members in the order in which it has them
 unfoldable mutual
   pub write : Value → List ℕ
-  write null = 0x6E ∷ 0x75 ∷ 0x6C ∷ 0x6C ∷ []
+  write null = 0x6E ∷ 0x75 ∷ 0x6C ∷ 0x6C ∷ []  -- null
   write (boolean b) = elim b [ true ↦ 0x74 ∷ 0x72 ∷ 0x75 ∷ 0x65 ∷ [] | false ↦ 0x66 ∷ 0x61 ∷ 0x6C ∷ 0x73 ∷ 0x65 ∷ [] ]
   write (number n ds) = signed n ds
   write (string s) = quoted s

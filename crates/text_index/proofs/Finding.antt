@@ -34,7 +34,8 @@ module _ (b at order c : List ℕ) (r : Range) (lower : Before b at order false 
     where
       contrary : r .to < r .from → r .from ≤ r .to
       contrary l =
-          false-true (sym (before-false (text (r .to)) c (lower .before (r .to) l)) ∙ leq-total (text (r .to)) c (upper .after (r .to) (omega arith) (omega (arith, lower .within))))
+          false-true (sym (before-false (text (r .to)) c (lower .before (r .to) l))
+          ∙ leq-total (text (r .to)) c (upper .after (r .to) (omega arith) (omega (arith, lower .within))))
 
   -- Those that come before c or have that content, without those that come before it, are those that have it.
   pub found : Holds b at order c r

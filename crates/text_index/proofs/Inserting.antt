@@ -63,13 +63,15 @@ moved-to xs i k n ys e m = subst (λ (j : ℕ). Moved xs j n ys) e m
 drop-front : (xs : List ℕ) (k n : ℕ) → k ≤ n → n ≤ length xs → drop k (take n xs) ≡ take (n - k) (drop k xs)
 drop-front xs k n l h =
     let e : n ≡ k + (n - k) = omega arith in
-    ap (λ (i : ℕ). drop k (take i xs)) e ∙ ap (drop k) (take-add k (n - k) xs) ∙ drop-at (take k xs) (take (n - k) (drop k xs)) k (length-take-le k xs (omega arith))
+    ap (λ (i : ℕ). drop k (take i xs)) e ∙ ap (drop k) (take-add k (n - k) xs)
+    ∙ drop-at (take k xs) (take (n - k) (drop k xs)) k (length-take-le k xs (omega arith))
 
 -- Where the elements from place k on were moved, and another is put there, it stands between the first k and the others.
 pub put-between : (xs : List ℕ) (k n : ℕ) (ys : List ℕ) (e : ℕ) → k ≤ n → n < length xs → Moved xs k n ys
     → take (n + 1) (set ys k e) ≡ take k (take n xs) ++ e ∷ drop k (take n xs)
 put-between xs k n ys e l h m =
-    ap (take (n + 1)) (set-split ys k e (omega (arith, m .length-kept)) ∙ ap₂ (λ (p q : List ℕ). p ++ e ∷ q) front back ∙ sym (append-assoc (take k (take n xs)) (e ∷ drop k (take n xs)) (drop (n + 1) xs)))
+    ap (take (n + 1)) (set-split ys k e (omega (arith, m .length-kept)) ∙ ap₂ (λ (p q : List ℕ). p ++ e ∷ q) front back
+    ∙ sym (append-assoc (take k (take n xs)) (e ∷ drop k (take n xs)) (drop (n + 1) xs)))
     ∙ take-at (take k (take n xs) ++ e ∷ drop k (take n xs)) (drop (n + 1) xs) (n + 1) size
   where
     front : take k ys ≡ take k (take n xs)
@@ -83,7 +85,12 @@ put-between xs k n ys e l h m =
     size : length (take k (take n xs) ++ e ∷ drop k (take n xs)) ≡ n + 1
     size =
         length-append (take k (take n xs)) (e ∷ drop k (take n xs))
-        ∙ omega (arith, length-take-le n xs (omega arith), length-take-le k (take n xs) (omega (arith, length-take-le n xs (omega arith))), length-drop k (take n xs))
+        ∙ omega (
+          arith,
+          length-take-le n xs (omega arith),
+          length-take-le k (take n xs) (omega (arith, length-take-le n xs (omega arith))),
+          length-drop k (take n xs),
+        )
 
 -- A string that is put where the strings which come before it end gives the index of one string more.
 pub index-more : (b at xs : List ℕ) (k n : ℕ) (ys : List ℕ) (e : ℕ) → n < length xs → Entry b at e

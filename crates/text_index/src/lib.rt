@@ -104,7 +104,8 @@ fn move_up(order: &mut [u16], k: usize, n: usize)
 pub fn insert(b: &[u8], at: &[usize], order: &mut [u16], n: usize, e: u16)
     requires { ⌜ SomeIndex (now b) (now at) (take n (now order)) × (n < length (now order)) × Entry (now b) (now at) e ⌝ }
     ensures { λ _. ⌜ (length (now (order .exit)) ≡ length (now (order .entry)))
-        × ((es : List ℕ) → Index (now (b .entry)) (now (at .entry)) es (take n (now (order .entry))) → Index (now (b .entry)) (now (at .entry)) (e ∷ es) (take (n + 1) (now (order .exit)))) ⌝ }
+        × ((es : List ℕ) → Index (now (b .entry)) (now (at .entry)) es (take n (now (order .entry)))
+        → Index (now (b .entry)) (now (at .entry)) (e ∷ es) (take (n + 1) (now (order .exit)))) ⌝ }
 {
     let p = at[e as usize];
     let k = count_before(b, at, &order[..n], b, p, false);

@@ -9,10 +9,12 @@ use borrow.Author.Tests.{leb-true, le-leb, lt-leb}
 use lib.Dec.{leb}
 use Rattle.text_json.specs.Bytes.{between, isHex, hexValue}
 
+-- Where the disjunction of two tests is true, one of the two is true.
 pub or-cases : (x y : Bool) → x || y ≡ true → (x ≡ true) ⊎ (y ≡ true)
 or-cases true y e = inl refl
 or-cases false y e = inr e
 
+-- A byte that passes the test of a range is at least its low bound and at most its high bound.
 pub between-true : (low high b : ℕ) → between low high b ≡ true → (low ≤ b) × (b ≤ high)
 unfolding between
 between-true low high b e =
@@ -28,12 +30,15 @@ hex-cases b e =
     (λ h. inr (⊎-elim (λ g. inl (between-true 0x41 0x46 b g)) (λ g. inr (between-true 0x61 0x66 b g)) (or-cases _ _ h)))
     (or-cases _ _ e)
 
+-- No hexadecimal digit is below 30 (hex), the digit 0.
 pub hex-low : (b : ℕ) → isHex b ≡ true → 0x30 ≤ b
 hex-low b e = ⊎-elim (λ h. h .0) (⊎-elim (λ h. omega arith) (λ h. omega arith)) (hex-cases b e)
 
+-- A hexadecimal digit above 46 (hex), the letter F, is at least 61 (hex), the letter a.
 pub hex-lower : (b : ℕ) → isHex b ≡ true → 0x46 < b → 0x61 ≤ b
 hex-lower b e l = ⊎-elim (λ h. omega arith) (⊎-elim (λ h. omega arith) (λ h. h .0)) (hex-cases b e)
 
+-- A hexadecimal digit stands for a number below 16.
 pub hex-below : (b : ℕ) → isHex b ≡ true → hexValue b < 16
 unfolding hexValue
 hex-below b e =

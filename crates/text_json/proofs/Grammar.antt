@@ -2,7 +2,6 @@
 --     Agree      a whole text is read as a tree exactly where the grammar gives it that tree; a text has one tree
 --     Sound      what is read is in the grammar
 --     Complete   what is in the grammar is read, where the text after it does not go on as a number does
---     Deeper     a larger bound on the depth reads the same
 --     ReadEnds   the rest of every reading function is an end of its text
 --     Start      where reading is stuck, the longest start ends that some JSON text begins with
 pub mod Ends
@@ -12,7 +11,6 @@ pub mod Bytes
 pub mod Sound
 pub mod Complete
 pub mod Agree
-pub mod Deeper
 pub mod ReadEnds
 pub mod Local
 pub mod Open

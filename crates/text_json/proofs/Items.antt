@@ -1,12 +1,11 @@
 -- Reading the items of an array or an object, without the bound on their number.
-use Prim.Native.Nat.{ℕ, zero, suc, _+_, _≤_, _<_}
-use mathlib.Core.Path.{_≡_, refl, sym, ap, _∙_}
-use mathlib.Core.List.{List, [], _∷_, _++_}
-use mathlib.Core.Bool.{Bool, true, false}
+use Prim.Native.Nat.{ℕ, zero, suc, _≤_, _<_}
+use mathlib.Core.Path.{_≡_, refl, ap, _∙_}
+use mathlib.Core.List.{List, [], _∷_}
 use native.Mathlib.Omega.{arith}
 use lib.ListN.{length}
 use lib.Dec.{eqb}
-use Rattle.text_json.specs.Read.{Read, found, stuck, andThen, prepend, spaces, afterItem, readItems, readFirst, readListed}
+use Rattle.text_json.specs.Read.{Read, found, stuck, andThen, prepend, spaces, afterItem, readItems}
 use Rattle.text_json.proofs.Grammar.Ends.{Ends, ends-length}
 use Rattle.text_json.proofs.Grammar.ReadEnds.{spaces-ends}
 use Rattle.text_json.proofs.Grammar.Answer.{by-test}
@@ -54,7 +53,8 @@ module _ {A : Type 0} (item : List ℕ → Read A) (mark : ℕ)
   agree zero zero s a b = refl
   agree zero (suc m) s a b = rw (nothing s a) (rw empty)
   agree (suc n) zero s a b = rw (nothing s b) (rw empty)
-  agree (suc n) (suc m) s a b = found-agree (λ q. readItems item mark n q) (λ q. readItems item mark m q) s (item s) refl (λ q l. agree n m q (omega arith) (omega arith))
+  agree (suc n) (suc m) s a b = found-agree (λ q. readItems item mark n q) (λ q. readItems item mark m q) s (item s) refl
+      (λ q l. agree n m q (omega arith) (omega arith))
 
   -- the items are an item and what follows it
   pub items-from : (s : List ℕ) → itemsFrom item mark s ≡ andThen (item s) (λ t r. afterItem (itemsFrom item mark) mark t (spaces r))

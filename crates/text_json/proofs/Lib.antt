@@ -1,12 +1,5 @@
 pub mod ByteTests
 pub mod Places
 pub mod Words
-pub mod CharSteps
-pub mod Weights
-pub mod Plain
-pub mod Encoded
-pub mod Pairs
-pub mod NumberSteps
-pub mod Numerals
 pub mod Grammar
 pub mod Items

@@ -22,15 +22,19 @@ drop-next s i h = rw (add-one, drop-cons s i 0)
 
 -- a step or a scan from what the definition gives
 module _ {A : Type 0} (s : List ℕ) (i : ℕ) (inside : i ≤ length s) (x : Read A) where
+  -- A reading that found something, with the rest from a position of the text on, is a step that ends at this position.
   pub steps-end : (a : A) → x ≡ found a (drop i s) → Steps s x (End i)
   steps-end a e = rw e (inside, refl)
 
+  -- A reading that is stuck at a position of the text is a step that is stuck at this position.
   pub steps-stuck : x ≡ stuck (drop i s) → Steps s x (Stuck i)
   steps-stuck e = rw e (inside, refl)
 
+  -- A reading that is stuck at a position of the text is a scan that found no token and is stuck at this position.
   pub scans-stuck : (refused : A → Bool) (size : A → ℕ) → x ≡ stuck (drop i s) → Scans refused size s x (NoToken i)
   scans-stuck refused size e = rw e (inside, refl)
 
+  -- A reading that found something is a scan of a token that has its end, its refusal and its length.
   pub scans-found : (refused : A → Bool) (size : A → ℕ) (a : A) (f : Bool) (n : ℕ) → x ≡ found a (drop i s) → f ≡ refused a → n ≡ size a
       → Scans refused size s x (Token i f n)
   scans-found refused size a f n e p q = rw e ((inside, refl), p, q)

@@ -1,6 +1,6 @@
 -- The sets of bytes that RFC 8259's grammar names. Bytes from 80 (hex) up are parts of characters from U+0080 up: the text is
 -- asked for UTF-8 apart from the grammar, and every character that the grammar names is one byte.
-use Prim.Native.Nat.{ℕ, _+_, _-_, _*_}
+use Prim.Native.Nat.{ℕ, _-_}
 use mathlib.Core.Bool.{Bool, true, false, not, _&&_, _||_}
 use lib.Dec.{leb, eqb}
 
@@ -65,3 +65,7 @@ shortValue b =
                 ]
           ]
     ]
+
+-- a byte that stands for itself in a string, and is not refused
+unfoldable pub isPlain : ℕ → Bool
+isPlain b = ((leb 0x20 b && not (eqb b 0x22)) && not (eqb b 0x5C)) && not (eqb b 0x7F)

@@ -5,5 +5,3 @@ pub mod Read
 pub mod Content
 pub mod Scan
 pub mod Size
-pub mod Measure
-pub mod Parts

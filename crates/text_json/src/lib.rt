@@ -1,8 +1,9 @@
 // Reading JSON (RFC 8259) in place: a position in the text goes in, and where the reading ended comes out.
 pub mod bytes;
-pub mod number;
 pub mod space;
-pub mod string;
+
+// The most arrays and objects that may stand inside each other, the outermost counted.
+pub const MOST_NESTING: usize = 8;
 
 // Where a part of the grammar ended, or the position of the first byte that does not fit.
 pub enum Step {

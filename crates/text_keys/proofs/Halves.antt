@@ -28,9 +28,11 @@ module _ (keys left : List ℕ) (mid : ℕ) (h : mid ≤ length keys) (l : lengt
   left-length : length left ≡ mid
   left-length = l ∙ length-take-le mid keys h
 
+  -- With a list as long as the left half in its place, the whole list is as long as before.
   pub whole-length : length (with-left keys left mid) ≡ length keys
   whole-length = length-front keys left mid l
 
+  -- Its right half is that of the list before.
   pub right-half : right-of keys left mid ≡ drop mid keys
   right-half =
       ap (take (length (with-left keys left mid) - mid)) (drop-at left (drop mid keys) mid left-length)
@@ -60,6 +62,7 @@ joined s keys left right mid h k l p r q = record {
       ∙ ap (sort (keyLe s)) (take-append-drop mid keys);
 }
 
+-- A list of keys in which each half is replaced by that half sorted is the list in two sorted halves.
 pub halved : (s keys left right : List ℕ) (mid : ℕ) → mid ≤ length keys → KeysAt s keys
     → length left ≡ length (take mid keys) → left ≡ sort (keyLe s) (take mid keys)
     → length right ≡ length (right-of keys left mid) → right ≡ sort (keyLe s) (right-of keys left mid)

@@ -25,19 +25,23 @@ keys-get no-keys i h = absurd (omega arith)
 keys-get (key-at p q) zero h = p
 keys-get (key-at p q) (suc i) h = keys-get q i (omega arith)
 
+-- A list of which each position, by its index, is the place of a key is a list of key places.
 pub keys-all : {s : List ℕ} (ks : List ℕ) → ((i : ℕ) → i < length ks → Inside s (getD ks i 0 + 1)) → KeysAt s ks
 keys-all [] f = no-keys
 keys-all (k ∷ ks) f = key-at (f zero (omega arith)) (keys-all ks (λ i h. f (suc i) (omega arith)))
 
+-- Two lists of key places, one after the other, are a list of key places.
 pub keys-append : {s ks ls : List ℕ} → KeysAt s ks → KeysAt s ls → KeysAt s (ks ++ ls)
 keys-append no-keys q = q
 keys-append (key-at p r) q = key-at p (keys-append r q)
 
+-- The first `n` positions of a list of key places are key places.
 pub keys-take : {s ks : List ℕ} (n : ℕ) → KeysAt s ks → KeysAt s (take n ks)
 keys-take zero p = no-keys
 keys-take (suc n) no-keys = no-keys
 keys-take (suc n) (key-at p q) = key-at p (keys-take n q)
 
+-- The positions after the first `n` of a list of key places are key places.
 pub keys-drop : {s ks : List ℕ} (n : ℕ) → KeysAt s ks → KeysAt s (drop n ks)
 keys-drop zero p = p
 keys-drop (suc n) no-keys = no-keys
@@ -55,11 +59,13 @@ keys-insert {s} k p (key-at {k = l} {ks = ls} q r) = go (keys-insert k p r)
         (λ e. rw (insert-before (keyLe s) k l ls e) (key-at p (key-at q r)))
         (λ e. rw (insert-after (keyLe s) k l ls e) (key-at q ih))
 
+-- A list of key places is still one after sorting.
 pub keys-sort : {s ks : List ℕ} → KeysAt s ks → KeysAt s (sort (keyLe s) ks)
 unfolding sort
 keys-sort no-keys = no-keys
 keys-sort (key-at {k = k} p q) = keys-insert k p (keys-sort q)
 
+-- The order of keys compares any two of them and is transitive.
 pub keys-order : (s : List ℕ) → Orders (keyLe s)
 unfolding keyLe
 keys-order s = record {
@@ -81,21 +87,25 @@ compared s k l r p q f =
     subst (Ordered x y) (sym (f x y (inside-content s (k + 1) p) (inside-content s (l + 1) q))) (ordered x y)
 
 module _ {xs ys : List ℕ} where
+  -- Where the comparison answers `Greater`, the first content comes after the second.
   pub greater : {r : Order} → Ordered xs ys r → tag r ≡ 2 → leq xs ys ≡ false
   greater (is-less a b) e = absurd (omega arith)
   greater (is-equal a) e = absurd (omega arith)
   greater (is-greater a) e = a
 
+  -- Where it answers `Less` or `Equal`, the first content does not come after the second.
   pub not-greater : {r : Order} → Ordered xs ys r → (tag r ≡ 0) ⊎ (tag r ≡ 1) → leq xs ys ≡ true
   not-greater (is-less a b) e = a
   not-greater (is-equal a) e = ap (leq xs) (sym a) ∙ leq-refl xs
   not-greater (is-greater a) e = ⊎-elim (λ z. absurd (omega arith)) (λ z. absurd (omega arith)) e
 
+  -- Where it answers `Equal`, the contents are equal.
   pub equal : {r : Order} → Ordered xs ys r → tag r ≡ 1 → same xs ys ≡ true
   equal (is-less a b) e = absurd (omega arith)
   equal (is-equal a) e = ap (same xs) (sym a) ∙ same-refl xs
   equal (is-greater a) e = absurd (omega arith)
 
+  -- Where it answers `Less` or `Greater`, the contents are not equal.
   pub not-equal : {r : Order} → Ordered xs ys r → (tag r ≡ 0) ⊎ (tag r ≡ 2) → same xs ys ≡ false
   not-equal o e = by-test (same xs ys) (λ z. absurd (differ o e (same-eq xs ys z))) (λ z. z)
     where

@@ -40,6 +40,7 @@ kept-get xs ys j e = sym (at xs) ∙ ap (λ (l : List ℕ). getD l 0 0) e ∙ at
 kept-next : (xs ys : List ℕ) (j : ℕ) → drop j xs ≡ drop j ys → drop (j + 1) xs ≡ drop (j + 1) ys
 kept-next xs ys j e = sym (drop-drop 1 j xs) ∙ ap (drop 1) e ∙ drop-drop 1 j ys
 
+-- While the halves are merged, the list holds the place of a key at index `j`, the next of the right half.
 pub key-right : {s left first keys : List ℕ} {i j at : ℕ} → Merging s left first keys i j at → KeysAt s first → j < length keys → Inside s (getD keys j 0 + 1)
 key-right {s} {j = j} m p h =
     subst (λ (k : ℕ). Inside s (k + 1)) (sym (kept-get _ _ j (m .kept))) (keys-get p j (omega arith))
@@ -51,9 +52,11 @@ written keys rest at k h =
     ∙ append-assoc (take at keys) (k ∷ []) rest
 
 module _ (s left first : List ℕ) where
+  -- At the start no key is merged, and both halves are left.
   pub merging-start : length left ≤ length first → Merging s left first first 0 (length left) 0
   merging-start h = record { low = omega arith; right = omega arith; high = h; place = omega arith; size = refl; kept = refl; merged = refl }
 
+  -- Where no key of the left half is left, the list is both halves merged.
   pub merging-done : (keys : List ℕ) (i j at : ℕ) → length left ≤ i → Merging s left first keys i j at
       → keys ≡ merge (keyLe s) left (drop (length left) first)
   unfolding merge
@@ -80,6 +83,7 @@ module _ (s left first : List ℕ) where
         (merge-left (keyLe s) (getD left i 0) (getD first j 0) (drop (i + 1) left) (drop (j + 1) first)
         (ap (keyLe s (getD left i 0)) (sym (kept-get keys first j (m .kept))) ∙ e .1))
 
+    -- One more key is merged from the left half, where the right one has ended or its key comes no earlier.
     pub merging-left : (length keys ≤ j) ⊎ ((j < length keys) × (keyLe s (getD left i 0) (getD keys j 0) ≡ true))
         → Merging s left first (set keys at (getD left i 0)) (i + 1) j (at + 1)
     merging-left e = record {
@@ -103,6 +107,7 @@ module _ (s left first : List ℕ) where
         rw (g, opened left i h, opened first j n)
         (merge-right (keyLe s) (getD left i 0) (getD first j 0) (drop (i + 1) left) (drop (j + 1) first) (ap (keyLe s (getD left i 0)) (sym g) ∙ e))
 
+    -- One more key is merged from the right half, where the left one's key comes after it.
     pub merging-right : j < length keys → keyLe s (getD left i 0) (getD keys j 0) ≡ false
         → Merging s left first (set keys at (getD keys j 0)) i (j + 1) (at + 1)
     merging-right l e = record {

@@ -59,12 +59,14 @@ module _ (s : List ℕ) where
   -- a key between two equal ones is equal to them
   left-between : (k l m : ℕ) → keyLe s k l ≡ true → keyLe s l m ≡ true → sameLeft s k m ≤ sameLeft s l m
   unfolding keyLe sameLeft leftIf
-  left-between k l m e f = by-test (same (contentFrom s (m + 1)) (contentFrom s (k + 1))) equal (λ q. let z : sameLeft s k m ≡ 0 = rw (sameLeft, q) in omega arith)
+  left-between k l m e f = by-test (same (contentFrom s (m + 1)) (contentFrom s (k + 1))) equal (λ q. let z : sameLeft s k m ≡ 0 = rw (sameLeft, q) in
+      omega arith)
     where
       equal : same (contentFrom s (m + 1)) (contentFrom s (k + 1)) ≡ true → sameLeft s k m ≤ sameLeft s l m
       equal q =
           let p : contentFrom s (m + 1) ≡ contentFrom s (k + 1) = same-eq (contentFrom s (m + 1)) (contentFrom s (k + 1)) q in
-          let r : contentFrom s (k + 1) ≡ contentFrom s (l + 1) = leq-antisym (contentFrom s (k + 1)) (contentFrom s (l + 1)) e (subst (λ (x : List ℕ). leq (contentFrom s (l + 1)) x ≡ true) p f) in
+          let r : contentFrom s (k + 1) ≡ contentFrom s (l + 1) = leq-antisym (contentFrom s (k + 1)) (contentFrom s (l + 1)) e
+          (subst (λ (x : List ℕ). leq (contentFrom s (l + 1)) x ≡ true) p f) in
           omega (arith, left-equal k m p, left-equal l m (p ∙ r))
 
   -- keys that are equal to one at the start or before it, among keys in rising order
@@ -92,8 +94,10 @@ module _ (s : List ℕ) where
           let a = left-differs k l (λ q. after-differs k l e (sym q)) in
           by-test (keyLe s k m)
           (λ g. rw (insert-before (keyLe s) k m ms g)
-          (max-three (equalLeft s k (m ∷ ms)) (nextFrom s m ms) a (left-differs l k (after-differs k l e)) (left-differs l m (parted k l m e g)) (rw (insert-before (keyLe s) k m ms g) at ih)))
-          (λ g. rw (insert-after (keyLe s) k m ms g) (max-one (sameLeft s l m) (equalLeft s k (m ∷ ms)) (nextFrom s m ms) a (rw (insert-after (keyLe s) k m ms g) at ih)))
+          (max-three (equalLeft s k (m ∷ ms)) (nextFrom s m ms) a (left-differs l k (after-differs k l e)) (left-differs l m (parted k l m e g))
+          (rw (insert-before (keyLe s) k m ms g) at ih)))
+          (λ g. rw (insert-after (keyLe s) k m ms g) (max-one (sameLeft s l m) (equalLeft s k (m ∷ ms)) (nextFrom s m ms) a
+          (rw (insert-after (keyLe s) k m ms g) at ih)))
 
       go : Rest → nextLeft s (insert (keyLe s) k (l ∷ m ∷ ms)) ≡ max (equalLeft s k (l ∷ m ∷ ms)) (nextFrom s l (m ∷ ms))
       go ih =
@@ -115,6 +119,7 @@ module _ (s : List ℕ) where
   equal-sort k [] = refl
   equal-sort k (l ∷ ls) = omega (arith, equal-insert k l (sort (keyLe s) ls), equal-sort k ls)
 
+  -- The most bytes left from a key equal to an earlier one are those from a sorted key equal to the one right before it.
   pub next-sort : (ks : List ℕ) → nextLeft s (sort (keyLe s) ks) ≡ repeatLeft s ks
   unfolding sort nextLeft repeatLeft
   next-sort [] = refl
@@ -168,11 +173,13 @@ module _ (s : List ℕ) where
   again-none [] = refl
   again-none (l ∷ ls) = omega (arith, again-none ls)
 
-  again-more : (k : ℕ) (earlier : List (List ℕ)) (ls : List ℕ) → againLeft s (contentFrom s (k + 1) ∷ earlier) ls ≡ max (equalLeft s k ls) (againLeft s earlier ls)
+  again-more : (k : ℕ) (earlier : List (List ℕ)) (ls : List ℕ)
+      → againLeft s (contentFrom s (k + 1) ∷ earlier) ls ≡ max (equalLeft s k ls) (againLeft s earlier ls)
   unfolding againLeft among equalLeft sameLeft
   again-more k earlier [] = refl
   again-more k earlier (l ∷ ls) =
-      either (same (contentFrom s (l + 1)) (contentFrom s (k + 1))) (among (contentFrom s (l + 1)) earlier) (length s - l) (equalLeft s k ls) (againLeft s earlier ls)
+      either (same (contentFrom s (l + 1)) (contentFrom s (k + 1))) (among (contentFrom s (l + 1)) earlier) (length s - l) (equalLeft s k ls)
+      (againLeft s earlier ls)
       (again-more k earlier ls)
 
   repeated-from : {ms : List Member} {ks : List ℕ} (earlier : List (List ℕ)) → Places s ms ks

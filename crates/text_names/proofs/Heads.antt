@@ -49,11 +49,13 @@ unfolding headFrom
 head-end zero h l = absurd (omega arith)
 head-end (suc n) h l = simp unary-clauses refl
 
+-- With bytes to come, the first byte of the content is added to the head behind the earlier ones.
 pub head-byte : (n h : ℕ) → 0 < n → (b : ℕ) (c : List ℕ) → headFrom n h (b ∷ c) ≡ headFrom (n - 1) (h * 256 + b) c
 unfolding headFrom
 head-byte zero h l b c = absurd (omega arith)
 head-byte (suc n) h l b c = simp unary-clauses refl
 
+-- With no bytes to come, the head is what the earlier ones make up.
 pub head-done : (n h : ℕ) (c : List ℕ) → n ≤ 0 → headFrom n h c ≡ h
 unfolding headFrom
 head-done zero h c l = refl
@@ -75,6 +77,7 @@ bound-most (suc (suc zero)) = omega arith
 bound-most (suc (suc (suc zero))) = omega arith
 bound-most (suc (suc (suc (suc n)))) = omega arith
 
+-- The head so far with one more byte fits in 32 bits.
 pub bound-fits : (n h b : ℕ) → 0 < n → n ≤ 4 → h < headBound n → b < 256 → h * 256 + b < 4294967296
 bound-fits n h b l m k i = omega (arith, bound-more n h b l m k i, bound-most (n - 1))
 
@@ -129,6 +132,7 @@ pub head-less : (x y : List ℕ) → Bytes x → Bytes y → headOf x < headOf y
 unfolding headOf
 head-less = from-less 4 0
 
+-- A content of bytes with the higher head comes after the other.
 pub head-greater : (x y : List ℕ) → Bytes x → Bytes y → headOf y < headOf x → order x y ≡ Greater
 unfolding headOf
 head-greater = from-greater 4 0
@@ -161,9 +165,11 @@ encode-bytes u h =
     (λ e. by-test (ltb u 0x800)
     (λ f. let k = ltb-true u 0x800 f in subst Bytes (sym (encode-2 u (ltb-false u 0x80 e) k)) (two (0xC0 + u / 64) (0x80 + u % 64) (omega arith) (omega arith)))
     (λ f. by-test (ltb u 0x10000)
-    (λ g. let k = ltb-true u 0x10000 g in subst Bytes (sym (encode-3 u (ltb-false u 0x800 f) k)) (three (0xE0 + u / 4096) (0x80 + u / 64 % 64) (0x80 + u % 64) (omega arith) (omega arith) (omega arith)))
+    (λ g. let k = ltb-true u 0x10000 g in subst Bytes (sym (encode-3 u (ltb-false u 0x800 f) k))
+    (three (0xE0 + u / 4096) (0x80 + u / 64 % 64) (0x80 + u % 64) (omega arith) (omega arith) (omega arith)))
     (λ g. subst Bytes (sym (encode-4 u (ltb-false u 0x10000 g)))
-    (more-bytes (0xF0 + u / 262144) ((0x80 + u / 4096 % 64) ∷ (0x80 + u / 64 % 64) ∷ (0x80 + u % 64) ∷ []) (omega arith) (three (0x80 + u / 4096 % 64) (0x80 + u / 64 % 64) (0x80 + u % 64) (omega arith) (omega arith) (omega arith))))))
+    (more-bytes (0xF0 + u / 262144) ((0x80 + u / 4096 % 64) ∷ (0x80 + u / 64 % 64) ∷ (0x80 + u % 64) ∷ []) (omega arith)
+    (three (0x80 + u / 4096 % 64) (0x80 + u / 64 % 64) (0x80 + u % 64) (omega arith) (omega arith) (omega arith))))))
   where
     one : (a : ℕ) → a < 256 → Bytes (a ∷ [])
     one a i = more-bytes a [] i no-bytes
@@ -195,7 +201,8 @@ unfolding unescape SmallChar
 unescape-bytes [] p = no-bytes
 unescape-bytes (byte b ∷ cs) (small h p) = more-bytes b (unescape cs) h (unescape-bytes cs p)
 unescape-bytes (unit u ∷ []) (small h p) = encode-bytes u (omega arith)
-unescape-bytes (unit u ∷ byte b ∷ cs) (small h p) = both-bytes (encode u) (unescape (byte b ∷ cs)) (encode-bytes u (omega arith)) (unescape-bytes (byte b ∷ cs) p)
+unescape-bytes (unit u ∷ byte b ∷ cs) (small h p) = both-bytes (encode u) (unescape (byte b ∷ cs)) (encode-bytes u (omega arith))
+    (unescape-bytes (byte b ∷ cs) p)
 unescape-bytes (unit u ∷ unit v ∷ cs) (small h (small i p)) =
     let one = encode-bytes u (omega arith) in
     let rest = unescape-bytes cs p in
@@ -211,19 +218,23 @@ content-bytes s i f p =
 
 -- the order of two contents by their heads
 module _ (s : List ℕ) (i : ℕ) (t : List ℕ) (j : ℕ) (f : Bytes s) (g : Bytes t) (p : Inside s i) (q : Inside t j) where
+  -- In texts of bytes, a string's content with a lower head than another's is less than that one.
   pub heads-less : headOf (contentFrom s i) < headOf (contentFrom t j) → Less ≡ order (contentFrom s i) (contentFrom t j)
   heads-less l = sym (head-less (contentFrom s i) (contentFrom t j) (content-bytes s i f p) (content-bytes t j g q) l)
 
+  -- In texts of bytes, a string's content with a higher head than another's is greater than that one.
   pub heads-greater : headOf (contentFrom t j) < headOf (contentFrom s i) → Greater ≡ order (contentFrom s i) (contentFrom t j)
   heads-greater l = sym (head-greater (contentFrom s i) (contentFrom t j) (content-bytes s i f p) (content-bytes t j g q) l)
 
 -- what a loop over the bytes of the text keeps
 module _ (s : List ℕ) (i n h : ℕ) (l : 0 < n) (p : Inside s i) where
+  -- At the closing quotation mark a byte 0 is added to the head, and the position stays.
   pub over-end : getD s i 0 ≡ 0x22 → headFrom n h (contentFrom s i) ≡ headFrom (n - 1) (h * 256) (contentFrom s i)
   over-end e =
       let z = ends s i p e in
       ap (headFrom n h) z ∙ head-end n h l ∙ ap (headFrom (n - 1) (h * 256)) (sym z)
 
+  -- A byte that is neither a quotation mark nor a backslash is added to the head, and the string goes on at the next position.
   pub over-byte : (getD s i 0 ≡ 0x22 → ⊥) → (getD s i 0 ≡ 0x5C → ⊥)
       → (headFrom n h (contentFrom s i) ≡ headFrom (n - 1) (h * 256 + getD s i 0) (contentFrom s (i + 1))) × Inside s (i + 1)
   over-byte a b = let g = goes-on s i p a b in (ap (headFrom n h) (g .0) ∙ head-byte n h l (getD s i 0) (contentFrom s (i + 1)), g .1)
@@ -233,13 +244,16 @@ abbrev pub Continues : (P Q : List ℕ → Type 0) (n h m g : ℕ) → Type 0
 Continues P Q n h m g = (x : List ℕ) → P x → (y : List ℕ) × Q y × (headFrom n h x ≡ headFrom m g y)
 
 -- what a loop over a cursor keeps
-module _ (s : List ℕ) (x : Next) {P Q : List ℕ → Type 0} (n₀ h₀ n h : ℕ) (keep : Continues P Q n₀ h₀ n h) (l : 0 < n) (g : (c : List ℕ) → Q c → Gives s c x) where
+module _ (s : List ℕ) (x : Next) {P Q : List ℕ → Type 0} (n₀ h₀ n h : ℕ) (keep : Continues P Q n₀ h₀ n h) (l : 0 < n) (g : (c : List ℕ) → Q c
+    → Gives s c x) where
+  -- Where the cursor gives no byte, a byte 0 is added to the head.
   pub cursor-end : x .found ≡ false → Continues P Q n₀ h₀ (n - 1) (h * 256)
   cursor-end e c p =
       let k = keep c p in
       let z = given-end s (k .0) x e (g (k .0) (k .1)) in
       (k .0, k .1, k .2 ∙ ap (headFrom n h) z ∙ head-end n h l ∙ ap (headFrom (n - 1) (h * 256)) (sym z))
 
+  -- Where the cursor gives a byte, that byte is added to the head, and the rest lies before the cursor.
   pub cursor-byte : x .found ≡ true → Continues P (Left s (x .rest)) n₀ h₀ (n - 1) (h * 256 + x .byte)
   cursor-byte e c p =
       let k = keep c p in

@@ -60,20 +60,24 @@ module _ (name : List ℕ) (k : ℕ) where
 
 -- at a position of the text
 module _ (s : List ℕ) (i : ℕ) (p : Inside s i) (name : List ℕ) (k : ℕ) where
+  -- Where the string ends and bytes of the name are left, the content is not what is left of the name.
   pub ends-early : k < length name → getD s i 0 ≡ 0x22 → false ≡ same (contentFrom s i) (drop k name)
   ends-early h e = ends-before name k h ∙ ap (λ (l : List ℕ). same l (drop k name)) (sym (ends s i p e))
 
   module _ (h : k < length name) (b : getD s i 0 ≡ 0x5C → ⊥) where
+    -- Where the byte at the position is no backslash and not the name's, the content is not what is left of the name.
     pub byte-differs : (getD s i 0 ≡ getD name k 0 → ⊥) → false ≡ same (contentFrom s i) (drop k name)
     byte-differs n =
         by-test (eqb (getD s i 0) 0x22)
         (λ e. ends-early h (eqb-true _ _ e))
         (λ e. differ-here name k h _ _ _ (goes-on s i p (eqb-false _ _ e) b .0) n)
 
+    -- Where it is the name's and no quotation mark, the comparison goes on at the next position, still in the string.
     pub byte-same : (getD s i 0 ≡ 0x22 → ⊥) → getD s i 0 ≡ getD name k 0
         → (same (contentFrom s i) (drop k name) ≡ same (contentFrom s (i + 1)) (drop (k + 1) name)) × Inside s (i + 1)
     byte-same a e = let g = goes-on s i p a b in (same-next name k h _ _ _ (g .0) e, g .1)
 
+  -- Past the end of the name, the content is what is left of it exactly if a quotation mark stands at the position.
   pub ends-there : length name ≤ k → eqb (getD s i 0) 0x22 ≡ same (contentFrom s i) (drop k name)
   unfolding same
   ends-there h =
@@ -86,12 +90,15 @@ abbrev pub Follows : (P Q : List ℕ → Type 0) (xs ys : List ℕ) → Type 0
 Follows P Q xs ys = (x : List ℕ) → P x → (y : List ℕ) × Q y × (same x xs ≡ same y ys)
 
 -- at a cursor
-module _ (s : List ℕ) (n : Next) {P Q : List ℕ → Type 0} (xs name : List ℕ) (k : ℕ) (keep : Follows P Q xs (drop k name)) (g : (c : List ℕ) → Q c → Gives s c n) where
+module _ (s : List ℕ) (n : Next) {P Q : List ℕ → Type 0} (xs name : List ℕ) (k : ℕ) (keep : Follows P Q xs (drop k name)) (g : (c : List ℕ) → Q c
+    → Gives s c n) where
+  -- Where the cursor gives no byte and bytes of the name are left, a content that fits `P` is not `xs`.
   pub cursor-ends : k < length name → n .found ≡ false → (x : List ℕ) → P x → false ≡ same x xs
   cursor-ends h e x p =
       let q = keep x p in
       ends-before name k h ∙ ap (λ (l : List ℕ). same l (drop k name)) (sym (given-end s (q .0) n e (g (q .0) (q .1)))) ∙ sym (q .2)
 
+  -- Past the end of the name, a content that fits `P` is `xs` exactly if the cursor gives no byte.
   pub cursor-done : length name ≤ k → (x : List ℕ) → P x → not (n .found) ≡ same x xs
   unfolding same
   cursor-done h x p =
@@ -102,12 +109,14 @@ module _ (s : List ℕ) (n : Next) {P Q : List ℕ → Type 0} (xs name : List �
       (λ e. ap not e ∙ sym (q .2 ∙ at-end name k (q .0) h ∙ ap (λ (l : List ℕ). same l []) (given-end s (q .0) n e (g (q .0) (q .1)))))
 
   module _ (h : k < length name) (e : n .found ≡ true) where
+    -- Where the cursor gives a byte that is not the name's, a content that fits `P` is not `xs`.
     pub cursor-differs : (n .byte ≡ getD name k 0 → ⊥) → (x : List ℕ) → P x → false ≡ same x xs
     cursor-differs d x p =
         let q = keep x p in
         let b = given-byte s (q .0) n e (g (q .0) (q .1)) in
         differ-here name k h (q .0) (n .byte) (b .0) (b .1) d ∙ sym (q .2)
 
+    -- Where it gives the name's byte, a content that fits `P` is `xs` where the one left is the name after that byte.
     pub cursor-same : n .byte ≡ getD name k 0 → Follows P (Left s (n .rest)) xs (drop (k + 1) name)
     cursor-same d x p =
         let q = keep x p in
@@ -133,14 +142,17 @@ module _ (x y : List ℕ) where
       go (is-equal a) = sym (ap (same x) (sym a) ∙ same-refl x)
       go (is-greater a) = other (λ e. false-true (sym a ∙ ap (leq x) (sym e) ∙ leq-refl x))
 
+  -- Contents whose order is `Equal` are equal.
   pub order-equal : Equal ≡ order x y → true ≡ same x y
   unfolding isEqual
   order-equal e = ap isEqual e ∙ by-order
 
+  -- Contents whose order is `Less` are not equal.
   pub order-less : Less ≡ order x y → false ≡ same x y
   unfolding isEqual
   order-less e = ap isEqual e ∙ by-order
 
+  -- Contents whose order is `Greater` are not equal.
   pub order-greater : Greater ≡ order x y → false ≡ same x y
   unfolding isEqual
   order-greater e = ap isEqual e ∙ by-order

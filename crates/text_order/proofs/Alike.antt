@@ -11,8 +11,8 @@ use borrow.Author.Tests.{leb-true, le-leb, lt-leb}
 use lib.Dec.{leb, eqb}
 use lib.ListN.{length, take, drop, getD, length-drop, length-take}
 use lib.Seq.{take-suc, getD-drop, getD-take}
-use Rattle.text_json.specs.Measure.{isUnmarked, every}
-use Rattle.text_json.proofs.Plain.{every-at, unmarked}
+use Rattle.text_chars.specs.Measure.{isUnmarked, every}
+use Rattle.text_chars.proofs.Plain.{every-at, unmarked}
 use Rattle.laws.specs.Order.{same}
 use Rattle.laws.proofs.Order.{by-test, same-eq}
 use Rattle.text_strings.specs.InString.{InString, Inside}
@@ -44,18 +44,22 @@ same-next s t i j n all h k e =
 
 -- the test of n bytes, by how many are left
 module _ (n : ℕ) (xs ys : List ℕ) where
+  -- The test of `n` bytes fails where the first list has fewer.
   pub few-first : length xs < n → false ≡ alike n xs ys
   unfolding alike
   few-first h = rw (lt-leb n (length xs) h)
 
+  -- It fails where the first list has `n` bytes and the second has fewer.
   pub few-second : n ≤ length xs → length ys < n → false ≡ alike n xs ys
   unfolding alike
   few-second h k = rw (le-leb n (length xs) h, lt-leb n (length ys) k)
 
+  -- It fails where the first `n` bytes of the one list are not those of the other.
   pub not-same : n ≤ length xs → n ≤ length ys → same (take n xs) (take n ys) ≡ false → false ≡ alike n xs ys
   unfolding alike
   not-same h k e = rw (le-leb n (length xs) h, le-leb n (length ys) k, e)
 
+  -- Where these bytes are the same, it asks whether each of them is neither a quotation mark nor a backslash.
   pub enough : n ≤ length xs → n ≤ length ys → same (take n xs) (take n ys) ≡ true → every isUnmarked (take n xs) ≡ alike n xs ys
   unfolding alike
   enough h k e = rw (le-leb n (length xs) h, le-leb n (length ys) k, e)
@@ -69,7 +73,8 @@ module _ (s t : List ℕ) (i j n : ℕ) (e : alike n (drop i s) (drop j t) ≡ t
   parts : (n ≤ length (drop i s)) × (take n (drop i s) ≡ take n (drop j t)) × (every isUnmarked (take n (drop i s)) ≡ true)
   unfolding alike
   parts =
-      let p = and-eq-true-iff (leb n (length (drop i s)) && leb n (length (drop j t))) (same (take n (drop i s)) (take n (drop j t)) && every isUnmarked (take n (drop i s))) .0 e in
+      let p = and-eq-true-iff (leb n (length (drop i s)) && leb n (length (drop j t))) (same (take n (drop i s)) (take n (drop j t))
+      && every isUnmarked (take n (drop i s))) .0 e in
       let q = and-eq-true-iff (leb n (length (drop i s))) (leb n (length (drop j t))) .0 (p .0) in
       let r = and-eq-true-iff (same (take n (drop i s)) (take n (drop j t))) (every isUnmarked (take n (drop i s))) .0 (p .1) in
       (leb-true n (length (drop i s)) (q .0), same-eq (take n (drop i s)) (take n (drop j t)) (r .0), r .1)
@@ -86,6 +91,7 @@ module _ (s t : List ℕ) (i j n : ℕ) (e : alike n (drop i s) (drop j t) ≡ t
       unmarked (getD s (i + m) 0)
       (rw (getD-take n (drop i s) m 0 h, getD-drop i s m 0) at (every-at isUnmarked (take n (drop i s)) m (parts .2) l))
 
+  -- A run of `n` bytes that are alike ends within the first text.
   pub fits : i ≤ length s → i + n ≤ length s
   fits h = let l = rw (length-drop i s) at (parts .0) in omega arith
 
@@ -104,5 +110,6 @@ module _ (s t : List ℕ) (i j n : ℕ) (e : alike n (drop i s) (drop j t) ≡ t
           both-plain s t (i + m) (j + m) (c .2) (w .1) (λ z. w .1 (q ∙ z)) q (w .0),
         )
 
+    -- After a run of bytes that are alike, both positions are inside strings, and the order is still the one from the start.
     pub past : Both P Q s (i + n) t (j + n)
     past = upto n (omega arith)

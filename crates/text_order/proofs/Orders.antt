@@ -23,10 +23,12 @@ pub order-less : (x y : ℕ) (xs ys : List ℕ) → x < y → order (x ∷ xs) (
 unfolding order
 order-less x y xs ys h = rw (lt-ltb x y h, order)
 
+-- Where the first byte of the first content is larger than that of the second, the order is greater.
 pub order-more : (x y : ℕ) (xs ys : List ℕ) → y < x → order (x ∷ xs) (y ∷ ys) ≡ Greater
 unfolding order
 order-more x y xs ys h = let l : y ≤ x = omega arith in rw (le-ltb x y l, order) (rw (lt-ltb y x h))
 
+-- Where the first bytes of two contents are equal, the order is that of what follows them.
 pub order-same : (x y : ℕ) (xs ys : List ℕ) → x ≡ y → order (x ∷ xs) (y ∷ ys) ≡ order xs ys
 unfolding order
 order-same x y xs ys h = let l : y ≤ x = omega arith in let m : x ≤ y = omega arith in rw (le-ltb x y l, order) (rw (le-ltb y x m))
@@ -38,6 +40,7 @@ Tracks P Q P′ Q′ = (x y : List ℕ) → P x → Q y → (x′ : List ℕ) ×
 -- how the loop over two cursors ends, and how it goes on
 module _ (s t : List ℕ) {P Q P′ Q′ : List ℕ → Type 0} (keep : Tracks P Q P′ Q′) (n m : Next)
     (gn : (c : List ℕ) → P′ c → Gives s c n) (gm : (c : List ℕ) → Q′ c → Gives t c m) where
+  -- Where neither cursor gives a byte, the order of the contents is equal.
   pub both-end : n .found ≡ false → m .found ≡ false → (x y : List ℕ) → P x → Q y → Equal ≡ order x y
   unfolding order
   both-end a b x y p q =
@@ -46,6 +49,7 @@ module _ (s t : List ℕ) {P Q P′ Q′ : List ℕ → Type 0} (keep : Tracks P
       let f : k .1 ≡ [] = given-end t (k .1) m b (gm (k .1) (k .3)) in
       sym (k .4 ∙ ap (λ (z : List ℕ). order z (k .1)) e ∙ ap (order []) f)
 
+  -- Where only the second cursor gives a byte, the order of the contents is less.
   pub first-ends : n .found ≡ false → m .found ≡ true → (x y : List ℕ) → P x → Q y → Less ≡ order x y
   unfolding order
   first-ends a b x y p q =
@@ -54,6 +58,7 @@ module _ (s t : List ℕ) {P Q P′ Q′ : List ℕ → Type 0} (keep : Tracks P
       let f = given-byte t (k .1) m b (gm (k .1) (k .3)) in
       sym (k .4 ∙ ap (λ (z : List ℕ). order z (k .1)) e ∙ ap (order []) (f .1))
 
+  -- Where only the first cursor gives a byte, the order of the contents is greater.
   pub second-ends : n .found ≡ true → m .found ≡ false → (x y : List ℕ) → P x → Q y → Greater ≡ order x y
   unfolding order
   second-ends a b x y p q =
@@ -63,6 +68,7 @@ module _ (s t : List ℕ) {P Q P′ Q′ : List ℕ → Type 0} (keep : Tracks P
       sym (k .4 ∙ ap (λ (z : List ℕ). order z (k .1)) (e .1) ∙ ap (order (n .byte ∷ e .0)) f)
 
   module _ (a : n .found ≡ true) (b : m .found ≡ true) where
+    -- Where both cursors give a byte, the contents compare as these bytes with what is left after them.
     pub by-bytes : (x y : List ℕ) → P x → Q y
         → (x′ : List ℕ) × (y′ : List ℕ) × Left s (n .rest) x′ × Left t (m .rest) y′ × (order x y ≡ order (n .byte ∷ x′) (m .byte ∷ y′))
     by-bytes x y p q =
@@ -71,12 +77,15 @@ module _ (s t : List ℕ) {P Q P′ Q′ : List ℕ → Type 0} (keep : Tracks P
         let f = given-byte t (k .1) m b (gm (k .1) (k .3)) in
         (e .0, f .0, e .2, f .2, k .4 ∙ ap (λ (z : List ℕ). order z (k .1)) (e .1) ∙ ap (order (n .byte ∷ e .0)) (f .1))
 
+    -- Where the byte of the first cursor is smaller, the order of the contents is less.
     pub first-less : n .byte < m .byte → (x y : List ℕ) → P x → Q y → Less ≡ order x y
     first-less h x y p q = let k = by-bytes x y p q in sym (k .4 ∙ order-less (n .byte) (m .byte) (k .0) (k .1) h)
 
+    -- Where the byte of the first cursor is larger, the order of the contents is greater.
     pub first-more : m .byte < n .byte → (x y : List ℕ) → P x → Q y → Greater ≡ order x y
     first-more h x y p q = let k = by-bytes x y p q in sym (k .4 ∙ order-more (n .byte) (m .byte) (k .0) (k .1) h)
 
+    -- Where the two bytes are equal, the contents compare as what is left after them.
     pub goes-on : n .byte ≡ m .byte → Tracks P Q (Left s (n .rest)) (Left t (m .rest))
     goes-on h x y p q = let k = by-bytes x y p q in (k .0, k .1, k .2, k .3, k .4 ∙ order-same (n .byte) (m .byte) (k .0) (k .1) h)
 
@@ -94,12 +103,19 @@ module _ (s t : List ℕ) (i j : ℕ) {P Q : List ℕ → Type 0} (keep : Tracks
       sym (k .4 ∙ ap (λ (z : List ℕ). order z (k .1)) (closes s i (k .0) (k .2) a) ∙ ap (order []) (closes t j (k .1) (k .3) (sym e ∙ a)))
 
   module _ (a : getD s i 0 ≡ 0x5C → ⊥) (b : getD t j 0 ≡ 0x5C → ⊥) where
+    -- Where the same byte, no quotation mark or backslash, stands in both texts, the contents compare as from the next positions on.
     pub both-plain : getD s i 0 ≡ getD t j 0 → (getD s i 0 ≡ 0x22 → ⊥) → Tracks P Q (InString s (i + 1)) (InString t (j + 1))
     both-plain e n x y p q =
         let k = keep x y p q in
         let f = plain s i (k .0) (k .2) n a in
-        let g = plain t j (k .1) (k .3) (λ h. n (e ∙ h)) b in
-        (f .0, g .0, f .2, g .2, k .4 ∙ ap (λ (z : List ℕ). order z (k .1)) (f .1) ∙ ap (order (getD s i 0 ∷ f .0)) (g .1) ∙ order-same (getD s i 0) (getD t j 0) (f .0) (g .0) e)
+        let g = plain t j (k .1) (k .3) (λ h. n (e ∙ h)) b in (
+          f .0,
+          g .0,
+          f .2,
+          g .2,
+          k .4 ∙ ap (λ (z : List ℕ). order z (k .1)) (f .1) ∙ ap (order (getD s i 0 ∷ f .0)) (g .1)
+              ∙ order-same (getD s i 0) (getD t j 0) (f .0) (g .0) e,
+        )
 
     -- at bytes that differ
     pub bytes-differ : (getD s i 0 ≡ getD t j 0 → ⊥) → (x y : List ℕ) → P x → Q y → differs (getD s i 0) (getD t j 0) ≡ order x y
@@ -119,7 +135,8 @@ module _ (s t : List ℕ) (i j : ℕ) {P Q : List ℕ → Type 0} (keep : Tracks
         more-left : (k : K) → eqb (getD s i 0) 0x22 ≡ false → eqb (getD t j 0) 0x22 ≡ true → order (k .0) (k .1) ≡ differs (getD s i 0) (getD t j 0)
         more-left k e f =
             let g = plain s i (k .0) (k .2) (eqb-false (getD s i 0) 0x22 e) a in
-            ap (λ (z : List ℕ). order z (k .1)) (g .1) ∙ ap (order (getD s i 0 ∷ g .0)) (closes t j (k .1) (k .3) (eqb-true (getD t j 0) 0x22 f)) ∙ rw (differs, e, f)
+            ap (λ (z : List ℕ). order z (k .1)) (g .1) ∙ ap (order (getD s i 0 ∷ g .0)) (closes t j (k .1) (k .3) (eqb-true (getD t j 0) 0x22 f))
+            ∙ rw (differs, e, f)
 
         strict : getD t j 0 ≤ getD s i 0 → getD t j 0 < getD s i 0
         strict l = omega (arith, n)
@@ -153,6 +170,7 @@ pub data Ordered (xs ys : List ℕ) : Order → Type 0 where
   is-equal : xs ≡ ys → Ordered xs ys Equal
   is-greater : leq xs ys ≡ false → Ordered xs ys Greater
 
+-- The order is less where the first content comes before the second, equal where they are equal, and greater where it comes after.
 pub ordered : (xs ys : List ℕ) → Ordered xs ys (order xs ys)
 unfolding order leq
 ordered [] [] = is-equal refl

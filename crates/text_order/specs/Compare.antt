@@ -5,7 +5,7 @@ use mathlib.Core.Bool.{Bool, true, false, not, _&&_}
 use lib.Dec.{ltb, eqb, leb}
 use lib.ListN.{length, take, getD}
 use Rattle.laws.specs.Order.{same}
-use Rattle.text_json.specs.Measure.{isUnmarked, every}
+use Rattle.text_chars.specs.Measure.{isUnmarked, every}
 use Rattle.text_order.specs.declared.Order.{Order}
 use Rattle.text_order.specs.declared.Order.the-variants.{Less, Equal, Greater}
 

@@ -103,7 +103,7 @@ fn alike16(s: &[u8], i: usize, t: &[u8], j: usize) -> bool
     if !same16(s, i, t, j) {
         return false;
     }
-    text_json::string::unmarked16(s, i)
+    text_chars::unmarked16(s, i)
 }
 
 // The order of two strings' contents from position i of s and position j of t on: sixteen bytes at a time while they are alike. Most

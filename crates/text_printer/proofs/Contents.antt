@@ -8,7 +8,7 @@ use lib.Seq.{length-take-le}
 use borrow.Rule.Slice.PartMut.{midOf, putMid}
 use Rattle.text_utf8.specs.Scalar.{encode}
 use Rattle.text_json.specs.Content.{escaped, quoted}
-use Rattle.text_json.specs.Measure.{plainLength}
+use Rattle.text_chars.specs.Measure.{plainLength}
 use Rattle.text_strings.specs.InString.{InString, Inside, Escapes, EscapeAt, contentFrom}
 use Rattle.text_strings.proofs.Contents.{inside-content}
 use Rattle.text_strings.proofs.Cursors.{closes, inside-within}
@@ -26,13 +26,16 @@ pub record Progress (s : List ℕ) (i : ℕ) (before out : List ℕ) (k n : ℕ)
   pub size : n ≡ length done
   pub written : Writes before out done
 
+-- At the start nothing of the content is written.
 pub started : (s : List ℕ) (i : ℕ) (l : List ℕ) → Inside s i → Progress s i l l i 0
 started s i l p = record { done = []; left = contentFrom s i; inside = inside-content s i p; joins = refl; size = refl; written = nothing-written l }
 
 module _ {s : List ℕ} {i : ℕ} {before out : List ℕ} {k n : ℕ} (p : Progress s i before out k n) where
+  -- The position that is reached lies within the text.
   pub within : k < length s
   within = inside-within s k (record { bytes = p .left; here = p .inside })
 
+  -- Where a backslash stands at that position, an escape of the string stands there.
   pub escape-here : getD s k 0 ≡ 0x5C → EscapeAt s k
   escape-here e = record { left = p .left; inside = p .inside; backslash = e }
 
@@ -40,11 +43,12 @@ module _ {s : List ℕ} {i : ℕ} {before out : List ℕ} {k n : ℕ} (p : Progr
   total = omega (arith, p .size, length-append (p .done) (escaped (p .left)), ap length (p .joins))
 
   module _ (h : length (escaped (contentFrom s i)) + 1 ≤ length before) where
-    room : n < length before
-    room = omega (arith, total)
+    space : n < length before
+    space = omega (arith, total)
 
-    pub byte-room : n < length out
-    byte-room = omega (arith, room, same-length (p .written))
+    -- A slice with space for the content in canonical form and the closing mark has space for one byte after what is written.
+    pub byte-space : n < length out
+    byte-space = omega (arith, space, same-length (p .written))
 
     -- the closing mark
     pub closed : getD s k 0 ≡ 0x22
@@ -52,7 +56,7 @@ module _ {s : List ℕ} {i : ℕ} {before out : List ℕ} {k n : ℕ} (p : Progr
     unfolding escaped
     closed e = (
       omega (arith, p .size, ap length whole),
-      subst (λ (l : List ℕ). Writes before (set out n 0x22) (l ++ (0x22 ∷ []))) whole (byte-written (p .written) n 0x22 (p .size) room),
+      subst (λ (l : List ℕ). Writes before (set out n 0x22) (l ++ (0x22 ∷ []))) whole (byte-written (p .written) n 0x22 (p .size) space),
     )
       where
         whole : p .done ≡ escaped (contentFrom s i)
@@ -65,6 +69,7 @@ module _ {s : List ℕ} {i : ℕ} {before out : List ℕ} {k n : ℕ} (p : Progr
           let q : e - (k + 1) + 1 ≡ e - k = omega arith in
           rw q at (runs-after s k (e - (k + 1)) (p .left) (p .inside) within a b (omega arith))
 
+      -- The position after these bytes lies within the text.
       pub run-within : e < length s
       run-within =
           let q : k + (e - k) ≡ e = omega arith in
@@ -73,12 +78,15 @@ module _ {s : List ℕ} {i : ℕ} {before out : List ℕ} {k n : ℕ} (p : Progr
       run-length : length (take (e - k) (drop k s)) ≡ e - k
       run-length = length-take-le (e - k) (drop k s) (omega (arith, run-within, length-drop k s))
 
-      pub run-room : n + (e - k) < length before
-      run-room = omega (arith, total, run-length, ap length (run .joins), length-append (take (e - k) (drop k s)) (escaped (run .left)))
+      -- After what is written the slice has space for these bytes and one more.
+      pub run-space : n + (e - k) < length before
+      run-space = omega (arith, total, run-length, ap length (run .joins), length-append (take (e - k) (drop k s)) (escaped (run .left)))
 
+      -- These bytes fit in the part of the slice that is not yet written.
       pub run-fits : e - k ≤ length (midOf n (length out - n) out)
-      run-fits = omega (arith, run-room, lent-length (p .written) n (p .size))
+      run-fits = omega (arith, run-space, lent-length (p .written) n (p .size))
 
+      -- With these bytes written to that part, the content is written up to the position after them.
       pub after-run : (m : ℕ) (part : List ℕ) → m ≡ e - k → Writes (midOf n (length out - n) out) part (take (e - k) (drop k s))
           → Progress s i before (putMid n (length out - n) out part) e (n + m)
       after-run m part g w =
@@ -97,12 +105,15 @@ module _ {s : List ℕ} {i : ℕ} {before out : List ℕ} {k n : ℕ} (p : Progr
       split : (d : List ℕ) × (escaped (p .left) ≡ escaped (encode scalar) ++ escaped d) × InString s next d
       split = let r = e .stands (p .left) (p .inside) in (r .0, ap escaped (r .1) ∙ escaped-append (encode scalar) (r .0), r .2)
 
-      pub char-room : n + length (escaped (encode scalar)) < length before
-      char-room = omega (arith, total, ap length (split .1), length-append (escaped (encode scalar)) (escaped (split .0)))
+      -- After what is written the slice has space for the canonical form of the escape's character and one byte more.
+      pub char-space : n + length (escaped (encode scalar)) < length before
+      char-space = omega (arith, total, ap length (split .1), length-append (escaped (encode scalar)) (escaped (split .0)))
 
+      -- That form fits in the part of the slice that is not yet written.
       pub char-fits : length (escaped (encode scalar)) ≤ length (midOf n (length out - n) out)
-      char-fits = omega (arith, char-room, lent-length (p .written) n (p .size))
+      char-fits = omega (arith, char-space, lent-length (p .written) n (p .size))
 
+      -- With that form written to that part, the content is written up to the position after the escape.
       pub after-escape : (m : ℕ) (part : List ℕ) → m ≡ length (escaped (encode scalar)) → Writes (midOf n (length out - n) out) part (escaped (encode scalar))
           → Progress s i before (putMid n (length out - n) out part) next (n + m)
       after-escape m part f w =
@@ -117,6 +128,7 @@ module _ {s : List ℕ} {i : ℕ} {before out : List ℕ} {k n : ℕ} (p : Progr
 
 -- a string between its marks
 module _ (c l : List ℕ) (h : length (quoted c) ≤ length l) where
+  -- A slice with space for a string in canonical form has space for its content in that form and two marks.
   pub marks-fit : length (escaped c) + 2 ≤ length l
   unfolding quoted
   marks-fit = omega (arith, h, length-append (escaped c) (0x22 ∷ []))
@@ -124,9 +136,11 @@ module _ (c l : List ℕ) (h : length (quoted c) ≤ length l) where
   opened : Writes l (set l 0 0x22) (0x22 ∷ [])
   opened = byte-written (nothing-written l) 0 0x22 refl (omega (arith, marks-fit))
 
+  -- Past the opening mark the slice has space for the content and the closing mark.
   pub content-fits : length (escaped c) + 1 ≤ length (midOf 1 (length (set l 0 0x22) - 1) (set l 0 0x22))
   content-fits = omega (arith, marks-fit, lent-length opened 1 refl)
 
+  -- With the opening mark set, and the content and the closing mark written past it, the string is written.
   pub string-written : (r : ℕ) (part : List ℕ)
       → (r ≡ length (escaped c) + 1) × Writes (midOf 1 (length (set l 0 0x22) - 1) (set l 0 0x22)) part (escaped c ++ (0x22 ∷ []))
       → (1 + r ≡ length (quoted c)) × Writes l (putMid 1 (length (set l 0 0x22) - 1) (set l 0 0x22) part) (quoted c)

@@ -14,10 +14,12 @@ use Rattle.text_json.specs.Content.{escaped}
 use Rattle.text_printer.specs.Writes.{Writes}
 use Rattle.text_printer.proofs.Written.{two-written}
 
+-- A byte that is neither a quotation mark nor a backslash stands for itself in the canonical form.
 pub escaped-plain : (b : ℕ) (s : List ℕ) → (b ≡ 0x22 → ⊥) → (b ≡ 0x5C → ⊥) → escaped (b ∷ s) ≡ b ∷ escaped s
 unfolding escaped
 escaped-plain b s p q = rw (ne-eqb b 0x22 p, escaped) (rw (ne-eqb b 0x5C q))
 
+-- The canonical form of two contents, one after the other, is the first one's followed by the second one's.
 pub escaped-append : (s t : List ℕ) → escaped (s ++ t) ≡ escaped s ++ escaped t
 unfolding escaped
 escaped-append [] t = refl
@@ -31,6 +33,7 @@ none : escaped [] ≡ []
 unfolding escaped
 none = refl
 
+-- The canonical form of a character that is neither a quotation mark nor a backslash is its encoding.
 pub escaped-encode : (c : ℕ) → (c ≡ 0x22 → ⊥) → (c ≡ 0x5C → ⊥) → escaped (encode c) ≡ encode c
 unfolding encode
 escaped-encode c p q =
@@ -60,6 +63,7 @@ pub quotation-mark : escaped (encode 0x22) ≡ 0x5C ∷ 0x22 ∷ []
 unfolding escaped encode
 quotation-mark = refl
 
+-- The canonical form of a backslash is two backslashes.
 pub backslash : escaped (encode 0x5C) ≡ 0x5C ∷ 0x5C ∷ []
 unfolding escaped encode
 backslash = refl
@@ -68,17 +72,21 @@ module _ (c b : ℕ) (l : List ℕ) (e : c ≡ b) (m : escaped (encode b) ≡ 0x
   pair : escaped (encode c) ≡ 0x5C ∷ b ∷ []
   pair = ap (λ (x : ℕ). escaped (encode x)) e ∙ m
 
+  -- A slice with space for the canonical form of a character that is escaped has at least two bytes.
   pub pair-fits : 2 ≤ length l
   pair-fits = rw pair at h
 
+  -- With a backslash and the character set at its start, the two bytes of that character's canonical form are written.
   pub pair-written : (2 ≡ length (escaped (encode c))) × Writes l (set (set l 0 0x5C) 1 b) (escaped (encode c))
   pair-written = rw pair (refl, two-written l 0x5C b pair-fits)
 
 -- any other character is written as it is encoded
 module _ (c n : ℕ) (l : List ℕ) (p : c ≡ 0x22 → ⊥) (q : c ≡ 0x5C → ⊥) (e : (n ≡ length (encode c)) × (take n l ≡ encode c)) where
+  -- The encoding, which is the first `n` bytes of `l`, lies within `l` and fits wherever the canonical form does.
   pub char-fits : (m : ℕ) → length (escaped (encode c)) ≤ m → (0 ≤ n) × (n ≤ length l) × (n - 0 ≤ m)
   char-fits m h = let x : n ≤ m = omega (arith, ap length (escaped-encode c p q)) in omega (arith, length-take n l, ap length (e .1))
 
+  -- Where those bytes are written, the canonical form of the character is.
   pub char-written : (r : ℕ) (before after : List ℕ) → (r ≡ n - 0) × Writes before after (take (n - 0) (drop 0 l))
       → (r ≡ length (escaped (encode c))) × Writes before after (escaped (encode c))
   char-written r before after w = rw (escaped-encode c p q) (omega arith, subst (Writes before after) (ap (λ (k : ℕ). take k l) (sub-zero n) ∙ e .1) (w .1))

@@ -8,8 +8,8 @@ use native.Mathlib.Numerals.{add-one}
 use lib.ListN.{length, take, drop, getD, length-drop}
 use lib.Seq.{take-suc, getD-drop, drop-cons}
 use Rattle.text_json.specs.Content.{escaped}
-use Rattle.text_json.specs.Measure.{plainLength}
-use Rattle.text_json.proofs.Plain.{Itself, plain-at, plain-fits}
+use Rattle.text_chars.specs.Measure.{plainLength}
+use Rattle.text_chars.proofs.Plain.{Itself, plain-at, plain-fits}
 use Rattle.text_strings.specs.InString.{InString}
 use Rattle.text_strings.proofs.Cursors.{plain}
 use Rattle.text_printer.proofs.Escaped.{escaped-plain}
@@ -20,6 +20,7 @@ pub record Run (s : List ℕ) (k n : ℕ) (c : List ℕ) : Type 0 where
   pub joins : escaped c ≡ take n (drop k s) ++ escaped left
   pub inside : InString s (k + n) left
 
+-- The first `n` bytes from a position of a string on stand for themselves if all of them are plain.
 pub runs : (s : List ℕ) (k n : ℕ) (c : List ℕ) → InString s k c → n ≤ plainLength (drop k s) → Run s k n c
 runs s k zero c p h = record { left = c; joins = refl; inside = rw (add-zero k) p }
 runs s k (suc n) c p h =

@@ -47,7 +47,8 @@ fn write_char(c: u32, out: &mut [u8]) -> usize
 // stands for itself, and is no byte that has to be escaped; it is copied with the plain bytes after it.
 fn write_content(s: &[u8], i: usize, out: &mut [u8]) -> usize
     requires { ⌜ Inside (now s) i × (length (escaped (contentFrom (now s) i)) + 1 ≤ length (now out)) ⌝ }
-    ensures { λ r. ⌜ (r ≡ length (escaped (contentFrom (now (s .entry)) i)) + 1) × Writes (now (out .entry)) (now (out .exit)) (escaped (contentFrom (now (s .entry)) i) ++ (0x22 ∷ [])) ⌝ }
+    ensures { λ r. ⌜ (r ≡ length (escaped (contentFrom (now (s .entry)) i)) + 1)
+        × Writes (now (out .entry)) (now (out .exit)) (escaped (contentFrom (now (s .entry)) i) ++ (0x22 ∷ [])) ⌝ }
 {
     let mut k = i;
     let mut n = 0;
@@ -64,7 +65,7 @@ fn write_content(s: &[u8], i: usize, out: &mut [u8]) -> usize
             k = e.next;
             continue;
         }
-        let end = text_json::string::plain_end(s, k + 1);
+        let end = text_chars::plain_end(s, k + 1);
         n += copy(s, k, end, &mut out[n..]);
         k = end;
     }
@@ -73,7 +74,8 @@ fn write_content(s: &[u8], i: usize, out: &mut [u8]) -> usize
 // The string whose opening quotation mark stands at `at`, in canonical form.
 pub fn write_string(s: &[u8], at: usize, out: &mut [u8]) -> usize
     requires { ⌜ Inside (now s) (at + 1) × (length (quoted (contentFrom (now s) (at + 1))) ≤ length (now out)) ⌝ }
-    ensures { λ r. ⌜ (r ≡ length (quoted (contentFrom (now (s .entry)) (at + 1)))) × Writes (now (out .entry)) (now (out .exit)) (quoted (contentFrom (now (s .entry)) (at + 1))) ⌝ }
+    ensures { λ r. ⌜ (r ≡ length (quoted (contentFrom (now (s .entry)) (at + 1))))
+        × Writes (now (out .entry)) (now (out .exit)) (quoted (contentFrom (now (s .entry)) (at + 1))) ⌝ }
 {
     out[0] = b'"';
     1 + write_content(s, at + 1, &mut out[1..])

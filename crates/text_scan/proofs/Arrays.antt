@@ -21,7 +21,8 @@ use Rattle.text_tokens.specs.declared.Summary.{Summary}
 use Rattle.text_tokens.specs.declared.Found.{Found}
 use Rattle.text_tokens.specs.declared.After.{After}
 use Rattle.text_tokens.specs.declared.Scanned.the-variants.{Value, Stuck}
-use Rattle.text_scan.proofs.Progress.{IsValue, scans-stuck, value-later, value-size, read-nothing, listed-empty, listed-items, item-stuck, item-ends, item-sticks, item-more}
+use Rattle.text_scan.proofs.Progress.{IsValue, scans-stuck, value-later, value-size, read-nothing, listed-empty, listed-items, item-stuck, item-ends}
+use Rattle.text_scan.proofs.Progress.{item-sticks, item-more}
 
 -- the faults, the length and the order of the elements so far, with the array's opening mark
 pub arraySum : List Syntax → Summary
@@ -35,7 +36,8 @@ arraySum ts =
     }
 
 -- a largest of faults, one element more at the end
-module _ (fault : Syntax → ℕ) (faults : Elements → ℕ) (none : faults no-elements ≡ 0) (one : (t : Syntax) (es : Elements) → faults (element t es) ≡ max (fault t) (faults es)) where
+module _ (fault : Syntax → ℕ) (faults : Elements → ℕ) (none : faults no-elements ≡ 0) (one : (t : Syntax) (es : Elements)
+    → faults (element t es) ≡ max (fault t) (faults es)) where
   faults-snoc : (ts : List Syntax) (t : Syntax) → faults (elements (ts ++ (t ∷ []))) ≡ max (faults (elements ts)) (fault t)
   unfolding elements
   faults-snoc [] t = omega (arith, one t no-elements, none)
@@ -143,10 +145,12 @@ pub record Progress (s : List ℕ) (at depth i : ℕ) (sum : Summary) : Type 0 w
   pub small : sum .size + at ≤ i + 1
 
 module _ (s : List ℕ) (at depth : ℕ) where
+  -- If only spaces stand before the closing bracket, the array ends after it and has a canonical form of two bytes.
   pub empty : (i : ℕ) → (at ≤ i) × At s i (spaces (drop at s)) → i < length s → getD s i 0 ≡ 0x5D → Scans s (readArray depth (drop at s)) (plainValue (i + 1) 2)
   unfolding readArray andThen elements ownKeys
   empty i p w e = rw (listed-empty (read depth) 0x5D s at i (p .1) w e) ((omega arith, refl), sym sum-empty, refl)
 
+  -- If no closing bracket stands after the first spaces, reading goes on there with no element done.
   pub start : (i : ℕ) → (at ≤ i) × At s i (spaces (drop at s)) → (i < length s → getD s i 0 ≡ 0x5D → ⊥)
       → Progress s at depth i (plainSummary 1)
   unfolding prependAll arraySum elements stringFaults numberFaults keyFaults contents orderedValues
@@ -166,37 +170,46 @@ module _ {s : List ℕ} {at depth i : ℕ} {sum : Summary} (p : Progress s at de
   unfolding readArray andThen
   stuck-element e q =
       let r = scans-stuck s (read depth (drop i s)) e q in
-      rw (item-stuck (read depth) 0x5D (read-shorter depth) (read-nothing depth) s i (p .done) (readListed (read depth) 0x5D (drop at s)) (p .reads) e (r .1)) (r .0, refl)
+      rw (item-stuck (read depth) 0x5D (read-shorter depth) (read-nothing depth) s i (p .done) (readListed (read depth) 0x5D (drop at s)) (p .reads) e (r .1))
+      (r .0, refl)
 
   module _ {f : Found} (q : IsValue s (read depth (drop i s)) f) where
+    -- An element that is read at position `i` ends after `i`.
     pub later : i < f .end
     later = value-later s depth i f (p .within) q
 
+    -- The canonical form so far with that of the element is no longer than the array's text up to the element's end.
     pub fits : sum .size + f .sum .size + at ≤ f .end + 1
     fits = omega (arith, value-size s depth i f (p .within) q, p .small)
 
     now-holds : plus sum (f .sum) ≡ arraySum (p .done ++ (q .tree ∷ []))
     now-holds = ap (λ (x : Summary). plus x (f .sum)) (p .holds) ∙ ap (plus (arraySum (p .done))) (q .sum) ∙ sum-snoc (p .done) (q .tree)
 
+    -- If the closing bracket follows the element, the array is read, and its summary is that of the elements done and this one.
     pub ends : (e : ℕ) → Follows s (f .end) 0x5D (After.End e)
         → Scans s (readArray depth (drop at s)) (Value (record { end = e; count = 0; sum = plus sum (f .sum) }))
     unfolding readArray andThen ownKeys
     ends e w =
-        rw (item-ends (read depth) 0x5D (read-shorter depth) (read-nothing depth) s i (p .done) (readListed (read depth) 0x5D (drop at s)) (p .reads) (q .tree) (f .end) (q .reads) e w)
+        rw (item-ends (read depth) 0x5D (read-shorter depth) (read-nothing depth) s i (p .done) (readListed (read depth) 0x5D (drop at s)) (p .reads)
+        (q .tree) (f .end) (q .reads) e w)
         ((w .1, refl), now-holds ∙ sum-array (p .done ++ (q .tree ∷ [])) (omega (arith, length-append (p .done) (q .tree ∷ []))), refl)
 
+    -- If neither a comma nor the closing bracket follows the element, reading the array is stuck there.
     pub sticks : (e : ℕ) → Follows s (f .end) 0x5D (After.Stuck e) → Scans s (readArray depth (drop at s)) (Stuck e)
     unfolding readArray andThen
     sticks e w =
-        rw (item-sticks (read depth) 0x5D (read-shorter depth) (read-nothing depth) s i (p .done) (readListed (read depth) 0x5D (drop at s)) (p .reads) (q .tree) (f .end) (q .reads) e w)
+        rw (item-sticks (read depth) 0x5D (read-shorter depth) (read-nothing depth) s i (p .done) (readListed (read depth) 0x5D (drop at s)) (p .reads)
+        (q .tree) (f .end) (q .reads) e w)
         (w .0 .0, refl)
 
+    -- If a comma follows the element, reading goes on at the next one with this element done.
     pub goes-on : (j : ℕ) → Follows s (f .end) 0x5D (After.More j) → Progress s at depth j (plus sum (f .sum))
     unfolding plus
     goes-on j w =
         record {
           done = p .done ++ (q .tree ∷ []);
-          reads = item-more (read depth) 0x5D (read-shorter depth) (read-nothing depth) s i (p .done) (readListed (read depth) 0x5D (drop at s)) (p .reads) (q .tree) (f .end) (q .reads) j w;
+          reads = item-more (read depth) 0x5D (read-shorter depth) (read-nothing depth) s i (p .done) (readListed (read depth) 0x5D (drop at s)) (p .reads)
+              (q .tree) (f .end) (q .reads) j w;
           holds = now-holds;
           from = omega (arith, p .from, later, w .0);
           within = w .1;

@@ -65,6 +65,7 @@ brace-first s at (suc d) l t r ms e f (Nested.is-array q p) = let z : _≡_ {A =
 brace-first s at (suc d) l t r ms e f (Nested.is-object {b} {s = m} q p) =
     (rw add-zero at (below-at s at (b ∷ m) e 0 (omega arith)), rw add-zero at (byte-at s at (b ∷ m) e 0) ∙ q)
 
+-- If no opening brace stands at a position, no object is read there, and any keys may be left.
 pub no-object : (s : List ℕ) (at depth : ℕ) (keys : List ℕ) (z : Scanned) → (at < length s → getD s at 0 ≡ 0x7B → ⊥)
     → LeavesKeys s (read depth (drop at s)) keys z
 no-object s at depth keys (Value f) n = λ ms r e.

@@ -40,7 +40,8 @@ use Rattle.text_tokens.specs.declared.Found.{Found}
 use Rattle.text_tokens.specs.declared.After.{After}
 use Rattle.text_tokens.specs.declared.Scanned.{Scanned}
 use Rattle.text_tokens.specs.declared.Scanned.the-variants.{Stuck}
-use Rattle.text_scan.proofs.Progress.{IsValue, scans-stuck, value-later, value-size, listed-empty, listed-items, item-stuck, item-ends, item-sticks, item-more}
+use Rattle.text_scan.proofs.Progress.{IsValue, scans-stuck, value-later, value-size, listed-empty, listed-items, item-stuck, item-ends, item-sticks}
+use Rattle.text_scan.proofs.Progress.{item-more}
 use Rattle.text_tokens.proofs.Tokens.{mark-at}
 use Rattle.text_scan.proofs.Keys.{keys-of, no-keys-left}
 
@@ -60,7 +61,8 @@ pub memberSum : Member → Summary
 memberSum m = memberSummary (mark (refusedString (m .key)) (m .place)) (stringSize (m .key)) (summary (m .value))
 
 -- a largest of faults, one member more at the end
-module _ (fault : Member → ℕ) (faults : Members → ℕ) (none : faults no-members ≡ 0) (one : (m : Member) (ms : List Member) → faults (members (m ∷ ms)) ≡ max (fault m) (faults (members ms))) where
+module _ (fault : Member → ℕ) (faults : Members → ℕ) (none : faults no-members ≡ 0) (one : (m : Member) (ms : List Member)
+    → faults (members (m ∷ ms)) ≡ max (fault m) (faults (members ms))) where
   faults-snoc : (ms : List Member) (m : Member) → faults (members (ms ++ (m ∷ []))) ≡ max (faults (members ms)) (fault m)
   unfolding members
   faults-snoc [] m = omega (arith, one m [], none)
@@ -68,7 +70,8 @@ module _ (fault : Member → ℕ) (faults : Members → ℕ) (none : faults no-m
       let ih = faults-snoc ms m in
       omega (arith, one n (ms ++ (m ∷ [])), one n ms)
 
-string-one : (m : Member) (ms : List Member) → keyStringFaults (members (m ∷ ms)) ≡ max (max (mark (refusedString (m .key)) (m .place)) (stringFault (m .value))) (keyStringFaults (members ms))
+string-one : (m : Member) (ms : List Member) → keyStringFaults (members (m ∷ ms))
+    ≡ max (max (mark (refusedString (m .key)) (m .place)) (stringFault (m .value))) (keyStringFaults (members ms))
 unfolding keyStringFaults members
 string-one m ms = refl
 
@@ -123,7 +126,8 @@ sum-snoc : (ms : List Member) (m : Member) → plus (objectSum ms) (memberSum m)
 unfolding objectSum memberSum memberSummary plus summary
 sum-snoc ms m = λ i. record { string = sym strings i; number = sym numbers i; key = sym keys i; size = sizes i; ordered = sym (ordered-snoc ms m) i }
   where
-    strings : keyStringFaults (members (ms ++ (m ∷ []))) ≡ max (keyStringFaults (members ms)) (max (mark (refusedString (m .key)) (m .place)) (stringFault (m .value)))
+    strings : keyStringFaults (members (ms ++ (m ∷ []))) ≡ max (keyStringFaults (members ms))
+        (max (mark (refusedString (m .key)) (m .place)) (stringFault (m .value)))
     strings = faults-snoc (λ n. max (mark (refusedString (n .key)) (n .place)) (stringFault (n .value))) keyStringFaults string-none string-one ms m
 
     numbers : memberNumberFaults (members (ms ++ (m ∷ []))) ≡ max (memberNumberFaults (members ms)) (numberFault (m .value))
@@ -132,7 +136,8 @@ sum-snoc ms m = λ i. record { string = sym strings i; number = sym numbers i; k
     keys : memberKeyFaults (members (ms ++ (m ∷ []))) ≡ max (memberKeyFaults (members ms)) (keyFault (m .value))
     keys = faults-snoc (λ n. keyFault (n .value)) memberKeyFaults key-none key-one ms m
 
-    sizes : 1 + sizeOfMembers (members ms) + (stringSize (m .key) + length (canonical (content (m .value))) + 1) + 1 ≡ 1 + sizeOfMembers (members (ms ++ (m ∷ [])))
+    sizes : 1 + sizeOfMembers (members ms) + (stringSize (m .key) + length (canonical (content (m .value))) + 1) + 1
+        ≡ 1 + sizeOfMembers (members (ms ++ (m ∷ [])))
     sizes = omega (arith, size-members-append ms (m ∷ []), size-canonical (m .value), one-size m)
 
 -- the whole object's summary, with the first key that is equal to an earlier one, and the order of its own keys
@@ -156,7 +161,14 @@ sum-object s ms ks p h = λ i.
 
 sum-empty : summary (object no-members) ≡ plainSummary 2
 unfolding summary stringFault numberFault keyFault repeated content ordered keysOrdered
-sum-empty = λ i. record { string = 0; number = 0; key = 0; size = (sym (size-canonical (object no-members)) ∙ size-object no-members ∙ ap enclosed no-size ∙ size-empty) i; ordered = true }
+sum-empty = λ i. record {
+  string = 0;
+  number = 0;
+  key = 0;
+  size = (sym (size-canonical (object no-members)) ∙ size-object no-members ∙ ap enclosed no-size
+      ∙ size-empty) i;
+  ordered = true;
+}
 
 -- a member is read as its key with the colon, and its value
 pair-by-key : (value : List ℕ → Read Syntax) (s : List ℕ)
@@ -166,13 +178,16 @@ pair-by-key value s = by-string (readString s)
   where
     by-word : (cs : List Char) (y : Read (Unit {0}))
         → andThen y (λ _ s₂. andThen {B = Member} (value (spaces s₂)) (λ t r. found (record { place = s; key = cs; value = t }) r))
-        ≡ andThen (andThen y (λ _ s₂. found cs (spaces s₂))) (λ ds q. andThen {B = Member} (value q) (λ t r. found (record { place = s; key = ds; value = t }) r))
+        ≡ andThen (andThen y (λ _ s₂. found cs (spaces s₂))) (λ ds q. andThen {B = Member} (value q)
+        (λ t r. found (record { place = s; key = ds; value = t }) r))
     by-word cs (found u r) = refl
     by-word cs (stuck r) = refl
 
     by-string : (x : Read (List Char))
-        → andThen x (λ cs s₁. andThen (readWord (0x3A ∷ []) (spaces s₁)) (λ _ s₂. andThen {B = Member} (value (spaces s₂)) (λ t r. found (record { place = s; key = cs; value = t }) r)))
-        ≡ andThen (andThen x (λ cs s₁. andThen (readWord (0x3A ∷ []) (spaces s₁)) (λ _ s₂. found cs (spaces s₂)))) (λ ds q. andThen {B = Member} (value q) (λ t r. found (record { place = s; key = ds; value = t }) r))
+        → andThen x (λ cs s₁. andThen (readWord (0x3A ∷ []) (spaces s₁))
+        (λ _ s₂. andThen {B = Member} (value (spaces s₂)) (λ t r. found (record { place = s; key = cs; value = t }) r)))
+        ≡ andThen (andThen x (λ cs s₁. andThen (readWord (0x3A ∷ []) (spaces s₁)) (λ _ s₂. found cs (spaces s₂))))
+        (λ ds q. andThen {B = Member} (value q) (λ t r. found (record { place = s; key = ds; value = t }) r))
     by-string (found cs r) = by-word cs (readWord (0x3A ∷ []) (spaces r))
     by-string (stuck r) = refl
 
@@ -193,19 +208,31 @@ pub record IsName (s : List ℕ) (i v fault size : ℕ) : Type 0 where
   pub later : i + 2 < v
   pub short : i + size < v
 
+-- A key that is scanned at position `i` is read there, with its end, its fault and the length of its canonical form.
 pub token-name : (s : List ℕ) (i e n k : ℕ) (f : Bool) → KeyWithin i (Token e f n) → TokenScans refusedString stringSize s (readKey (drop i s)) (Token e f n)
     → k ≡ cond f (length s - i) 0 → IsName s i e k n
 token-name s i e n k f w p m = go (readKey (drop i s)) refl p
   where
     go : (x : Read (List Char)) → readKey (drop i s) ≡ x → TokenScans refusedString stringSize s x (Token e f n) → IsName s i e k n
     go (found cs r) q z =
-        record { chars = cs; reads = q ∙ ap (found cs) (z .0 .1); faulty = m ∙ sym (mark-at f s i) ∙ ap (λ (b : Bool). mark b (drop i s)) (z .1); sized = z .2; within = z .0 .0; later = w .0; short = w .1 }
+        record {
+          chars = cs;
+          reads = q ∙ ap (found cs) (z .0 .1);
+          faulty = m ∙ sym (mark-at f s i) ∙ ap (λ (b : Bool). mark b (drop i s)) (z .1);
+          sized = z .2;
+          within = z .0 .0;
+          later = w .0;
+          short = w .1;
+        }
     go (stuck r) q z = absurd z
 
-pub none-stuck : (s : List ℕ) (i e : ℕ) → TokenScans refusedString stringSize s (readKey (drop i s)) (NoToken e) → (e ≤ length s) × (readKey (drop i s) ≡ stuck (drop e s))
+-- If no key is scanned at position `i`, reading a key there is stuck at the position that is told, within the text.
+pub none-stuck : (s : List ℕ) (i e : ℕ) → TokenScans refusedString stringSize s (readKey (drop i s)) (NoToken e)
+    → (e ≤ length s) × (readKey (drop i s) ≡ stuck (drop e s))
 none-stuck s i e p = go (readKey (drop i s)) refl p
   where
-    go : (x : Read (List Char)) → readKey (drop i s) ≡ x → TokenScans refusedString stringSize s x (NoToken e) → (e ≤ length s) × (readKey (drop i s) ≡ stuck (drop e s))
+    go : (x : Read (List Char)) → readKey (drop i s) ≡ x → TokenScans refusedString stringSize s x (NoToken e)
+        → (e ≤ length s) × (readKey (drop i s) ≡ stuck (drop e s))
     go (found cs r) q z = absurd z
     go (stuck r) q z = (z .0, q ∙ ap stuck (z .1))
 
@@ -225,7 +252,8 @@ name-inside s i v fault size p = go (readString (drop i s)) refl (p .reads)
     word (stuck r) cs e = let z : _≡_ {A = ℕ} 0 1 = cc in absurd (omega arith)
 
     go : (x : Read (List Char)) → readString (drop i s) ≡ x
-        → andThen x (λ cs s₁. andThen (readWord (0x3A ∷ []) (spaces s₁)) (λ _ s₂. found cs (spaces s₂))) ≡ found (p .chars) (drop v s) → InString s (i + 1) (unescape (p .chars))
+        → andThen x (λ cs s₁. andThen (readWord (0x3A ∷ []) (spaces s₁)) (λ _ s₂. found cs (spaces s₂))) ≡ found (p .chars) (drop v s)
+        → InString s (i + 1) (unescape (p .chars))
     go (found cs r) q e = subst (λ (ds : List Char). InString s (i + 1) (unescape ds)) (word (readWord (0x3A ∷ []) (spaces r)) cs e) (string-inside s i cs r q)
     go (stuck r) q e = let z : _≡_ {A = ℕ} 0 1 = cc in absurd (omega arith)
 
@@ -240,23 +268,30 @@ pub record Progress (s : List ℕ) (at depth i : ℕ) (ks : List ℕ) (sum : Sum
   pub within : i ≤ length s
   pub small : sum .size + at ≤ i + 1
 
-places-snoc : (s : List ℕ) {ms : List Member} {ks : List ℕ} (m : Member) (k : ℕ) → Places s ms ks → m .place ≡ drop k s → unescape (m .key) ≡ contentFrom s (k + 1)
+places-snoc : (s : List ℕ) {ms : List Member} {ks : List ℕ} (m : Member) (k : ℕ) → Places s ms ks → m .place ≡ drop k s
+    → unescape (m .key) ≡ contentFrom s (k + 1)
     → Places s (ms ++ (m ∷ [])) (ks ++ (k ∷ []))
 places-snoc s m k no-places e f = place-at e f no-places
 places-snoc s m k (place-at a b p) e f = place-at a b (places-snoc s m k p e f)
 
 module _ (s : List ℕ) (at depth : ℕ) where
-  nothing : (i : ℕ) → (at ≤ i) × At s i (spaces (drop at s)) → i < length s → getD s i 0 ≡ 0x7D → readObject depth (drop at s) ≡ found (object (members [])) (drop (i + 1) s)
+  nothing : (i : ℕ) → (at ≤ i) × At s i (spaces (drop at s)) → i < length s → getD s i 0 ≡ 0x7D
+      → readObject depth (drop at s) ≡ found (object (members [])) (drop (i + 1) s)
   unfolding readObject andThen
   nothing i p w e = rw (listed-empty (readPair (read depth)) 0x7D s at i (p .1) w e)
 
-  pub empty : (i : ℕ) → (at ≤ i) × At s i (spaces (drop at s)) → i < length s → getD s i 0 ≡ 0x7D → Scans s (readObject depth (drop at s)) (plainValue (i + 1) 2)
+  -- If only spaces stand before the closing brace, the object ends after it and has a canonical form of two bytes.
+  pub empty : (i : ℕ) → (at ≤ i) × At s i (spaces (drop at s)) → i < length s → getD s i 0 ≡ 0x7D
+      → Scans s (readObject depth (drop at s)) (plainValue (i + 1) 2)
   unfolding members ownKeys memberCount
   empty i p w e = rw (nothing i p w e) ((omega arith, refl), sym sum-empty, refl)
 
-  pub empty-keys : (i : ℕ) → (at ≤ i) × At s i (spaces (drop at s)) → i < length s → getD s i 0 ≡ 0x7D → (keys : List ℕ) → KeysOf s (readObject depth (drop at s)) 0 keys
+  -- If only spaces stand before the closing brace, the object leaves 0 keys, whatever the array of keys holds.
+  pub empty-keys : (i : ℕ) → (at ≤ i) × At s i (spaces (drop at s)) → i < length s → getD s i 0 ≡ 0x7D → (keys : List ℕ)
+      → KeysOf s (readObject depth (drop at s)) 0 keys
   empty-keys i p w e keys = keys-of s (readObject depth (drop at s)) [] (drop (i + 1) s) 0 keys (nothing i p w e) (no-keys-left s keys)
 
+  -- If no closing brace stands after the first spaces, reading goes on there with no member done.
   pub start : (i : ℕ) → (at ≤ i) × At s i (spaces (drop at s)) → (i < length s → getD s i 0 ≡ 0x7D → ⊥)
       → Progress s at depth i [] (plainSummary 1)
   unfolding prependAll objectSum members keyStringFaults memberNumberFaults memberKeyFaults fields orderedFields
@@ -277,31 +312,37 @@ module _ {s : List ℕ} {at depth i : ℕ} {ks : List ℕ} {sum : Summary} (p : 
   stuck-pair : (e : ℕ) → e ≤ length s → readPair (read depth) (drop i s) ≡ stuck (drop e s) → Scans s (readObject depth (drop at s)) (Stuck e)
   unfolding readObject andThen
   stuck-pair e w q =
-      rw (item-stuck (readPair (read depth)) 0x7D (pair-shorter depth) (pair-nothing depth) s i (p .done) (readListed (readPair (read depth)) 0x7D (drop at s)) (p .reads) e q) (w, refl)
+      rw (item-stuck (readPair (read depth)) 0x7D (pair-shorter depth) (pair-nothing depth) s i (p .done)
+      (readListed (readPair (read depth)) 0x7D (drop at s)) (p .reads) e q) (w, refl)
 
+  -- If reading a key at position `i` is stuck, reading the object is stuck at the same position.
   pub stuck-key : (e : ℕ) → TokenScans refusedString stringSize s (readKey (drop i s)) (NoToken e) → Scans s (readObject depth (drop at s)) (Stuck e)
   unfolding andThen
   stuck-key e q = let r = none-stuck s i e q in stuck-pair e (r .0) (pair-by-key (read depth) (drop i s) ∙ rw (r .1))
 
   module _ {v fault size : ℕ} (q : IsName s i v fault size) where
+    -- If reading the member's value is stuck, reading the object is stuck at the same position.
     pub stuck-value : (e : ℕ) → Scans s (read depth (drop v s)) (Stuck e) → Scans s (readObject depth (drop at s)) (Stuck e)
     unfolding andThen
     stuck-value e z =
         let r = scans-stuck s (read depth (drop v s)) e z in
         stuck-pair e (r .0) (pair-by-key (read depth) (drop i s) ∙ rw (q .reads) (rw (r .1)))
 
+    -- The position after the opening quotation mark of the key stands in a string.
     pub inside : Inside s (i + 1)
     inside = record { bytes = unescape (q .chars); here = name-inside s i v fault size q }
 
+    -- The positions of the keys so far and of this one are all places of keys.
     pub keys-now : KeysAt s (ks ++ (i ∷ []))
     keys-now = keys-append (p .keys) (key-at inside no-keys)
 
     -- there is a place for the key, and enough of them after it for the value's
-    pub key-room : (l : ℕ) → length s < at + 4 * l → length ks < l
-    key-room l h = omega (arith, p .from, q .later, q .within)
+    pub key-space : (l : ℕ) → length s < at + 4 * l → length ks < l
+    key-space l h = omega (arith, p .from, q .later, q .within)
 
-    pub value-room : (l : ℕ) → length s < at + 4 * l → length s ≤ v + 4 * (l - (length ks + 1))
-    value-room l h = omega (arith, p .from, q .later, key-room l h)
+    -- Past the places of the keys so far and of this one, there are enough for the keys of the member's value.
+    pub value-space : (l : ℕ) → length s < at + 4 * l → length s ≤ v + 4 * (l - (length ks + 1))
+    value-space l h = omega (arith, p .from, q .later, key-space l h)
 
     module _ {f : Found} (z : IsValue s (read depth (drop v s)) f) where
       tree : Member
@@ -311,9 +352,11 @@ module _ {s : List ℕ} {at depth i : ℕ} {ks : List ℕ} {sum : Summary} (p : 
       unfolding andThen tree
       pair-reads = pair-by-key (read depth) (drop i s) ∙ rw (q .reads) (rw (z .reads))
 
+      -- The member's value ends after the position at which it begins.
       pub later : v < f .end
       later = value-later s depth v f (q .within) z
 
+      -- The canonical form so far with that of the member is no longer than the object's text up to the member's end.
       pub fits : sum .size + size + f .sum .size + 1 + at ≤ f .end + 1
       fits = omega (arith, value-size s depth v f (q .within) z, p .small, q .short)
 
@@ -330,11 +373,14 @@ module _ {s : List ℕ} {at depth i : ℕ} {ks : List ℕ} {sum : Summary} (p : 
       unfolding tree
       now-places = places-snoc s tree i (p .places) refl (sym (content-from s (i + 1) (unescape (q .chars)) (name-inside s i v fault size q)))
 
-      whole-reads : (e : ℕ) → Follows s (f .end) 0x7D (After.End e) → readObject depth (drop at s) ≡ found (object (members (p .done ++ (tree ∷ [])))) (drop e s)
+      whole-reads : (e : ℕ) → Follows s (f .end) 0x7D (After.End e)
+          → readObject depth (drop at s) ≡ found (object (members (p .done ++ (tree ∷ [])))) (drop e s)
       unfolding readObject andThen
       whole-reads e w =
-          rw (item-ends (readPair (read depth)) 0x7D (pair-shorter depth) (pair-nothing depth) s i (p .done) (readListed (readPair (read depth)) 0x7D (drop at s)) (p .reads) tree (f .end) pair-reads e w)
+          rw (item-ends (readPair (read depth)) 0x7D (pair-shorter depth) (pair-nothing depth) s i (p .done)
+          (readListed (readPair (read depth)) 0x7D (drop at s)) (p .reads) tree (f .end) pair-reads e w)
 
+      -- If the closing brace follows the member, the object is read, and its summary is that of the members done and this one.
       pub ends : (e : ℕ) → Follows s (f .end) 0x7D (After.End e)
           → Scans s (readObject depth (drop at s)) (closedValue s e (plus sum (memberSummary fault size (f .sum))) (ks ++ (i ∷ [])))
       ends e w = rw (whole-reads e w) ((w .1, refl), closing, own-places s now-places)
@@ -351,18 +397,22 @@ module _ {s : List ℕ} {at depth i : ℕ} {ks : List ℕ} {sum : Summary} (p : 
           keys-of s (readObject depth (drop at s)) (p .done ++ (tree ∷ [])) (drop e s) n keys (whole-reads e w)
           (record { places = ks ++ (i ∷ []); here = now-places; within = h; sorted = k })
 
+      -- If neither a comma nor the closing brace follows the member, reading the object is stuck there.
       pub sticks : (e : ℕ) → Follows s (f .end) 0x7D (After.Stuck e) → Scans s (readObject depth (drop at s)) (Stuck e)
       unfolding readObject andThen
       sticks e w =
-          rw (item-sticks (readPair (read depth)) 0x7D (pair-shorter depth) (pair-nothing depth) s i (p .done) (readListed (readPair (read depth)) 0x7D (drop at s)) (p .reads) tree (f .end) pair-reads e w)
+          rw (item-sticks (readPair (read depth)) 0x7D (pair-shorter depth) (pair-nothing depth) s i (p .done)
+          (readListed (readPair (read depth)) 0x7D (drop at s)) (p .reads) tree (f .end) pair-reads e w)
           (w .0 .0, refl)
 
+      -- If a comma follows the member, reading goes on at the next one with this member done.
       pub goes-on : (j : ℕ) → Follows s (f .end) 0x7D (After.More j) → Progress s at depth j (ks ++ (i ∷ [])) (plus sum (memberSummary fault size (f .sum)))
       unfolding plus memberSummary
       goes-on j w =
           record {
             done = p .done ++ (tree ∷ []);
-            reads = item-more (readPair (read depth)) 0x7D (pair-shorter depth) (pair-nothing depth) s i (p .done) (readListed (readPair (read depth)) 0x7D (drop at s)) (p .reads) tree (f .end) pair-reads j w;
+            reads = item-more (readPair (read depth)) 0x7D (pair-shorter depth) (pair-nothing depth) s i (p .done)
+                (readListed (readPair (read depth)) 0x7D (drop at s)) (p .reads) tree (f .end) pair-reads j w;
             holds = now-holds;
             places = now-places;
             keys = keys-now;
@@ -377,17 +427,21 @@ withKey keys n i part = putMid (n + 1) (length (set keys n i) - (n + 1)) (set ke
 
 module _ (keys : List ℕ) (n i : ℕ) (h : n < length keys) (part : List ℕ)
     (kept : length part ≡ length (midOf (n + 1) (length (set keys n i) - (n + 1)) (set keys n i))) where
+  -- An array of keys in which a key is stored and to which the lent part comes back is as long as before.
   pub stored-length : length (withKey keys n i part) ≡ length keys
   stored-length = same-len-mid (n + 1) (length (set keys n i) - (n + 1)) (set keys n i) part kept ∙ length-set keys n i
 
+  -- The first keys of such an array are those from before and the stored one.
   pub stored-keys : take (n + 1) (withKey keys n i part) ≡ take n keys ++ (i ∷ [])
   stored-keys =
       take-put (n + 1) (length (set keys n i) - (n + 1)) (set keys n i) part (simp length-set (omega arith))
       ∙ ap (λ (m : ℕ). take m (set keys n i)) (add-one n) ∙ take-suc-set keys n i h
 
+-- The part of an array of keys past a stored key is as long as the array less the keys up to that one.
 pub lent-length : (keys : List ℕ) (n i : ℕ) → n < length keys → length (midOf (n + 1) (length (set keys n i) - (n + 1)) (set keys n i)) ≡ length keys - (n + 1)
 lent-length keys n i h = mid-len (n + 1) (length (set keys n i)) (set keys n i) (omega arith) ∙ ap (λ (m : ℕ). m - (n + 1)) (length-set keys n i)
 
+-- The size of a member is that of its key and that of its value, and 1 for the colon.
 pub member-size : (fault size : ℕ) (v x : Summary) → x ≡ memberSummary fault size v → x .size ≡ size + v .size + 1
 unfolding memberSummary
 member-size fault size v x e = ap (λ (y : Summary). y .size) e

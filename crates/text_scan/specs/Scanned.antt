@@ -35,8 +35,8 @@ readArray depth s = andThen (readListed (read depth) 0x5D s) (λ ts r. found (ar
 unfoldable pub readObject : ℕ → List ℕ → Read Syntax
 readObject depth s = andThen (readListed (readPair (read depth)) 0x7D s) (λ ms r. found (object (members ms)) r)
 
--- There is room for the keys of every object from `at` on: a member has four bytes at least before its value.
-pub record Room (s : List ℕ) (at : ℕ) (keys spare : List ℕ) : Type 0 where
+-- There is space for the keys of every object from `at` on: a member has four bytes at least before its value.
+pub record ScanSpace (s : List ℕ) (at : ℕ) (keys spare : List ℕ) : Type 0 where
   pub within : at ≤ length s
   pub short : length s ≤ 16384
   pub enough : length s ≤ at + 4 * length keys

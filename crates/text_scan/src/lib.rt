@@ -1,5 +1,6 @@
 // Reads a whole JSON text in one pass: is it one, which strings, numbers and keys are faulty, how long is its canonical form,
 // and are the keys of its objects in rising order.
+use text_json::MOST_NESTING;
 use text_tokens::After;
 use text_tokens::Found;
 use text_tokens::Name;
@@ -18,11 +19,11 @@ ghost use Prim.Native.Nat.{_+_, _*_, _<_};
 ghost use lib.ListN.{length, drop};
 ghost use Rattle.text_json.specs.Read.{read, readText};
 ghost use Rattle.text_tokens.specs.Scanned.{Scans};
-ghost use Rattle.text_scan.specs.Scanned.{Room, LeavesKeys, readArray, readObject};
+ghost use Rattle.text_scan.specs.Scanned.{ScanSpace, LeavesKeys, readArray, readObject};
 
 // A value with arrays and objects nested at most `depth` deep. The keys of its objects are kept in `keys` while they are read.
 fn value(s: &[u8], at: usize, depth: usize, keys: &mut [u16], spare: &mut [u16]) -> Scanned
-    requires { ⌜ Room (now s) at (now keys) (now spare) ⌝ }
+    requires { ⌜ ScanSpace (now s) at (now keys) (now spare) ⌝ }
     ensures { λ r. ⌜ Scans (now (s .entry)) (read depth (drop at (now (s .entry)))) r ⌝ }
 {
     if at < s.len() {
@@ -41,7 +42,7 @@ fn value(s: &[u8], at: usize, depth: usize, keys: &mut [u16], spare: &mut [u16])
 
 // What follows the opening mark of an array.
 fn array(s: &[u8], at: usize, depth: usize, keys: &mut [u16], spare: &mut [u16]) -> Scanned
-    requires { ⌜ Room (now s) at (now keys) (now spare) ⌝ }
+    requires { ⌜ ScanSpace (now s) at (now keys) (now spare) ⌝ }
     ensures { λ r. ⌜ Scans (now (s .entry)) (readArray depth (drop at (now (s .entry)))) r ⌝ }
 {
     let mut i = text_json::space::skip_spaces(s, at);
@@ -75,7 +76,7 @@ fn array(s: &[u8], at: usize, depth: usize, keys: &mut [u16], spare: &mut [u16])
 // What follows the opening mark of an object. A member's key is kept as its position, in the part of `keys` before the one that is
 // lent to the reading of its value. At the object's end its keys are left sorted.
 fn object(s: &[u8], at: usize, depth: usize, keys: &mut [u16], spare: &mut [u16]) -> Scanned
-    requires { ⌜ Room (now s) at (now keys) (now spare) ⌝ }
+    requires { ⌜ ScanSpace (now s) at (now keys) (now spare) ⌝ }
     requires { ⌜ length (now s) < at + 4 * length (now keys) ⌝ }
     ensures { λ r. ⌜ Scans (now (s .entry)) (readObject depth (drop at (now (s .entry)))) r ⌝ }
     ensures { λ r. ⌜ LeavesKeys (now (s .entry)) (readObject depth (drop at (now (s .entry)))) (now (keys .exit)) r ⌝ }
@@ -118,20 +119,20 @@ fn object(s: &[u8], at: usize, depth: usize, keys: &mut [u16], spare: &mut [u16]
 
 // The value of a whole text. An object is read here, not by `value`, which says nothing of the keys that it leaves.
 fn root(s: &[u8], at: usize, keys: &mut [u16], spare: &mut [u16]) -> Scanned
-    requires { ⌜ Room (now s) at (now keys) (now spare) ⌝ }
+    requires { ⌜ ScanSpace (now s) at (now keys) (now spare) ⌝ }
     ensures { λ r. ⌜ Scans (now (s .entry)) (read 8 (drop at (now (s .entry)))) r ⌝ }
     ensures { λ r. ⌜ LeavesKeys (now (s .entry)) (read 8 (drop at (now (s .entry)))) (now (keys .exit)) r ⌝ }
 {
     if stands(s, at, b'{') {
         return object(s, at + 1, 7, keys, spare);
     }
-    value(s, at, 8, keys, spare)
+    value(s, at, MOST_NESTING, keys, spare)
 }
 
 // A whole text of at most 16,384 bytes: spaces, a value nested at most 8 deep, and spaces. `keys` and `spare` hold the keys of its
 // objects while they are read. Where the value is an object, its own keys are left at the start of `keys`, sorted.
 pub fn text(s: &[u8], keys: &mut [u16], spare: &mut [u16]) -> Scanned
-    requires { ⌜ Room (now s) 0 (now keys) (now spare) ⌝ }
+    requires { ⌜ ScanSpace (now s) 0 (now keys) (now spare) ⌝ }
     ensures { λ r. ⌜ Scans (now (s .entry)) (readText 8 (now (s .entry))) r ⌝ }
     ensures { λ r. ⌜ LeavesKeys (now (s .entry)) (readText 8 (now (s .entry))) (now (keys .exit)) r ⌝ }
 {

@@ -13,7 +13,7 @@ use Rattle.text_utf8.specs.Scalar.{encode}
 use Rattle.text_json.specs.Bytes.{isUnescaped}
 use Rattle.text_json.specs.Syntax.{byte}
 use Rattle.text_json.specs.Content.{unescape}
-use Rattle.text_strings.specs.InString.{InString, EscapeAt, Escapes, Inside}
+use Rattle.text_strings.specs.InString.{InString, Escapes, Inside}
 use Rattle.text_strings.specs.Cursor.{heldBytes, Left, Given, Gives, Encodes, weight}
 use Rattle.text_strings.specs.declared.Cursor.{Cursor}
 use Rattle.text_strings.specs.declared.Next.{Next}
@@ -24,7 +24,8 @@ use Rattle.text_strings.proofs.Escapes.{char-within}
 part-cons : (l : List ℕ) (i n : ℕ) → i < n → n ≤ length l → drop i (take n l) ≡ getD l i 0 ∷ drop (i + 1) (take n l)
 part-cons l i n h k =
     let m : i < length (take n l) = rw (length-take-le n l k) h in
-    drop-cons (take n l) i 0 m ∙ ap (λ (b : ℕ). b ∷ drop (suc i) (take n l)) (getD-take n l i 0 h) ∙ ap (λ (j : ℕ). getD l i 0 ∷ drop j (take n l)) (sym (add-one i))
+    drop-cons (take n l) i 0 m ∙ ap (λ (b : ℕ). b ∷ drop (suc i) (take n l)) (getD-take n l i 0 h)
+    ∙ ap (λ (j : ℕ). getD l i 0 ∷ drop j (take n l)) (sym (add-one i))
 
 part-empty : (l : List ℕ) (i n : ℕ) → n ≤ i → n ≤ length l → drop i (take n l) ≡ []
 part-empty l i n h k = drop-of-length-le (take n l) {i = i} (rw (length-take-le n l k) h)
@@ -70,24 +71,32 @@ module _ (s : List ℕ) (k : Cursor) where
     pub left-inside : (c : List ℕ) → Left s k c → InString s (k .at) c
     left-inside c l = subst (InString s (k .at)) (sym (l .content ∙ none-held (l .tail) (l .there))) (l .inside)
 
+    -- With nothing held, the cursor's position is below the text's length.
     pub byte-within : (c : List ℕ) → Left s k c → k .at < length s
     byte-within c l = let i = l .inside in char-within s (k .at) (i .chars) (i .rest) (view s (k .at) (i .chars) (i .rest) (i .reads))
 
+    -- With nothing held and a quotation mark at the cursor's position, no content is left.
     pub gives-end : (c : List ℕ) → Left s k c → getD s (k .at) 0 ≡ 0x22 → c ≡ []
     gives-end c l q = let i = left-inside c l in closes s (k .at) c i q
 
-    pub escape-here : (c : List ℕ) → Left s k c → getD s (k .at) 0 ≡ 0x5C → EscapeAt s (k .at)
-    escape-here c l q = record { left = l .tail; inside = l .inside; backslash = q }
-
+    -- At an escape, the first byte of its character is given, with the character's other bytes held.
     pub gives-escape : (c : List ℕ) (next scalar : ℕ) (x : Next) → Left s k c → Escapes s (k .at) next scalar → Encodes next scalar x → Gives s c x
     gives-escape c next scalar x l e q =
         let r = e .stands c (left-inside c l) in
         subst (λ (f : Bool). Given s c f (x .byte) (x .rest)) (sym (q .found)) (
           heldBytes (x .rest) ++ r .0,
           r .1 ∙ ap (λ (m : List ℕ). m ++ r .0) (sym (q .bytes)),
-          record { order = subst (λ (n : ℕ). n ≤ x .rest .count) (sym (q .one)) (q .some); few = q .few; there = q .there; tail = r .0; inside = subst (λ (n : ℕ). InString s n (r .0)) (sym (q .next)) (r .2); content = refl },
+          record {
+            order = subst (λ (n : ℕ). n ≤ x .rest .count) (sym (q .one)) (q .some);
+            few = q .few;
+            there = q .there;
+            tail = r .0;
+            inside = subst (λ (n : ℕ). InString s n (r .0)) (sym (q .next)) (r .2);
+            content = refl;
+          },
         )
 
+    -- A byte that is no quotation mark and no backslash is given as itself, with the cursor at the next position.
     pub gives-plain : (c : List ℕ) → Left s k c → (getD s (k .at) 0 ≡ 0x22 → ⊥) → (getD s (k .at) 0 ≡ 0x5C → ⊥)
         → Given s c true (getD s (k .at) 0) (record { at = k .at + 1; held = k .held; from = k .from; count = k .count })
     gives-plain c l a b =
@@ -97,7 +106,8 @@ module _ (s : List ℕ) (k : Cursor) where
 -- the encoding of a scalar value has one to four bytes
 encode-length : (c : ℕ) → (1 ≤ length (encode c)) × (length (encode c) ≤ 4)
 unfolding encode
-encode-length c = by-test (ltb c 0x80) (λ e. rw e (omega arith)) (λ e. rw e (by-test (ltb c 0x800) (λ f. rw f (omega arith)) (λ f. rw f (by-test (ltb c 0x10000) (λ g. rw g (omega arith)) (λ g. rw g (omega arith))))))
+encode-length c = by-test (ltb c 0x80) (λ e. rw e (omega arith))
+    (λ e. rw e (by-test (ltb c 0x800) (λ f. rw f (omega arith)) (λ f. rw f (by-test (ltb c 0x10000) (λ g. rw g (omega arith)) (λ g. rw g (omega arith))))))
 
 -- an encoding that is held from its second byte on
 pub encodes : (at scalar n : ℕ) (l : List ℕ) → n ≡ length (encode scalar) → take n l ≡ encode scalar
@@ -123,13 +133,21 @@ escape-lighter s k next scalar x e q =
 pub given-end : (s c : List ℕ) (n : Next) → n .found ≡ false → Gives s c n → c ≡ []
 given-end s c n e g = subst (λ (f : Bool). Given s c f (n .byte) (n .rest)) e g
 
+-- Where a byte is given, it is the first of the content, and the rest of the content lies before the new cursor.
 pub given-byte : (s c : List ℕ) (n : Next) → n .found ≡ true → Gives s c n → (d : List ℕ) × (c ≡ n .byte ∷ d) × Left s (n .rest) d
 given-byte s c n e g = subst (λ (f : Bool). Given s c f (n .byte) (n .rest)) e g
 
 -- a new cursor has the string's content before it
 pub new-left : (s : List ℕ) (i : ℕ) (k : Cursor) (c : List ℕ) → (k .at ≡ i) × (k .from ≡ 0) × (k .count ≡ 0) → InString s i c → Left s k c
 new-left s i k c e p =
-    record { order = omega (arith, e .1, e .2); few = omega (arith, e .2); there = omega (arith, e .2); tail = c; inside = subst (λ (n : ℕ). InString s n c) (sym (e .0)) p; content = sym nothing }
+    record {
+      order = omega (arith, e .1, e .2);
+      few = omega (arith, e .2);
+      there = omega (arith, e .2);
+      tail = c;
+      inside = subst (λ (n : ℕ). InString s n c) (sym (e .0)) p;
+      content = sym nothing;
+    }
   where
     nothing : drop (k .from) (take (k .count) (k .held)) ++ c ≡ c
     nothing = ap (λ (n : ℕ). drop (k .from) (take n (k .held)) ++ c) (e .2) ∙ ap (λ (l : List ℕ). l ++ c) (drop-nil (k .from))
@@ -138,5 +156,6 @@ new-left s i k c e p =
 pub inside-within : (s : List ℕ) (i : ℕ) → Inside s i → i < length s
 inside-within s i p = let h = p .here in char-within s i (h .chars) (h .rest) (view s i (h .chars) (h .rest) (h .reads))
 
+-- After a byte that is no quotation mark and no backslash, the next position is inside the string too.
 pub inside-next : (s : List ℕ) (i : ℕ) → Inside s i → (getD s i 0 ≡ 0x22 → ⊥) → (getD s i 0 ≡ 0x5C → ⊥) → Inside s (i + 1)
 inside-next s i p a b = let r = plain s i (p .bytes) (p .here) a b in record { bytes = r .0; here = r .2 }

@@ -35,6 +35,7 @@ escape-of s i cs r b (at-short ds l g h q d) = two ds l h q d
 escape-of s i cs r b (at-hex ds l g h ha hb hc hd q d) =
     six ds h (record { within = omega arith; first = ha; second = rw add-assoc hb; third = rw add-assoc hc; fourth = rw add-assoc hd }) q d
 
+-- At a backslash in a string stands an escape of two bytes or a \u escape of six.
 pub at-escape : (s : List ℕ) (i : ℕ) (cs : List Char) (r : List ℕ) → getD s i 0 ≡ 0x5C → Chars (drop i s) cs r → AtEscape s i cs r
 at-escape s i cs r b d = escape-of s i cs r b (view s i cs r d)
 
@@ -42,11 +43,15 @@ at-escape s i cs r b d = escape-of s i cs r b (view s i cs r d)
 one-of : (P : ℕ → Type 0) (b k : ℕ) → P k → eqb b k ≡ true → P b
 one-of P b k h e = subst P (sym (eqb-true b k e)) h
 
+-- The second byte of an escape of two bytes stands for a character below 80, and is no `u`.
 pub short-small : (b : ℕ) → isShort b ≡ true → (shortValue b < 0x80) × (b ≡ 0x75 → ⊥)
 unfolding isShort shortValue
-short-small b e = ⊎-elim (at 0x22 (omega arith, λ x. omega arith)) (λ e1. ⊎-elim (at 0x5C (omega arith, λ x. omega arith)) (λ e2. ⊎-elim (at 0x2F (omega arith, λ x. omega arith)) (λ e3.
-    ⊎-elim (at 0x62 (omega arith, λ x. omega arith)) (λ e4. ⊎-elim (at 0x66 (omega arith, λ x. omega arith)) (λ e5. ⊎-elim (at 0x6E (omega arith, λ x. omega arith)) (λ e6.
-    ⊎-elim (at 0x72 (omega arith, λ x. omega arith)) (at 0x74 (omega arith, λ x. omega arith)) (or-cases _ _ e6)) (or-cases _ _ e5)) (or-cases _ _ e4)) (or-cases _ _ e3)) (or-cases _ _ e2)) (or-cases _ _ e1)) (or-cases _ _ e)
+short-small b e = ⊎-elim (at 0x22 (omega arith, λ x. omega arith))
+    (λ e1. ⊎-elim (at 0x5C (omega arith, λ x. omega arith)) (λ e2. ⊎-elim (at 0x2F (omega arith, λ x. omega arith)) (λ e3.
+    ⊎-elim (at 0x62 (omega arith, λ x. omega arith)) (λ e4. ⊎-elim (at 0x66 (omega arith, λ x. omega arith))
+    (λ e5. ⊎-elim (at 0x6E (omega arith, λ x. omega arith)) (λ e6.
+    ⊎-elim (at 0x72 (omega arith, λ x. omega arith)) (at 0x74 (omega arith, λ x. omega arith)) (or-cases _ _ e6)) (or-cases _ _ e5)) (or-cases _ _ e4))
+    (or-cases _ _ e3)) (or-cases _ _ e2)) (or-cases _ _ e1)) (or-cases _ _ e)
   where
     at : (k : ℕ) → (shortValue k < 0x80) × (k ≡ 0x75 → ⊥) → eqb b k ≡ true → (shortValue b < 0x80) × (b ≡ 0x75 → ⊥)
     at k h q = one-of (λ (x : ℕ). (shortValue x < 0x80) × (x ≡ 0x75 → ⊥)) b k h q
@@ -66,6 +71,7 @@ module _ (s : List ℕ) (i : ℕ) (p : EscapeAt s i) where
   view-here : AtEscape s i (p .inside .chars) (p .inside .rest)
   view-here = at-escape s i (p .inside .chars) (p .inside .rest) (p .backslash) (p .inside .reads)
 
+  -- The position after the backslash of an escape is below the text's length.
   pub letter-within : i + 1 < length s
   letter-within = go (view-here)
     where
@@ -73,6 +79,7 @@ module _ (s : List ℕ) (i : ℕ) (p : EscapeAt s i) where
       go (two ds l e q d) = l
       go (six ds h x q d) = let w = x .within in omega arith
 
+  -- Where the byte after the backslash of an escape is no `u`, it is one of those that may follow a backslash on their own.
   pub is-short : (getD s (i + 1) 0 ≡ 0x75 → ⊥) → isShort (getD s (i + 1) 0) ≡ true
   is-short n = go view-here
     where
@@ -80,11 +87,17 @@ module _ (s : List ℕ) (i : ℕ) (p : EscapeAt s i) where
       go (two ds l e q d) = e
       go (six ds h x q d) = absurd (n h)
 
+  -- An escape with no `u` stands for the character that its second byte names, and the string goes on after two bytes.
   pub short-escapes : (getD s (i + 1) 0 ≡ 0x75 → ⊥) → Escapes s i (i + 2) (shortValue (getD s (i + 1) 0))
   unfolding unescape
   short-escapes n =
       let k = short-small (getD s (i + 1) 0) (is-short n) .0 in
-      record { later = omega arith; within = omega (arith, letter-within); small = omega arith; stands = λ c q. go c q (at-escape s i (q .chars) (q .rest) (p .backslash) (q .reads)) }
+      record {
+        later = omega arith;
+        within = omega (arith, letter-within);
+        small = omega arith;
+        stands = λ c q. go c q (at-escape s i (q .chars) (q .rest) (p .backslash) (q .reads));
+      }
     where
       go : (c : List ℕ) (q : InString s i c) → AtEscape s i (q .chars) (q .rest)
           → (d : List ℕ) × (c ≡ encode (shortValue (getD s (i + 1) 0)) ++ d) × InString s (i + 2) d
@@ -96,6 +109,7 @@ module _ (s : List ℕ) (i : ℕ) (p : EscapeAt s i) where
       go c q (six ds h x f d) = absurd (n h)
 
   module _ (u75 : getD s (i + 1) 0 ≡ 0x75) where
+    -- After the `u` of an escape stand four hexadecimal digits.
     pub hex-at : HexAt s (i + 2)
     hex-at = go view-here
       where
@@ -105,11 +119,13 @@ module _ (s : List ℕ) (i : ℕ) (p : EscapeAt s i) where
 
     -- the char after it, in the string that any derivation finds here
     pub after-hex : (c : List ℕ) → InString s i c
-        → (ds : List Char) × (r : List ℕ) × (c ≡ unescape (unit (hexNumber (getD s (i + 2) 0) (getD s (i + 3) 0) (getD s (i + 4) 0) (getD s (i + 5) 0)) ∷ ds)) × Chars (drop (i + 6) s) ds r
+        → (ds : List Char) × (r : List ℕ) × (c ≡ unescape (unit (hexNumber (getD s (i + 2) 0) (getD s (i + 3) 0) (getD s (i + 4) 0) (getD s (i + 5) 0)) ∷ ds))
+        × Chars (drop (i + 6) s) ds r
     after-hex c q = go (at-escape s i (q .chars) (q .rest) (p .backslash) (q .reads))
       where
         go : AtEscape s i (q .chars) (q .rest)
-            → (ds : List Char) × (r : List ℕ) × (c ≡ unescape (unit (hexNumber (getD s (i + 2) 0) (getD s (i + 3) 0) (getD s (i + 4) 0) (getD s (i + 5) 0)) ∷ ds)) × Chars (drop (i + 6) s) ds r
+            → (ds : List Char) × (r : List ℕ) × (c ≡ unescape
+            (unit (hexNumber (getD s (i + 2) 0) (getD s (i + 3) 0) (getD s (i + 4) 0) (getD s (i + 5) 0)) ∷ ds)) × Chars (drop (i + 6) s) ds r
         go (two ds l e f d) = absurd (short-small (getD s (i + 1) 0) e .1 u75)
         go (six ds h x f d) = (ds, q .rest, sym (q .content) ∙ ap unescape f, d)
 
@@ -121,14 +137,22 @@ module _ (s : List ℕ) (i : ℕ) (p : EscapeAt s i) where
         let w = hex-at .within in
         record { later = omega arith; within = omega arith; small = omega arith; stands = λ c q. go c (after-hex c q) }
       where
-        go : (c : List ℕ) → (ds : List Char) × (r : List ℕ) × (c ≡ unescape (unit (hexNumber (getD s (i + 2) 0) (getD s (i + 3) 0) (getD s (i + 4) 0) (getD s (i + 5) 0)) ∷ ds)) × Chars (drop (i + 6) s) ds r
+        go : (c : List ℕ) → (ds : List Char) × (r : List ℕ) × (c
+            ≡ unescape (unit (hexNumber (getD s (i + 2) 0) (getD s (i + 3) 0) (getD s (i + 4) 0) (getD s (i + 5) 0)) ∷ ds)) × Chars (drop (i + 6) s) ds r
             → (d : List ℕ) × (c ≡ encode u ++ d) × InString s (i + 6) d
-        go c a = (unescape (a .0), a .2 ∙ ap (λ (x : ℕ). unescape (unit x ∷ a .0)) (sym e) ∙ alone (a .0) (a .1) (a .3), record { chars = a .0; rest = a .1; reads = a .3; content = refl })
+        go c a = (
+          unescape (a .0),
+          a .2 ∙ ap (λ (x : ℕ). unescape (unit x ∷ a .0)) (sym e) ∙ alone (a .0) (a .1) (a .3),
+          record { chars = a .0; rest = a .1; reads = a .3; content = refl },
+        )
 
+    -- The position after a \u escape is below the text's length.
     pub next-char : i + 6 < length s
     next-char = go (after-hex (p .left) (p .inside))
       where
-        go : (ds : List Char) × (r : List ℕ) × (p .left ≡ unescape (unit (hexNumber (getD s (i + 2) 0) (getD s (i + 3) 0) (getD s (i + 4) 0) (getD s (i + 5) 0)) ∷ ds)) × Chars (drop (i + 6) s) ds r → i + 6 < length s
+        go : (ds : List Char) × (r : List ℕ) × (p .left ≡ unescape
+            (unit (hexNumber (getD s (i + 2) 0) (getD s (i + 3) 0) (getD s (i + 4) 0) (getD s (i + 5) 0)) ∷ ds)) × Chars (drop (i + 6) s) ds r
+            → i + 6 < length s
         go a = char-within s (i + 6) (a .0) (a .1) (view s (i + 6) (a .0) (a .1) (a .3))
 
     -- at a backslash after it stands another escape of the string
@@ -141,12 +165,15 @@ module _ (s : List ℕ) (i : ℕ) (p : EscapeAt s i) where
 not-pair : (u v : ℕ) (ds : List Char) → isPair u v ≡ false → unescape (unit u ∷ unit v ∷ ds) ≡ encode u ++ unescape (unit v ∷ ds)
 unfolding unescape
 not-pair u v ds e =
-    subst (λ (x : Bool). elim x as (λ _. List ℕ) [ true ↦ encode (pairValue u v) ++ unescape ds | false ↦ encode u ++ unescape (unit v ∷ ds) ] ≡ encode u ++ unescape (unit v ∷ ds)) (sym e) refl
+    subst (λ (x : Bool). elim x as (λ _. List ℕ) [ true ↦ encode (pairValue u v) ++ unescape ds | false ↦ encode u ++ unescape (unit v ∷ ds) ] ≡ encode u
+    ++ unescape (unit v ∷ ds)) (sym e) refl
 
+-- Two \u escapes that are a surrogate pair stand for the pair's character, and what follows them for its own content.
 pub is-pair : (u v : ℕ) (ds : List Char) → isPair u v ≡ true → unescape (unit u ∷ unit v ∷ ds) ≡ encode (pairValue u v) ++ unescape ds
 unfolding unescape
 is-pair u v ds e =
-    subst (λ (x : Bool). elim x as (λ _. List ℕ) [ true ↦ encode (pairValue u v) ++ unescape ds | false ↦ encode u ++ unescape (unit v ∷ ds) ] ≡ encode (pairValue u v) ++ unescape ds) (sym e) refl
+    subst (λ (x : Bool). elim x as (λ _. List ℕ) [ true ↦ encode (pairValue u v) ++ unescape ds | false ↦ encode u ++ unescape (unit v ∷ ds) ]
+    ≡ encode (pairValue u v) ++ unescape ds) (sym e) refl
 
 -- a number that is no high surrogate stands alone
 high-false : (u v : ℕ) → isHigh u ≡ false → isPair u v ≡ false
@@ -157,6 +184,7 @@ low-false : (u v : ℕ) → isLow v ≡ false → isPair u v ≡ false
 unfolding isPair
 low-false u v e = by-test (isHigh u) (λ h. rw h e) (λ h. rw h)
 
+-- A \u escape of no high surrogate stands for its own number, and what follows it for its own content.
 pub not-high : (u : ℕ) (ds : List Char) → isHigh u ≡ false → unescape (unit u ∷ ds) ≡ encode u ++ unescape ds
 unfolding unescape
 not-high u [] e = sym (append-nil (encode u))
@@ -168,6 +196,7 @@ pub below-high : (u : ℕ) → u < 0xD800 → isHigh u ≡ false
 unfolding isHigh between
 below-high u h = rw (lt-leb 0xD800 u h)
 
+-- A number from DC00 on is no high surrogate.
 pub above-high : (u : ℕ) → 0xDC00 ≤ u → isHigh u ≡ false
 unfolding isHigh between
 above-high u h = let a : 0xD800 ≤ u = omega arith in let b : 0xDBFF < u = omega arith in rw (le-leb 0xD800 u a, lt-leb u 0xDBFF b)
@@ -176,10 +205,12 @@ in-high : (u : ℕ) → 0xD800 ≤ u → u < 0xDC00 → isHigh u ≡ true
 unfolding isHigh between
 in-high u a h = let b : u ≤ 0xDBFF = omega arith in rw (le-leb 0xD800 u a, le-leb u 0xDBFF b)
 
+-- A number below DC00 is no low surrogate.
 pub below-low : (u : ℕ) → u < 0xDC00 → isLow u ≡ false
 unfolding isLow between
 below-low u h = rw (lt-leb 0xDC00 u h)
 
+-- A number from E000 on is no low surrogate.
 pub above-low : (u : ℕ) → 0xE000 ≤ u → isLow u ≡ false
 unfolding isLow between
 above-low u h = let a : 0xDC00 ≤ u = omega arith in let b : 0xDFFF < u = omega arith in rw (le-leb 0xDC00 u a, lt-leb u 0xDFFF b)
@@ -222,6 +253,7 @@ module _ (s : List ℕ) (i u : ℕ) (p : HighAt s i u) where
       go ds r (at-short es l g h q d) = absurd (n g)
       go ds r (at-hex es l g h ha hb hc hd q d) = absurd (n g)
 
+  -- A high surrogate's escape stands for its own number where the second byte after it is no `u`.
   pub alone-short : (getD s (i + 6 + 1) 0 ≡ 0x75 → ⊥) → Escapes s i (i + 6) u
   alone-short n = alone go
     where
@@ -232,6 +264,7 @@ module _ (s : List ℕ) (i u : ℕ) (p : HighAt s i u) where
       go ds r (at-hex es l g h ha hb hc hd q d) = absurd (n h)
 
   module _ (v : ℕ) (q : v ≡ hexNumber (getD s (i + 6 + 2) 0) (getD s (i + 6 + 3) 0) (getD s (i + 6 + 4) 0) (getD s (i + 6 + 5) 0)) where
+    -- The same where the digits of a \u escape directly after it would make up no low surrogate.
     pub alone-unit : isLow v ≡ false → Escapes s i (i + 6) u
     alone-unit n = alone go
       where
@@ -241,6 +274,7 @@ module _ (s : List ℕ) (i u : ℕ) (p : HighAt s i u) where
         go ds r (at-short es l g h f d) = a-byte (shortValue (getD s (i + 6 + 1) 0)) ds es f
         go ds r (at-hex es l g h ha hb hc hd f d) = a-unit v ds es (low-false u v n) (f ∙ ap (λ (x : ℕ). unit x ∷ es) (sym q))
 
+    -- With a low surrogate's escape directly after it, both stand for the pair's character, and the string goes on after both.
     pub pair-escapes : getD s (i + 6) 0 ≡ 0x5C → getD s (i + 6 + 1) 0 ≡ 0x75 → 0xDC00 ≤ v → v < 0xE000
         → Escapes s i (i + 6 + 6) (0x10000 + (u - 0xD800) * 0x400 + (v - 0xDC00))
     unfolding pairValue
@@ -252,15 +286,19 @@ module _ (s : List ℕ) (i u : ℕ) (p : HighAt s i u) where
         second : EscapeAt s (i + 6)
         second = next-escape s i (p .escape) (p .letter) e
 
-        go : (c : List ℕ) → (ds : List Char) × (r : List ℕ) × (c ≡ unescape (unit (hexNumber (getD s (i + 2) 0) (getD s (i + 3) 0) (getD s (i + 4) 0) (getD s (i + 5) 0)) ∷ ds)) × Chars (drop (i + 6) s) ds r
+        go : (c : List ℕ) → (ds : List Char) × (r : List ℕ) × (c
+            ≡ unescape (unit (hexNumber (getD s (i + 2) 0) (getD s (i + 3) 0) (getD s (i + 4) 0) (getD s (i + 5) 0)) ∷ ds)) × Chars (drop (i + 6) s) ds r
             → (d : List ℕ) × (c ≡ encode (0x10000 + (u - 0xD800) * 0x400 + (v - 0xDC00)) ++ d) × InString s (i + 6 + 6) d
         go c x = more (at-escape s (i + 6) (x .0) (x .1) e (x .3))
           where
-            more : AtEscape s (i + 6) (x .0) (x .1) → (d : List ℕ) × (c ≡ encode (0x10000 + (u - 0xD800) * 0x400 + (v - 0xDC00)) ++ d) × InString s (i + 6 + 6) d
+            more : AtEscape s (i + 6) (x .0) (x .1) → (d : List ℕ) × (c ≡ encode (0x10000 + (u - 0xD800) * 0x400 + (v - 0xDC00)) ++ d)
+                × InString s (i + 6 + 6) d
             more (two ds l k m d) = absurd (short-small (getD s (i + 6 + 1) 0) k .1 f)
             more (six ds k g m d) = (
               unescape ds,
-              x .2 ∙ ap (λ (y : ℕ). unescape (unit y ∷ x .0)) (sym (p .number)) ∙ ap (λ (l : List Char). unescape (unit u ∷ l)) (m ∙ ap (λ (y : ℕ). unit y ∷ ds) (sym q)) ∙ is-pair u v ds (in-pair u v (in-high u (p .low) (p .high)) (in-low v a b)),
+              x .2 ∙ ap (λ (y : ℕ). unescape (unit y ∷ x .0)) (sym (p .number))
+                  ∙ ap (λ (l : List Char). unescape (unit u ∷ l)) (m ∙ ap (λ (y : ℕ). unit y ∷ ds) (sym q))
+                  ∙ is-pair u v ds (in-pair u v (in-high u (p .low) (p .high)) (in-low v a b)),
               record { chars = ds; rest = x .1; reads = d; content = refl },
             )
 
@@ -276,7 +314,8 @@ hex-small b n e q = ⊎-elim digit (⊎-elim upper lower) (hex-cases b e)
     upper h = let l : 0x39 < b = omega arith in let f : n ≡ b - 0x37 = q ∙ rw (hexValue, lt-leb b 0x39 l, le-leb b 0x46 (h .1)) in omega arith
 
     lower : (0x61 ≤ b) × (b ≤ 0x66) → n < 16
-    lower h = let l : 0x39 < b = omega arith in let m : 0x46 < b = omega arith in let f : n ≡ b - 0x57 = q ∙ rw (hexValue, lt-leb b 0x39 l, lt-leb b 0x46 m) in omega arith
+    lower h = let l : 0x39 < b = omega arith in let m : 0x46 < b = omega arith in
+        let f : n ≡ b - 0x57 = q ∙ rw (hexValue, lt-leb b 0x39 l, lt-leb b 0x46 m) in omega arith
 
 -- four digits two bytes after `at`, counted from there and counted from `at`
 pub from-letter : (s : List ℕ) (at v : ℕ) → v ≡ hexNumber (getD s (at + 2) 0) (getD s (at + 2 + 1) 0) (getD s (at + 2 + 2) 0) (getD s (at + 2 + 3) 0)

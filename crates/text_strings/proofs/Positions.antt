@@ -15,6 +15,7 @@ use Rattle.text_strings.proofs.Contents.{content-from, inside-content}
 use Rattle.text_strings.proofs.Cursors.{closes, plain, encodes}
 use Rattle.text_strings.proofs.Views.{View, at-close, at-byte, at-short, at-hex, view}
 
+-- The encoding of a number has one to four bytes.
 pub encode-length : (u : ℕ) → (1 ≤ length (encode u)) × (length (encode u) ≤ 4)
 encode-length u =
     let e = encodes 0 u (length (encode u)) (encode u) refl (take-length (encode u)) in
@@ -66,22 +67,27 @@ module _ (s : List ℕ) (i : ℕ) (p : Inside s i) where
   here : InString s i (contentFrom s i)
   here = inside-content s i p
 
+  -- At a quotation mark inside a string, the content from there on is empty.
   pub ends : getD s i 0 ≡ 0x22 → contentFrom s i ≡ []
   ends = closes s i (contentFrom s i) here
 
+  -- A byte that is no quotation mark and no backslash begins the content, and the rest is the content from the next position on.
   pub goes-on : (getD s i 0 ≡ 0x22 → ⊥) → (getD s i 0 ≡ 0x5C → ⊥) → (contentFrom s i ≡ getD s i 0 ∷ contentFrom s (i + 1)) × Inside s (i + 1)
   goes-on a b =
       let r = plain s i (contentFrom s i) here a b in
       (r .1 ∙ ap (λ (l : List ℕ). getD s i 0 ∷ l) (sym (content-from s (i + 1) (r .0) (r .2))), record { bytes = r .0; here = r .2 })
 
+  -- At a backslash inside a string stands an escape.
   pub escape-at : getD s i 0 ≡ 0x5C → EscapeAt s i
   escape-at e = record { left = contentFrom s i; inside = here; backslash = e }
 
+  -- At an escape the content is the bytes of its character and then the content from the position after the escape on.
   pub over-escape : (next scalar : ℕ) → Escapes s i next scalar → (contentFrom s i ≡ encode scalar ++ contentFrom s next) × Inside s next
   over-escape next scalar e =
       let r = e .stands (contentFrom s i) here in
       (r .1 ∙ ap (λ (l : List ℕ). encode scalar ++ l) (sym (content-from s next (r .0) (r .2))), record { bytes = r .0; here = r .2 })
 
+  -- Where a position inside a string has no quotation mark, the content from there on has at least one byte.
   pub some-left : (getD s i 0 ≡ 0x22 → ⊥) → 1 ≤ length (contentFrom s i)
   unfolding unescape
   some-left n = subst (λ (l : List ℕ). 1 ≤ length l) (here .content) (go (view s i (here .chars) (here .rest) (here .reads)))
@@ -92,5 +98,6 @@ module _ (s : List ℕ) (i : ℕ) (p : Inside s i) where
       go (at-short ds l g h f d) = rw f (omega arith)
       go (at-hex ds l g h ha hb hc hd f d) = rw f (unit-some _ ds)
 
+  -- The content from a position inside a string on is shorter than the text from there on.
   pub not-longer : i + length (contentFrom s i) < length s
   not-longer = omega (arith, ap length (here .content), unescape-length (here .chars), chars-size (here .reads), length-drop i s)

@@ -11,7 +11,8 @@ ghost use Rattle.text_strings.specs.Cursor.{Left, Readable, Gives, Encod
 // The number of the four hexadecimal digits at `at`.
 fn hex_number(s: &[u8], at: usize) -> u32
     requires { ⌜ HexAt (now s) at ⌝ }
-    ensures { λ r. ⌜ r ≡ hexNumber (getD (now (s .entry)) at 0) (getD (now (s .entry)) (at + 1) 0) (getD (now (s .entry)) (at + 2) 0) (getD (now (s .entry)) (at + 3) 0) ⌝ }
+    ensures { λ r. ⌜ r ≡ hexNumber (getD (now (s .entry)) at 0) (getD (now (s .entry)) (at + 1) 0) (getD (now (s .entry)) (at + 2) 0)
+        (getD (now (s .entry)) (at + 3) 0) ⌝ }
     ensures { λ r. ⌜ r < 0x10000 ⌝ }
 {
     let a = text_json::bytes::hex_value(s[at]);

@@ -30,6 +30,7 @@ mark-at true s at = length-drop at s
 mark-at false s at = refl
 
 module _ (s : List ℕ) (at : ℕ) where
+  -- A string that is scanned is a value of that end and length, with a string fault if it is refused, and no other fault.
   pub string-token : (x : Read (List Char)) (e n k : ℕ) (f : Bool) → k ≡ cond f (length s - at) 0
       → TokenScans refusedString stringSize s x (Token e f n)
       → Scans s (andThen x (λ cs q. found (Syntax.string (drop at s) cs) q))
@@ -40,12 +41,14 @@ module _ (s : List ℕ) (at : ℕ) where
       (p .0, λ i. record { string = e i; number = 0; key = 0; size = (p .2) i; ordered = true }, refl)
   string-token (stuck r) e n k f m p = absurd p
 
+  -- Where scanning a string is stuck, scanning the value is stuck at the same position.
   pub string-none : (x : Read (List Char)) (e : ℕ) → TokenScans refusedString stringSize s x (NoToken e)
       → Scans s (andThen x (λ cs q. found (Syntax.string (drop at s) cs) q)) (Stuck e)
   unfolding andThen
   string-none (found cs r) e p = absurd p
   string-none (stuck r) e p = p
 
+  -- A number that is scanned is a value of that end and length, with a number fault if it is refused, and no other fault.
   pub number-token : (x : Read Numeral) (e n k : ℕ) (f : Bool) → k ≡ cond f (length s - at) 0
       → TokenScans refusedNumber numeralSize s x (Token e f n)
       → Scans s (andThen x (λ m q. found (Syntax.number (drop at s) m) q))
@@ -56,6 +59,7 @@ module _ (s : List ℕ) (at : ℕ) where
       (p .0, λ i. record { string = 0; number = e i; key = 0; size = (p .2) i; ordered = true }, refl)
   number-token (stuck r) e n k f m p = absurd p
 
+  -- Where scanning a number is stuck, scanning the value is stuck at the same position.
   pub number-none : (x : Read Numeral) (e : ℕ) → TokenScans refusedNumber numeralSize s x (NoToken e)
       → Scans s (andThen x (λ m q. found (Syntax.number (drop at s) m) q)) (Stuck e)
   unfolding andThen
@@ -97,43 +101,58 @@ of-number b q e f g h = rw (ne-eqb b 0x22 e, readScalar) (rw (ne-eqb b 0x6E f) (
 pub here : (s : List ℕ) (at : ℕ) → at < length s → drop at s ≡ getD s at 0 ∷ drop (at + 1) s
 here s at w = drop-cons s at 0 w ∙ ap (λ (n : ℕ). getD s at 0 ∷ drop n s) (sym (add-one at))
 
+-- The value `null` has no fault, a canonical form of four bytes and no keys.
 pub summary-null : (summary Syntax.null ≡ plainSummary 4) × (ownKeys Syntax.null ≡ 0)
 unfolding summary stringFault numberFault keyFault content canonical ordered sorted write ownKeys
 summary-null = (refl, refl)
 
+-- The value `true` has no fault, a canonical form of four bytes and no keys.
 pub summary-true : (summary (Syntax.boolean true) ≡ plainSummary 4) × (ownKeys (Syntax.boolean true) ≡ 0)
 unfolding summary stringFault numberFault keyFault content canonical ordered sorted write ownKeys
 summary-true = (refl, refl)
 
+-- The value `false` has no fault, a canonical form of five bytes and no keys.
 pub summary-false : (summary (Syntax.boolean false) ≡ plainSummary 5) × (ownKeys (Syntax.boolean false) ≡ 0)
 unfolding summary stringFault numberFault keyFault content canonical ordered sorted write ownKeys
 summary-false = (refl, refl)
 
 module _ (s : List ℕ) (at : ℕ) where
+  -- At the end of the text scanning a scalar is stuck.
   pub scalar-end : length s ≤ at → at ≤ length s → Scans s (readScalar (drop at s)) (Stuck at)
   unfolding readScalar
   scalar-end h k = rw (drop-of-length-le s {i = at} h) (k, sym (drop-of-length-le s {i = at} h))
 
   module _ (w : at < length s) (x : Scanned) where
+    -- At a quotation mark the scan of a string value is the scan of a scalar.
     pub scalar-string : getD s at 0 ≡ 0x22 → Scans s (andThen (readString (drop at s)) (λ cs q. found (Syntax.string (drop at s) cs) q)) x
         → Scans s (readScalar (drop at s)) x
     scalar-string e p =
         rw (here s at w) (subst (λ (y : Read Syntax). Scans s y x) (sym (of-string (getD s at 0) (drop (at + 1) s) e)) (rw (here s at w) at p))
 
+    -- At a byte other than a quotation mark, `n`, `t` and `f` the scan of a number value is the scan of a scalar.
     pub scalar-number : (getD s at 0 ≡ 0x22 → ⊥) → (getD s at 0 ≡ 0x6E → ⊥) → (getD s at 0 ≡ 0x74 → ⊥) → (getD s at 0 ≡ 0x66 → ⊥)
         → Scans s (andThen (readNumber (drop at s)) (λ n q. found (Syntax.number (drop at s) n) q)) x → Scans s (readScalar (drop at s)) x
     scalar-number e f g h p =
         rw (here s at w) (subst (λ (y : Read Syntax). Scans s y x) (sym (of-number (getD s at 0) (drop (at + 1) s) e f g h)) (rw (here s at w) at p))
 
   module _ (w : at < length s) (v : Step) where
-    pub scalar-null : getD s at 0 ≡ 0x6E → Steps s (readWord (0x75 ∷ 0x6C ∷ 0x6C ∷ []) (drop (at + 1) s)) v → Scans s (readScalar (drop at s)) (literalAnswer v 4)
+    -- At the letter `n` the step over `ull` answers for a scalar: a value of four bytes, or where reading is stuck.
+    pub scalar-null : getD s at 0 ≡ 0x6E → Steps s (readWord (0x75 ∷ 0x6C ∷ 0x6C ∷ []) (drop (at + 1) s)) v
+        → Scans s (readScalar (drop at s)) (literalAnswer v 4)
     scalar-null e p =
-        rw (here s at w, of-null (getD s at 0) (drop (at + 1) s) e) (word-literal s (readWord (0x75 ∷ 0x6C ∷ 0x6C ∷ []) (drop (at + 1) s)) Syntax.null 4 v summary-null p)
+        rw (here s at w, of-null (getD s at 0) (drop (at + 1) s) e)
+        (word-literal s (readWord (0x75 ∷ 0x6C ∷ 0x6C ∷ []) (drop (at + 1) s)) Syntax.null 4 v summary-null p)
 
-    pub scalar-true : getD s at 0 ≡ 0x74 → Steps s (readWord (0x72 ∷ 0x75 ∷ 0x65 ∷ []) (drop (at + 1) s)) v → Scans s (readScalar (drop at s)) (literalAnswer v 4)
+    -- At the letter `t` the step over `rue` answers for a scalar: a value of four bytes, or where reading is stuck.
+    pub scalar-true : getD s at 0 ≡ 0x74 → Steps s (readWord (0x72 ∷ 0x75 ∷ 0x65 ∷ []) (drop (at + 1) s)) v
+        → Scans s (readScalar (drop at s)) (literalAnswer v 4)
     scalar-true e p =
-        rw (here s at w, of-true (getD s at 0) (drop (at + 1) s) e) (word-literal s (readWord (0x72 ∷ 0x75 ∷ 0x65 ∷ []) (drop (at + 1) s)) (Syntax.boolean true) 4 v summary-true p)
+        rw (here s at w, of-true (getD s at 0) (drop (at + 1) s) e)
+        (word-literal s (readWord (0x72 ∷ 0x75 ∷ 0x65 ∷ []) (drop (at + 1) s)) (Syntax.boolean true) 4 v summary-true p)
 
-    pub scalar-false : getD s at 0 ≡ 0x66 → Steps s (readWord (0x61 ∷ 0x6C ∷ 0x73 ∷ 0x65 ∷ []) (drop (at + 1) s)) v → Scans s (readScalar (drop at s)) (literalAnswer v 5)
+    -- At the letter `f` the step over `alse` answers for a scalar: a value of five bytes, or where reading is stuck.
+    pub scalar-false : getD s at 0 ≡ 0x66 → Steps s (readWord (0x61 ∷ 0x6C ∷ 0x73 ∷ 0x65 ∷ []) (drop (at + 1) s)) v
+        → Scans s (readScalar (drop at s)) (literalAnswer v 5)
     scalar-false e p =
-        rw (here s at w, of-false (getD s at 0) (drop (at + 1) s) e) (word-literal s (readWord (0x61 ∷ 0x6C ∷ 0x73 ∷ 0x65 ∷ []) (drop (at + 1) s)) (Syntax.boolean false) 5 v summary-false p)
+        rw (here s at w, of-false (getD s at 0) (drop (at + 1) s) e)
+        (word-literal s (readWord (0x61 ∷ 0x6C ∷ 0x73 ∷ 0x65 ∷ []) (drop (at + 1) s)) (Syntax.boolean false) 5 v summary-false p)

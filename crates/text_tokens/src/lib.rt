@@ -117,9 +117,10 @@ fn literal(step: text_json::Step, size: usize) -> Scanned
 // A string as a value.
 fn string(s: &[u8], at: usize) -> Scanned
     requires { ⌜ at ≤ length (now s) ⌝ }
-    ensures { λ r. ⌜ Scans (now (s .entry)) (andThen (readString (drop at (now (s .entry)))) (λ cs q. found (Syntax.string (drop at (now (s .entry))) cs) q)) r ⌝ }
+    ensures { λ r. ⌜ Scans (now (s .entry)) (andThen (readString (drop at (now (s .entry)))) (λ cs q. found (Syntax.string (drop at (now (s .entry))) cs) q))
+        r ⌝ }
 {
-    match text_json::string::string(s, at) {
+    match text_chars::string(s, at) {
         text_json::Scan::Token { end, refused, size } => Scanned::Value(Found {
             end,
             count: 0,
@@ -138,9 +139,10 @@ fn string(s: &[u8], at: usize) -> Scanned
 // A number as a value.
 fn number(s: &[u8], at: usize) -> Scanned
     requires { ⌜ at ≤ length (now s) ⌝ }
-    ensures { λ r. ⌜ Scans (now (s .entry)) (andThen (readNumber (drop at (now (s .entry)))) (λ n q. found (Syntax.number (drop at (now (s .entry))) n) q)) r ⌝ }
+    ensures { λ r. ⌜ Scans (now (s .entry)) (andThen (readNumber (drop at (now (s .entry)))) (λ n q. found (Syntax.number (drop at (now (s .entry))) n) q))
+        r ⌝ }
 {
-    match text_json::number::number(s, at) {
+    match text_numbers::number(s, at) {
         text_json::Scan::Token { end, refused, size } => Scanned::Value(Found {
             end,
             count: 0,
@@ -184,7 +186,8 @@ pub fn after_item(s: &[u8], at: usize, end_mark: u8) -> After
 
 // The mark stands at that position.
 pub fn stands(s: &[u8], at: usize, m: u8) -> bool
-    ensures { λ r. ⌜ (r ≡ true → (at < length (now (s .entry))) × (getD (now (s .entry)) at 0 ≡ m)) × (r ≡ false → at < length (now (s .entry)) → getD (now (s .entry)) at 0 ≡ m → ⊥) ⌝ }
+    ensures { λ r. ⌜ (r ≡ true → (at < length (now (s .entry))) × (getD (now (s .entry)) at 0 ≡ m)) × (r ≡ false → at < length (now (s .entry))
+        → getD (now (s .entry)) at 0 ≡ m → ⊥) ⌝ }
 {
     if at < s.len() {
         if s[at] == m {
@@ -199,7 +202,7 @@ pub fn key(s: &[u8], at: usize) -> text_json::Scan
     requires { ⌜ at ≤ length (now s) ⌝ }
     ensures { λ r. ⌜ KeyWithin at r × TokenScans refusedString stringSize (now (s .entry)) (readKey (drop at (now (s .entry)))) r ⌝ }
 {
-    match text_json::string::string(s, at) {
+    match text_chars::string(s, at) {
         text_json::Scan::NoToken(e) => text_json::Scan::NoToken(e),
         text_json::Scan::Token { end, refused, size } => {
             let i = text_json::space::skip_spaces(s, end);

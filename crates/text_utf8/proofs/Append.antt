@@ -7,6 +7,7 @@ use mathlib.Core.List.{List, [], _∷_, _++_}
 use Rattle.text_utf8.specs.Utf8.{Range, within, Lead, follows, none, lead, utf8From, utf8}
 use Rattle.text_utf8.proofs.Steps.{utf8-follows, utf8-none, utf8-met, utf8-unmet}
 
+-- Where `a` is well-formed after an unfinished character, `a` with `b` after it is so exactly where `b` is well-formed.
 pub from-append : (rs : List Range) (a b : List ℕ) → utf8From rs a ≡ true → utf8From rs (a ++ b) ≡ utf8From [] b
 unfolding utf8From
 from-append [] [] b e = refl

@@ -51,6 +51,7 @@ pub record Next (rs : List Range) (b : ℕ) (s : List ℕ) : Type 0 where
   pub well : utf8From left s ≡ true
   pub same : (q : List ℕ) → utf8From rs (b ∷ q) ≡ utf8From left q
 
+-- The first byte of what is well-formed leaves ranges that start at 80 or later and say what may follow the byte.
 pub next : (rs : List Range) (b : ℕ) (s : List ℕ) → high rs ≡ true → utf8From rs (b ∷ s) ≡ true → Next rs b s
 next [] b s h e = go (lead b) refl
   where
@@ -70,9 +71,11 @@ pub utf8-ascii : (b : ℕ) (s : List ℕ) → b < 0x80 → utf8 (b ∷ s) ≡ ut
 unfolding utf8
 utf8-ascii b s h = utf8-follows b s [] (lead-1 b (omega arith))
 
+-- A byte below 80 and a well-formed text after it are a well-formed text.
 pub ascii-before : (b : ℕ) (s : List ℕ) → b < 0x80 → utf8 s ≡ true → utf8 (b ∷ s) ≡ true
 ascii-before b s h e = utf8-ascii b s h ∙ e
 
+-- A well-formed text that begins with a byte below 80 is well-formed without that byte.
 pub ascii-after : (b : ℕ) (s : List ℕ) → b < 0x80 → utf8 (b ∷ s) ≡ true → utf8 s ≡ true
 ascii-after b s h e = sym (utf8-ascii b s h) ∙ e
 

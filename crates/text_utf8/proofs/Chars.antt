@@ -26,13 +26,16 @@ misses-cons r rs b s e = rw (e, meets)
 
 -- one byte at a place, by its test
 module _ (r : Range) (s : List ℕ) (i : ℕ) where
+  -- Where the byte at a place is in a range, the text from there on starts with a byte in it.
   pub byte-meets : i < length s → within r (getD s i 0) ≡ true → meets (r ∷ []) (drop i s) ≡ true
   unfolding meets
   byte-meets h e = rw (drop-cons s i 0 h) (meets-cons r [] (getD s i 0) (drop (suc i) s) e)
 
+  -- Where the byte at a place is not in a range, the text from there on does not start with a byte in it.
   pub byte-misses : i < length s → within r (getD s i 0) ≡ false → meets (r ∷ []) (drop i s) ≡ false
   byte-misses h e = rw (drop-cons s i 0 h) (misses-cons r [] (getD s i 0) (drop (suc i) s) e)
 
+  -- The text from its end on does not start with a byte in a range.
   pub end-misses : length s ≤ i → meets (r ∷ []) (drop i s) ≡ false
   unfolding meets
   end-misses h = rw (drop-of-length-le s h)
@@ -57,19 +60,23 @@ first-misses r rs (b ∷ s) e = go (within r b) refl
 
 -- several bytes from a place, by the answer x of the test of the first
 module _ (r : Range) (rs : List Range) (s : List ℕ) (i : ℕ) (x : Bool) (e : x ≡ meets (r ∷ []) (drop i s)) where
+  -- Where the first byte is in its range, all ranges are met exactly where the others are met from the next place on.
   pub meets-next : x ≡ true → meets (r ∷ rs) (drop i s) ≡ meets rs (drop (i + 1) s)
   meets-next t = first-meets r rs (drop i s) (sym e ∙ t) ∙ ap (meets rs) (drop-drop 1 i s)
 
+  -- Where the first byte is not in its range, the ranges are not met.
   pub misses-next : x ≡ false → meets (r ∷ rs) (drop i s) ≡ false
   misses-next t = first-misses r rs (drop i s) (sym e ∙ t)
 
 -- the length of the character at a place, by its first byte
 module _ (s : List ℕ) (i : ℕ) (h : i < length s) where
+  -- A character's length is one more than the number of its first byte's ranges where bytes in them follow, and else 0.
   pub length-follows : (rs : List Range) → lead (getD s i 0) ≡ follows rs
       → charLen (drop i s) ≡ cond (meets rs (drop (i + 1) s)) (suc (length rs)) 0
   unfolding charLen
   length-follows rs e = rw (drop-cons s i 0 h, e, charLen, add-one)
 
+  -- Where no character starts with the byte, the length is 0.
   pub length-none : lead (getD s i 0) ≡ none → charLen (drop i s) ≡ 0
   unfolding charLen
   length-none e = rw (drop-cons s i 0 h, e, charLen)
@@ -161,6 +168,7 @@ pub record Passed (s : List ℕ) (i n : ℕ) : Type 0 where
 
 -- a character at a place
 module _ (s : List ℕ) (i : ℕ) (h : i < length s) where
+  -- Where the character at a place has the length 0, the verdict from there on is that place.
   pub bad-at : charLen (drop i s) ≡ 0 → verdictAt s i ≡ Bad i
   bad-at e = rw (drop-cons s i 0 h) (first-bad 0 i (getD s i 0) (drop (suc i) s) (rw (drop-cons s i 0 h) at e))
 
@@ -190,6 +198,7 @@ module _ (s : List ℕ) (i : ℕ) (h : i < length s) where
       (verdict-follows (getD s i 0) (drop (suc i) s) 0 i [] (lead-1 (getD s i 0) (omega arith))
       ∙ start-free i 0 (suc i) (drop (suc i) s))
 
+-- The verdict on the text from its end on is that it is well-formed.
 pub end-at : (s : List ℕ) (i : ℕ) → length s ≤ i → verdictAt s i ≡ WellFormed
 unfolding verdictFrom
 end-at s i h = rw (drop-of-length-le s h)

@@ -141,6 +141,7 @@ pub record Longest (s : List ℕ) (k : ℕ) : Type 0 where
   pub well : utf8 (take k s) ≡ true
   pub longer : (j : ℕ) → k < j → utf8 (take j s) ≡ false
 
+-- Where the verdict is a place, it is the length of the longest well-formed prefix, which is not the whole text.
 pub verdict-bad : (s : List ℕ) (k : ℕ) → verdict s ≡ Bad k → Longest s k
 unfolding verdict utf8 utf8From
 verdict-bad s k e = go (points 0 0 [] s k e)

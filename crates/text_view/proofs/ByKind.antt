@@ -25,15 +25,7 @@ code Object = 5
 apart : {C : Type 0} {k l : Kind} → k ≡ l → eqb (code k) (code l) ≡ false → C
 apart {k} {l} e f = both-ways (eq-eqb (code k) (code l) (ap code e)) f
 
-pub is-null : (v : Value) → kindOf v ≡ Null → v ≡ null
-unfolding kindOf
-is-null null e = refl
-is-null (boolean b) e = apart e refl
-is-null (number n ds) e = apart e refl
-is-null (string c) e = apart e refl
-is-null (array vs) e = apart e refl
-is-null (object fs) e = apart e refl
-
+-- A value whose kind is the boolean `b` is that boolean.
 pub is-boolean : (v : Value) (b : Bool) → kindOf v ≡ Boolean b → v ≡ boolean b
 unfolding kindOf
 is-boolean null b e = apart e refl
@@ -43,6 +35,7 @@ is-boolean (string c) b e = apart e refl
 is-boolean (array vs) b e = apart e refl
 is-boolean (object fs) b e = apart e refl
 
+-- A value whose kind is number is a number, with some sign and some digits.
 pub is-number : (v : Value) → kindOf v ≡ Number → (n : Bool) × (ds : List ℕ) × (v ≡ number n ds)
 unfolding kindOf
 is-number null e = apart e refl
@@ -52,6 +45,7 @@ is-number (string c) e = apart e refl
 is-number (array vs) e = apart e refl
 is-number (object fs) e = apart e refl
 
+-- A value whose kind is string is a string, with some content.
 pub is-string : (v : Value) → kindOf v ≡ String → (c : List ℕ) × (v ≡ string c)
 unfolding kindOf
 is-string null e = apart e refl
@@ -61,6 +55,7 @@ is-string (string c) e = (c, refl)
 is-string (array vs) e = apart e refl
 is-string (object fs) e = apart e refl
 
+-- A value whose kind is array is an array of some values.
 pub is-array : (v : Value) → kindOf v ≡ Array → (vs : Values) × (v ≡ array vs)
 unfolding kindOf
 is-array null e = apart e refl
@@ -70,6 +65,7 @@ is-array (string c) e = apart e refl
 is-array (array vs) e = (vs, refl)
 is-array (object fs) e = apart e refl
 
+-- A value whose kind is object is an object with some members.
 pub is-object : (v : Value) → kindOf v ≡ Object → (fs : Fields) × (v ≡ object fs)
 unfolding kindOf
 is-object null e = apart e refl
@@ -79,6 +75,7 @@ is-object (string c) e = apart e refl
 is-object (array vs) e = apart e refl
 is-object (object fs) e = (fs, refl)
 
+-- Two values that stand at the same position, with the same limit of depth, are equal.
 pub one-value : (s : List ℕ) (at d : ℕ) (v w : Value) → ValueAt s at d v → ValueAt s at d w → v ≡ w
 one-value s at d v w p q =
     let e = read-complete d (drop at s) (p .tree) (p .rest) (p .derives) (p .stops) in

@@ -19,6 +19,7 @@ pub record Counted (s : List ℕ) (from i o : ℕ) : Type 0 where
   pub here : Closes o (drop i s) rest
   pub same : (r : List ℕ) → Closes 1 (drop from s) r → Closes o (drop i s) r
 
+-- At a position from which items and their end mark stand, one bracket is open.
 pub counted-start : (s : List ℕ) (from : ℕ) → AnyList s from → Counted s from from 1
 counted-start s from p =
     let l = p .list in
@@ -35,14 +36,17 @@ module _ (s : List ℕ) (from i o : ℕ) (some : 0 < o) (c : Counted s from i o)
   goes-on : (e p : ℕ) → e ≤ length s → from < e + p → ((r : List ℕ) → Closes o (drop i s) r → Closes p (drop e s) r) → Counted s from e p
   goes-on e p w l on = record { within = w; later = l; rest = c .rest; here = on (c .rest) (c .here); same = λ r k. on r (c .same r k) }
 
+  -- Where a bracket is open, the position is below the text's length.
   pub counted-within : i < length s
   counted-within = left-within s i o (c .rest) some (c .here)
 
   -- a string is passed whole
   module _ (quote : getD s i 0 ≡ 0x22) where
+    -- The position after a quotation mark that stands there is inside a string.
     pub counted-inside : Inside s (i + 1)
     counted-inside = let k = left-string s i o (c .rest) some (c .here) quote in chars-inside s (i + 1) (k .0) (k .1) (k .2)
 
+    -- Where that string ends, as many brackets are open as before it.
     pub counted-string : (e : ℕ) → StringEndsAt s (i + 1) e → Counted s from e o
     counted-string e h =
         let l = c .later in
@@ -50,6 +54,7 @@ module _ (s : List ℕ) (from i o : ℕ) (some : 0 < o) (c : Counted s from i o)
         goes-on e o (h .within) (omega arith) (λ r k. let j = left-string s i o r some k quote in rw (h .rest (j .0) (j .1) (j .2)) at (j .3))
 
   module _ (mark : Opens (getD s i 0)) where
+    -- After an opening bracket one bracket more is open.
     pub counted-open : Counted s from (i + 1) (o + 1)
     counted-open =
         let l = c .later in
@@ -59,11 +64,13 @@ module _ (s : List ℕ) (from i o : ℕ) (some : 0 < o) (c : Counted s from i o)
     pub open-fits : o + 1 ≤ length s
     open-fits = omega (arith, closes-length (left-open s i o (c .rest) some (c .here) mark), length-drop (i + 1) s)
 
+  -- After a closing bracket one bracket fewer is open.
   pub counted-end : Ends (getD s i 0) → Counted s from (i + 1) (o - 1)
   counted-end mark =
       let l = c .later in
       goes-on (i + 1) (o - 1) (omega (arith, counted-within)) (omega arith) (λ r k. left-end s i o r some k mark)
 
+  -- After a byte that is no quotation mark and no bracket, as many brackets are open as before it.
   pub counted-other : (getD s i 0 ≡ 0x22 → ⊥) → (Opens (getD s i 0) → ⊥) → (Ends (getD s i 0) → ⊥) → Counted s from (i + 1) o
   counted-other q a b =
       let l = c .later in

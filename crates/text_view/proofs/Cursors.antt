@@ -24,6 +24,7 @@ use Rattle.text_view.proofs.Strings.{member-key}
 
 -- the elements of an array, and the members of an object
 module _ (s : List ℕ) (at d : ℕ) where
+  -- Where an array stands the depth is above 0, and its elements stand before the cursor after its opening mark.
   pub array-elements : (vs : Values) → ValueAt s at d (array vs) → (0 < d) × ElementsLeft s (record { at = at + 1; depth = d - 1 }) vs
   unfolding kindOf content
   array-elements vs v =
@@ -31,6 +32,7 @@ module _ (s : List ℕ) (at d : ℕ) where
       let e : contents (elements (o .trees)) ≡ vs = cc (ap content (o .tree), v .means) in
       (o .some, record { trees = o .trees; rest = v .rest; derives = o .items; means = e })
 
+  -- Where an object stands the depth is above 0, and its members stand before the cursor after its opening mark.
   pub object-members : (fs : Fields) → ValueAt s at d (object fs) → (0 < d) × MembersLeft s (record { at = at + 1; depth = d - 1 }) fs
   unfolding kindOf content
   object-members fs v =
@@ -43,6 +45,7 @@ module _ (s : List ℕ) (at d : ℕ) where
   unfolding kindOf
   array-ends vs v e l = kind-ends s at d false (kind-at s at d (array vs) v) e l
 
+  -- An object ends where its members, which stand after its opening mark, end.
   pub object-ends : (fs : Fields) → ValueAt s at d (object fs) → (e : ℕ) → ListEndsAt s (at + 1) (d - 1) true e → EndsAt s at d e
   unfolding kindOf
   object-ends fs v e l = kind-ends s at d true (kind-at s at d (object fs) v) e l
@@ -97,16 +100,19 @@ module _ (s : List ℕ) (c : Elements) where
   empty-elements [] e = refl
   empty-elements (t ∷ ts) e = let z : _≡_ {A = ℕ} 0 1 = cc in absurd (omega arith)
 
+  -- Where no element is left before a cursor, only spaces stand between its position and the end mark.
   pub no-elements : (l : ElementsLeft s c no-values) → ListAt s (c .at) (c .depth) false [] (l .rest)
   no-elements l = rw (empty-elements (l .trees) (l .means)) at (l .derives)
 
   module _ (vs : Values) (l : ElementsLeft s c vs) where
+    -- If reading finds an item's value at `v` and the others from `n` on, the first element and the other elements stand there.
     pub gives-element : (p v n : ℕ) → Given s (c .at) (c .depth) false p v n → GivesElement s c vs (ElementAt v (record { at = n; depth = c .depth }))
     gives-element p v n g =
         let h = l .derives in
         let m = same-end s (c .at) (c .depth) false p v n g (l .trees) (l .rest) h in
         rw (l .means) at (element-of (l .trees) (l .rest) p v n (g (l .trees) (l .rest) h) m)
 
+    -- If reading an item finds the end mark, no element is left.
     pub gives-no-element : (e : ℕ) → Gives s (c .at) (c .depth) false (l .trees) (l .rest) (End e) → GivesElement s c vs NoElement
     gives-no-element e g = rw (l .means) at (no-element (l .trees) (l .rest) e g)
 
@@ -164,21 +170,26 @@ module _ (s : List ℕ) (c : Members) where
   empty-members [] e = refl
   empty-members (t ∷ ts) e = let z : _≡_ {A = ℕ} 0 1 = cc in absurd (omega arith)
 
+  -- Where no member is left before a cursor, only spaces stand between its position and the end mark.
   pub no-members : (l : MembersLeft s c no-fields) → ListAt s (c .at) (c .depth) true [] (l .rest)
   no-members l = rw (empty-members (l .trees) (l .means)) at (l .derives)
 
   module _ (fs : Fields) (l : MembersLeft s c fs) where
+    -- If looking for an item finds it at `p` and its value at `v`, the first member's key and value stand there.
     pub gives-head : (p v : ℕ) → Peeks s (c .at) (c .depth) true (l .trees) (PeekAt p v) → GivesHead s c fs (HeadAt p v)
     gives-head p v g = rw (l .means) at (head-of (l .trees) p v g)
 
+    -- If looking for an item finds the end mark, no member is left.
     pub gives-no-head : Peeks s (c .at) (c .depth) true (l .trees) PeekEnd → GivesHead s c fs NoHead
     gives-no-head g = rw (l .means) at (no-head (l .trees) g)
 
+    -- If reading finds an item at `p`, its value at `v` and the others from `n` on, the first member and the others stand there.
     pub gives-member : (p v n : ℕ) → Given s (c .at) (c .depth) true p v n → GivesMember s c fs (MemberAt p v (record { at = n; depth = c .depth }))
     gives-member p v n g =
         let h = l .derives in
         let x = same-end s (c .at) (c .depth) true p v n g (l .trees) (l .rest) h in
         rw (l .means) at (member-of (l .trees) (l .rest) p v n (g (l .trees) (l .rest) h) x)
 
+    -- If reading an item finds the end mark, no member is left.
     pub gives-no-member : (e : ℕ) → Gives s (c .at) (c .depth) true (l .trees) (l .rest) (End e) → GivesMember s c fs NoMember
     gives-no-member e g = rw (l .means) at (no-member (l .trees) (l .rest) e g)

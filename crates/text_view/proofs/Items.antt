@@ -13,7 +13,8 @@ use Rattle.text_json.proofs.Places.{drop-next}
 use Rattle.text_json.proofs.Grammar.Ends.{Inside, inside-length}
 use Rattle.text_json.proofs.Grammar.Rests.{value-inside, value-ends, pair-inside}
 use Rattle.text_json.proofs.Grammar.Bytes.{both-ways}
-use Rattle.text_json.proofs.Grammar.Complete.{Closes, isFirst, bracket-closes, brace-closes, comma-stops, comma-no-space, space-stops, spaces-complete, first-no-space, value-first, string-begins}
+use Rattle.text_json.proofs.Grammar.Complete.{Closes, isFirst, bracket-closes, brace-closes, comma-stops, comma-no-space, space-stops, spaces-complete}
+use Rattle.text_json.proofs.Grammar.Complete.{first-no-space, value-first, string-begins}
 use Rattle.text_strings.specs.InString.{Inside as InsideString}
 use Rattle.text_view.specs.Place.{StringEndsAt}
 use Rattle.text_view.specs.Listed.{Tree, DerivesItem, endMark, ListAt, SomeItem, ItemValue}
@@ -31,10 +32,12 @@ item-first : (object : Bool) (d : ℕ) (l : List ℕ) (t : Tree object) (r : Lis
 item-first false d l t r p = value-first d l t r p
 item-first true d l t r p = pair-begins d p
 
+-- What follows an item is an end of the text from the item on that leaves out at least its first byte.
 pub item-inside : (object : Bool) (d : ℕ) (l : List ℕ) (t : Tree object) (r : List ℕ) → DerivesItem object d l t r → Inside r l
 item-inside false d l t r p = value-inside d l t r p
 item-inside true d l t r p = pair-inside (value-ends d) l t r p
 
+-- The position of an item is below the text's length.
 pub item-within : (s : List ℕ) (p : ℕ) (object : Bool) (d : ℕ) (t : Tree object) (r : List ℕ) → DerivesItem object d (drop p s) t r → p < length s
 item-within s p object d t r h = omega (arith, length-drop p s, inside-length (item-inside object d (drop p s) t r h))
 
@@ -82,6 +85,7 @@ module _ (s : List ℕ) (p d : ℕ) (object : Bool) where
       items-first (Items.last h q w) = item-first object d _ _ _ h
       items-first (Items.next h q w i j) = item-first object d _ _ _ h
 
+  -- After the spaces at the start of a list stands its end mark or its first item.
   pub started : (at : ℕ) (ts : List (Tree object)) (r : List ℕ) → spaces (drop at s) ≡ drop p s → ListAt s at d object ts r
       → Started s p d object ts r
   started at ts r e h = started-list (drop at s) r ts e h
@@ -93,6 +97,7 @@ pub data Next (s : List ℕ) (q d : ℕ) (object : Bool) : List (Tree object) �
       → Next s q d object ts r
 
 module _ (s : List ℕ) (q d : ℕ) (object : Bool) where
+  -- After the spaces that follow an item stands the end mark, or a comma and the other items.
   pub next : (l r : List ℕ) (ts : List (Tree object)) → spaces l ≡ drop q s → Followed object d l ts r → Next s q d object ts r
   next l r ts e (last b f h) =
       let k : drop q s ≡ b ∷ r = sym e ∙ spaces-complete h (rw f (closes object .no-space)) in
@@ -115,6 +120,7 @@ colon-no-space = refl
 pair-chars : (s : List ℕ) (p d : ℕ) {m : Member} {r : List ℕ} → Pair (Derives d) (drop p s) m r → (cs : List Char) × (l : List ℕ) × Chars (drop (p + 1) s) cs l
 pair-chars s p d (Pair.pair {s₁ = l} {cs = cs} k q c i j) = (cs, l, string-chars s p cs l k)
 
+-- The position after the first byte of a member is inside a string.
 pub key-inside : (s : List ℕ) (p : ℕ) (object : Bool) → not object ≡ false → SomeItem s p object → InsideString s (p + 1)
 key-inside s p true n here = let k = pair-chars s p (here .depth) (here .derives) in chars-inside s (p + 1) (k .0) (k .1) (k .2)
 key-inside s p false n here = both-ways refl n
@@ -138,10 +144,12 @@ module _ (s : List ℕ) (p e : ℕ) (ends : StringEndsAt s (p + 1) e) where
         let z : o ≡ drop v s = sym (spaces-complete i (first-no-space o (value-first d o t r j))) ∙ ap spaces (sym y) ∙ x in
         rw (← z) j
 
+  -- The position after a member's key and the spaces that follow it is below the text's length.
   pub member-colon : (object : Bool) → not object ≡ false → SomeItem s p object → (c : ℕ) → spaces (drop e s) ≡ drop c s → c < length s
   member-colon true n here c a = pair-colon c a (here .depth) (here .derives)
   member-colon false n here c a = both-ways refl n
 
+  -- A member's value stands after its key, spaces, a colon and spaces.
   pub member-value : (object : Bool) → not object ≡ false → (c v : ℕ) → p ≤ v → spaces (drop e s) ≡ drop c s → spaces (drop (c + 1) s) ≡ drop v s
       → ItemValue s p object v
   member-value true n c v l a x = record { later = l; value = pair-value c a v x }

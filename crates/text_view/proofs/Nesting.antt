@@ -10,9 +10,10 @@ use lib.ListN.{length, drop, getD, length-drop}
 use borrow.Author.Tests.{ne-eqb, eqb-true}
 use Rattle.text_json.specs.Bytes.{isDigit, isExp, isSign, isSpace}
 use Rattle.text_json.specs.Syntax.{Syntax, Char, Numeral, Member}
-use Rattle.text_json.specs.Grammar.{Space, Word, Digits, SomeDigits, Int, Frac, Exp, Unsigned, Number, Chars, String, Scalar, Items, Listed, Pair, Nested, Value as Derives}
-use Rattle.text_json.specs.Measure.{every}
-use Rattle.text_json.proofs.Numerals.{digit-range}
+use Rattle.text_json.specs.Grammar.{Space, Word, Digits, SomeDigits, Int, Frac, Exp, Unsigned, Number, Chars, String, Scalar, Items, Listed, Pair, Nested}
+use Rattle.text_json.specs.Grammar.{Value as Derives}
+use Rattle.text_chars.specs.Measure.{every}
+use Rattle.text_numbers.proofs.Numerals.{digit-range}
 use Rattle.text_json.proofs.Grammar.Ends.{inside-length}
 use Rattle.text_json.proofs.Grammar.Rests.{chars-inside}
 use Rattle.text_json.proofs.Grammar.Bytes.{both-ways, or-cases, space-cases, exp-cases}
@@ -169,6 +170,7 @@ pub list-closes : (s : List ℕ) (at d : ℕ) (object : Bool) (ts : List (Tree o
 list-closes s at d false ts r h = listed-end (value-passes d) (inl refl) h 0 r (done refl)
 list-closes s at d true ts r h = listed-end (pair-passes (value-passes d)) (inr refl) h 0 r (done refl)
 
+-- A text that closes `o` open brackets has at least `o` bytes.
 pub closes-length : {o : ℕ} {l r : List ℕ} → Closes o l r → o ≤ length l
 closes-length (done e) = omega arith
 closes-length (string h e c k) = omega (arith, inside-length (chars-inside c), closes-length k)
@@ -176,6 +178,7 @@ closes-length (opens h e k) = omega (arith, closes-length k)
 closes-length (ends h e k) = omega (arith, closes-length k)
 closes-length (other h e k) = omega (arith, closes-length k)
 
+-- Where no bracket is open, the text after closing all brackets is the text itself.
 pub closed : {o : ℕ} {l r : List ℕ} → o ≡ 0 → Closes o l r → r ≡ l
 closed e (done f) = refl
 closed e (string h f c k) = absurd (omega arith)
@@ -203,23 +206,27 @@ other-apart : {C : Type 0} (b c : ℕ) → isOther b ≡ true → b ≡ c → is
 other-apart b c e f g = both-ways (ap isOther (sym f) ∙ e) g
 
 opens-apart : {C : Type 0} (b : ℕ) → Opens b → Ends b → C
-opens-apart b e f = ⊎-elim (λ x. ⊎-elim (λ y. absurd (omega arith)) (λ y. absurd (omega arith)) f) (λ x. ⊎-elim (λ y. absurd (omega arith)) (λ y. absurd (omega arith)) f) e
+opens-apart b e f = ⊎-elim (λ x. ⊎-elim (λ y. absurd (omega arith)) (λ y. absurd (omega arith)) f)
+    (λ x. ⊎-elim (λ y. absurd (omega arith)) (λ y. absurd (omega arith)) f) e
 
 quote-apart : {C : Type 0} (b : ℕ) → b ≡ 0x22 → Opens b ⊎ Ends b → C
 quote-apart b q e = ⊎-elim (⊎-elim (λ x. absurd (omega arith)) (λ x. absurd (omega arith))) (⊎-elim (λ x. absurd (omega arith)) (λ x. absurd (omega arith))) e
 
 other-no-mark : {C : Type 0} (b : ℕ) → isOther b ≡ true → Opens b ⊎ Ends b → C
 unfolding isOther
-other-no-mark b e m = ⊎-elim (⊎-elim (λ x. other-apart b 0x5B e x refl) (λ x. other-apart b 0x7B e x refl)) (⊎-elim (λ x. other-apart b 0x5D e x refl) (λ x. other-apart b 0x7D e x refl)) m
+other-no-mark b e m = ⊎-elim (⊎-elim (λ x. other-apart b 0x5B e x refl) (λ x. other-apart b 0x7B e x refl))
+    (⊎-elim (λ x. other-apart b 0x5D e x refl) (λ x. other-apart b 0x7D e x refl)) m
 
 -- what is left after the byte at position i, with some brackets open
 module _ (s : List ℕ) (i o : ℕ) (r : List ℕ) (some : 0 < o) (left : Closes o (drop i s) r) where
   here : At s i o (getD s i 0) r
   here = at-of s i o (drop i s) r refl some left
 
+  -- Where a bracket is open, the position is below the text's length.
   pub left-within : i < length s
   left-within = omega (arith, length-drop i s, closes-length left)
 
+  -- At a quotation mark a string begins, and after it as many brackets are still to be closed.
   pub left-string : getD s i 0 ≡ 0x22 → (cs : List Char) × (m : List ℕ) × Chars (drop (i + 1) s) cs m × Closes o m r
   unfolding isOther
   left-string q = go here
@@ -230,6 +237,7 @@ module _ (s : List ℕ) (i o : ℕ) (r : List ℕ) (some : 0 < o) (left : Closes
       go (at-end e k) = quote-apart _ q (inr e)
       go (at-other e k) = other-apart _ 0x22 e q refl
 
+  -- After an opening bracket one bracket more is to be closed.
   pub left-open : Opens (getD s i 0) → Closes (o + 1) (drop (i + 1) s) r
   left-open m = go here
     where
@@ -239,6 +247,7 @@ module _ (s : List ℕ) (i o : ℕ) (r : List ℕ) (some : 0 < o) (left : Closes
       go (at-end e k) = opens-apart _ m e
       go (at-other e k) = other-no-mark _ e (inl m)
 
+  -- After a closing bracket one bracket fewer is to be closed.
   pub left-end : Ends (getD s i 0) → Closes (o - 1) (drop (i + 1) s) r
   left-end m = go here
     where
@@ -248,6 +257,7 @@ module _ (s : List ℕ) (i o : ℕ) (r : List ℕ) (some : 0 < o) (left : Closes
       go (at-end e k) = k
       go (at-other e k) = other-no-mark _ e (inr m)
 
+  -- After a byte that is no quotation mark and no bracket, as many brackets are still to be closed.
   pub left-other : (getD s i 0 ≡ 0x22 → ⊥) → (Opens (getD s i 0) → ⊥) → (Ends (getD s i 0) → ⊥) → Closes o (drop (i + 1) s) r
   left-other q a b = go here
     where

@@ -12,10 +12,10 @@ use Rattle.text_json.specs.Syntax.{Syntax, Numeral}
 use Rattle.text_json.specs.Grammar.{Scalar, Nested, Value as Derives, Stops}
 use Rattle.text_json.specs.Read.{Read, found, stuck, andThen, readInt, readUnsigned, readNumber}
 use Rattle.text_json.specs.Content.{decimal}
-use Rattle.text_json.specs.Parts.{Ints, signs, readTail}
-use Rattle.text_json.specs.declared.number.Int.the-variants.{Digits, NoInt}
-use Rattle.text_json.proofs.NumberSteps.{number-minus, number-plain}
-use Rattle.text_json.proofs.Numerals.{unsigned-tail, unsigned-stuck}
+use Rattle.text_numbers.specs.Parts.{Ints, signs, readTail}
+use Rattle.text_numbers.specs.declared.Int.the-variants.{Digits, NoInt}
+use Rattle.text_numbers.proofs.NumberSteps.{number-minus, number-plain}
+use Rattle.text_numbers.proofs.Numerals.{unsigned-tail, unsigned-stuck}
 use Rattle.text_json.proofs.Grammar.Complete.{number-complete}
 use Rattle.text_content.specs.Value.{number, content}
 use Rattle.text_view.specs.Place.{ValueAt}
@@ -73,6 +73,7 @@ number-int s at false n r w e f =
     rw (add-zero at) (unsigned-int false (drop at s) _ n r refl (sym (number-plain s at w (eqb-false (getD s at 0) 0x2D e)) ∙ f))
 
 module _ (s : List ℕ) (at d : ℕ) (n : Bool) (ds : List ℕ) (v : ValueAt s at d (number n ds)) where
+  -- A number's first byte is a minus sign exactly where it is negative, and after the sign its digits are read.
   pub number-parts : (eqb (getD s at 0) 0x2D ≡ n) × ((q : List ℕ) × (readInt (drop (at + signs (eqb (getD s at 0) 0x2D)) s) ≡ found ds q))
   number-parts =
       let p = value-number n ds d (drop at s) (v .tree) (v .rest) (v .means) (v .stops) (v .derives) in
@@ -81,6 +82,7 @@ module _ (s : List ℕ) (at d : ℕ) (n : Bool) (ds : List ℕ) (v : ValueAt s a
 
 -- what `int_part` finds of digits that stand for less than 2 ^ 32
 module _ (s : List ℕ) (i j : ℕ) (is : j ≡ i) (ds q : List ℕ) (reads : readInt (drop i s) ≡ found ds q) where
+  -- Where the digits stand for a number of at most 32 bits, the value that is found is that number.
   pub int-value : (e v : ℕ) → decimal ds < 2 ^ 32 → Ints s j (Digits e v) → v ≡ decimal ds
   int-value e v small h =
       let f : h .digits ≡ ds = cc (rw is at (h .read)) in
@@ -88,5 +90,6 @@ module _ (s : List ℕ) (i j : ℕ) (is : j ≡ i) (ds q : List ℕ) (reads : re
       let k = h .value in
       omega arith
 
+  -- Where digits are read, it cannot be answered that there are none.
   pub no-int : {C : Type 0} (e : ℕ) → Ints s j (NoInt e) → C
   no-int e h = let f = rw is at (h .read) in let z : _≡_ {A = ℕ} 0 1 = cc in absurd (omega arith)

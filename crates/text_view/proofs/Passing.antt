@@ -13,8 +13,8 @@ use Rattle.text_json.specs.Bytes.{isUnescaped}
 use Rattle.text_json.specs.Syntax.{Char}
 use Rattle.text_json.specs.Grammar.{Chars, String}
 use Rattle.text_json.specs.Content.{unescape}
-use Rattle.text_json.specs.Measure.{isUnmarked, every}
-use Rattle.text_json.proofs.Plain.{every-at, unmarked}
+use Rattle.text_chars.specs.Measure.{isUnmarked, every}
+use Rattle.text_chars.proofs.Plain.{every-at, unmarked}
 use Rattle.text_json.proofs.Grammar.Bytes.{both-ways}
 use Rattle.text_strings.specs.InString.{Inside, EscapeAt}
 use Rattle.text_strings.proofs.Views.{View, at-close, at-byte, at-short, at-hex, view}
@@ -26,6 +26,7 @@ use Rattle.text_view.proofs.Values.{begins}
 pub chars-inside : (s : List ℕ) (i : ℕ) (cs : List Char) (r : List ℕ) → Chars (drop i s) cs r → Inside s i
 chars-inside s i cs r d = record { bytes = unescape cs; here = record { chars = cs; rest = r; reads = d; content = refl } }
 
+-- A position inside a string is below the text's length.
 pub inside-within : (s : List ℕ) (i : ℕ) → Inside s i → i < length s
 inside-within s i p = let h = p .here in char-within s i (h .chars) (h .rest) (view s i (h .chars) (h .rest) (h .reads))
 
@@ -33,6 +34,7 @@ inside-within s i p = let h = p .here in char-within s i (h .chars) (h .rest) (v
 string-after : (s : List ℕ) (p : ℕ) (l : List ℕ) (cs : List Char) (r : List ℕ) → drop p s ≡ l → String l cs r → Chars (drop (p + 1) s) cs r
 string-after s p l cs r e (String.quoted {q = b} {s = m} f k) = rw (begins s p b m e .next) k
 
+-- The chars of a string stand from the position after its quotation mark on.
 pub string-chars : (s : List ℕ) (p : ℕ) (cs : List Char) (r : List ℕ) → String (drop p s) cs r → Chars (drop (p + 1) s) cs r
 string-chars s p cs r k = string-after s p (drop p s) cs r refl k
 
@@ -46,9 +48,11 @@ pub record Reaches (s : List ℕ) (from i : ℕ) : Type 0 where
   pub inside : Inside s i
   pub rest : Onward s from i
 
+-- A position inside a string is reached from itself.
 pub reaches-start : (s : List ℕ) (from : ℕ) → Inside s from → Reaches s from from
 reaches-start s from p = record { later = omega arith; inside = p; rest = λ cs r d. (cs, d) }
 
+-- At a backslash inside a string stands an escape.
 pub escape-here : (s : List ℕ) (i : ℕ) → Inside s i → getD s i 0 ≡ 0x5C → EscapeAt s i
 escape-here s i p e = record { left = p .bytes; inside = p .here; backslash = e }
 
@@ -76,6 +80,7 @@ module _ (s : List ℕ) (i n : ℕ) (e : unmarkedRun n (drop i s) ≡ true) wher
       unmarked (getD s (i + m) 0)
       (rw (getD-take n (drop i s) m 0 h, getD-drop i s m 0) at (every-at isUnmarked (take n (drop i s)) m (parts .1) l))
 
+  -- A run of `n` bytes that are no quotation mark and no backslash ends within the text.
   pub run-fits : i ≤ length s → i + n ≤ length s
   run-fits h = let l = rw (length-drop i s) at (parts .0) in omega arith
 
@@ -92,10 +97,12 @@ module _ (s : List ℕ) (i n : ℕ) (e : unmarkedRun n (drop i s) ≡ true) wher
 
 -- the test of n bytes, by how many are left
 module _ (n : ℕ) (xs : List ℕ) where
+  -- The test of `n` bytes fails where fewer are left.
   pub run-short : length xs < n → false ≡ unmarkedRun n xs
   unfolding unmarkedRun
   run-short h = rw (lt-leb n (length xs) h)
 
+  -- Where `n` bytes are left, the test asks whether each of them is neither a quotation mark nor a backslash.
   pub run-enough : n ≤ length xs → every isUnmarked (take n xs) ≡ unmarkedRun n xs
   unfolding unmarkedRun
   run-enough h = rw (le-leb n (length xs) h)
@@ -105,6 +112,7 @@ module _ (s : List ℕ) (i : ℕ) (p : EscapeAt s i) where
   here : AtEscape s i (p .inside .chars) (p .inside .rest)
   here = at-escape s i (p .inside .chars) (p .inside .rest) (p .backslash) (p .inside .reads)
 
+  -- An escape with a `u` after its backslash ends after six bytes.
   pub escape-six : getD s (i + 1) 0 ≡ 0x75 → CharEndsAt s i (i + 6)
   escape-six u = record { later = omega arith; within = fits here; rest = λ cs r d. go cs r (at-escape s i cs r (p .backslash) d) }
     where
@@ -116,6 +124,7 @@ module _ (s : List ℕ) (i : ℕ) (p : EscapeAt s i) where
       go cs r (two ds l e f d) = absurd (short-small (getD s (i + 1) 0) e .1 u)
       go cs r (six ds h x f d) = (_, ds, f, d)
 
+  -- An escape with no `u` after its backslash ends after two bytes.
   pub escape-two : (getD s (i + 1) 0 ≡ 0x75 → ⊥) → CharEndsAt s i (i + 2)
   escape-two n = record { later = omega arith; within = fits here; rest = λ cs r d. go cs r (at-escape s i cs r (p .backslash) d) }
     where
@@ -149,15 +158,19 @@ module _ (s : List ℕ) (from i : ℕ) (p : Reaches s from i) where
         rest = λ cs r d. let j = p .rest cs r d in on (j .0) r (j .1);
       }
 
+  -- Where a byte is no quotation mark and no backslash, the position after it is reached too.
   pub reaches-byte : (getD s i 0 ≡ 0x22 → ⊥) → (getD s i 0 ≡ 0x5C → ⊥) → Reaches s from (i + 1)
   reaches-byte a b = reaches-on (i + 1) (omega arith) (byte-passed s i a b)
 
+  -- The position after a char of the string is reached too.
   pub reaches-char : (e : ℕ) → CharEndsAt s i e → Reaches s from e
   reaches-char e h = let l = h .later in reaches-on e (omega arith) (λ cs r d. let k = h .rest cs r d in (k .1, k .3))
 
+  -- The position after a run of bytes that are no quotation mark and no backslash is reached too.
   pub reaches-run : (n : ℕ) → unmarkedRun n (drop i s) ≡ true → Reaches s from (i + n)
   reaches-run n e = reaches-on (i + n) (omega arith) (run-passed s i n e)
 
+  -- Where a quotation mark is reached, the string ends after it.
   pub reaches-close : getD s i 0 ≡ 0x22 → StringEndsAt s from (i + 1)
   reaches-close e =
       let l = p .later in
@@ -167,6 +180,7 @@ module _ (s : List ℕ) (from i : ℕ) (p : Reaches s from i) where
         rest = λ cs r d. let j = p .rest cs r d in closed s i (drop i s) (j .0) r refl e (j .1);
       }
 
+  -- Where the string ends that goes on at the position reached, the string from the start position ends too.
   pub reaches-end : (e : ℕ) → StringEndsAt s i e → StringEndsAt s from e
   reaches-end e h =
       let l = p .later in

@@ -108,18 +108,23 @@ module _ (s : List ℕ) (at : ℕ) (here : ScalarAt s at) where
   abbrev seen : View s at (getD s at 0) (here .rest)
   seen = view (here .tree) (here .rest) (here .derives)
 
+  -- The position of a value that is neither an array nor an object is below the text's length.
   pub scalar-within : at < length s
   scalar-within = omega (arith, length-drop at s, inside-length (scalar-inside (here .derives)))
 
+  -- Such a value ends after four bytes where it begins with `n` or `t`.
   pub ends-four : (getD s at 0 ≡ 0x6E) ⊎ (getD s at 0 ≡ 0x74) → EndsAt s at 0 (at + 4)
   ends-four k = record { later = omega arith; within = four s at _ _ seen k .1; rest = λ t r p h. four s at _ r (view t r p) k .0 }
 
+  -- It ends after five bytes where it begins with `f`.
   pub ends-five : getD s at 0 ≡ 0x66 → EndsAt s at 0 (at + 5)
   ends-five k = record { later = omega arith; within = five s at _ _ seen k .1; rest = λ t r p h. five s at _ r (view t r p) k .0 }
 
+  -- Where it begins with a quotation mark, the next position is inside a string.
   pub string-inside : getD s at 0 ≡ 0x22 → Inside s (at + 1)
   string-inside k = let p = string-here s at _ _ seen k in chars-inside s (at + 1) (p .0) (here .rest) (string-chars s at (p .0) (here .rest) (p .1))
 
+  -- Where it begins with a quotation mark, it ends where the string after that mark ends.
   pub ends-string : (e : ℕ) → StringEndsAt s (at + 1) e → getD s at 0 ≡ 0x22 → EndsAt s at 0 e
   ends-string e h k =
       let l = h .later in
@@ -129,6 +134,7 @@ module _ (s : List ℕ) (at : ℕ) (here : ScalarAt s at) where
         rest = λ t r q _. let p = string-here s at _ r (view t r q) k in h .rest (p .0) r (string-chars s at (p .0) r (p .1));
       }
 
+  -- Where it begins with none of these bytes, it ends where the number that is read there ends.
   pub ends-number : (scan : Scan) → Within at scan → ((getD s at 0 ≡ 0x6E) ⊎ (getD s at 0 ≡ 0x74) → ⊥) → (getD s at 0 ≡ 0x66 → ⊥) → (getD s at 0 ≡ 0x22 → ⊥)
       → Scans refusedNumber numeralSize s (readNumber (drop at s)) scan → EndsAt s at 0 (endOf scan)
   ends-number scan within i j k h =

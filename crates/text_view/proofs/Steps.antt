@@ -12,7 +12,8 @@ use Rattle.text_json.proofs.Grammar.Ends.{inside-length, ends-length}
 use Rattle.text_json.proofs.Grammar.Rests.{space-ends, word-inside}
 use Rattle.text_content.specs.Value.{content}
 use Rattle.text_view.specs.Place.{Readable, EndsAt, ScalarAt}
-use Rattle.text_view.specs.Listed.{Tree, valueTree, DerivesItem, openMark, endMark, ListAt, SomeList, AnyList, ListEndsAt, SomeItem, ItemValue, ItemAt, SomeItemEnd, NoItems, Gives, Peeks}
+use Rattle.text_view.specs.Listed.{Tree, valueTree, DerivesItem, openMark, endMark, ListAt, SomeList, AnyList, ListEndsAt, SomeItem, ItemValue, ItemAt}
+use Rattle.text_view.specs.Listed.{SomeItemEnd, NoItems, Gives, Peeks}
 use Rattle.text_view.specs.declared.value.Item.the-variants.{At, End}
 use Rattle.text_view.specs.declared.value.Peek.the-variants.{At as PeekAt, End as PeekEnd}
 use Rattle.text_view.proofs.Values.{value-within, opened, is-scalar, kindAt, openKind, open-kind, opened-as}
@@ -21,6 +22,7 @@ use Rattle.text_view.proofs.Items.{item-inside, Started, started, ended
 
 -- a value: its items, or that it is a scalar
 module _ (s : List ℕ) (at d : ℕ) where
+  -- The position of a value is below the text's length.
   pub readable-within : Readable s at d → at < length s
   readable-within p = let h = p .here in value-within s at d (h .tree) (h .rest) (h .derives)
 
@@ -50,6 +52,7 @@ module _ (s : List ℕ) (at d : ℕ) where
       ⊎-elim (λ e. record { depth = d - 1; object = false; list = readable-list false e p })
       (λ e. record { depth = d - 1; object = true; list = readable-list true e p }) k
 
+  -- A value that begins with an opening mark ends where the items after that mark end.
   pub nested-ends : Opens (getD s at 0) → (e : ℕ) → ((x : ℕ) (object : Bool) → ListEndsAt s (at + 1) x object e) → EndsAt s at d e
   nested-ends k e h = ⊎-elim (λ q. list-ends false q e (h (d - 1) false)) (λ q. list-ends true q e (h (d - 1) true)) k
 
@@ -60,11 +63,13 @@ module _ (s : List ℕ) (at d : ℕ) where
     object : getD s at 0 ≡ 0x7B → ⊥
     object e = mark (inr e)
 
+    -- A value that begins with no opening mark is neither an array nor an object.
     pub readable-scalar : Readable s at d → ScalarAt s at
     readable-scalar p =
         let h = p .here in
         record { tree = h .tree; rest = h .rest; derives = is-scalar s at d (h .tree) (h .rest) array object (h .derives); stops = h .stops }
 
+    -- Where such a value ends as one of depth 0, it ends as one of any depth.
     pub scalar-ends : (e : ℕ) → EndsAt s at 0 e → EndsAt s at d e
     scalar-ends e h =
         record { later = h .later; within = h .within; rest = λ t r p stops. h .rest t r (is-scalar s at d t r array object p) stops }
@@ -74,6 +79,7 @@ list-length object d (Listed.empty p q) = omega (arith, ends-length (space-ends 
 list-length object d (Listed.items p (Items.last h q w)) = omega (arith, ends-length (space-ends p), inside-length (item-inside object d _ _ _ h))
 list-length object d (Listed.items p (Items.next h q w i j)) = omega (arith, ends-length (space-ends p), inside-length (item-inside object d _ _ _ h))
 
+-- A position from which items and their end mark stand is below the text's length.
 pub list-within : (s : List ℕ) (at d : ℕ) (object : Bool) (ts : List (Tree object)) (r : List ℕ) → ListAt s at d object ts r → at < length s
 list-within s at d object ts r h = omega (arith, length-drop at s, list-length object d h)
 
@@ -83,15 +89,18 @@ pub data Taken (s : List ℕ) (p v q d : ℕ) (object : Bool) : List (Tree objec
       → Derives d (drop v s) (valueTree object t) l → Stops l → Next s q d object ts r → Taken s p v q d object (t ∷ ts) r
 
 module _ (s : List ℕ) (p d : ℕ) (object : Bool) where
+  -- The position of the end mark or of the first item is below the text's length.
   pub started-within : (ts : List (Tree object)) (r : List ℕ) → Started s p d object ts r → p < length s
   started-within ts r (ended w e f) = w
   started-within ts r (item l w n h i j) = w
 
+  -- At the end mark, reading gives no item but the position after the mark.
   pub gives-end : (at : ℕ) (ts : List (Tree object)) (r : List ℕ) → at ≤ p → getD s p 0 ≡ endMark object → Started s p d object ts r
       → Gives s at d object ts r (End (p + 1))
   gives-end at ts r a e (ended w f g) = (omega arith, omega arith, g)
   gives-end at ts r a e (item l w n h i j) = absurd (n e)
 
+  -- At the end mark, looking for an item gives none.
   pub peeks-end : (at : ℕ) (ts : List (Tree object)) (r : List ℕ) → getD s p 0 ≡ endMark object → Started s p d object ts r
       → Peeks s at d object ts PeekEnd
   peeks-end at ts r e (ended w f g) = tt
@@ -101,16 +110,19 @@ module _ (s : List ℕ) (p d : ℕ) (object : Bool) where
   pub ended-here : (r : List ℕ) → Started s p d object [] r → (p < length s) × (getD s p 0 ≡ endMark object)
   ended-here r (ended w e f) = (w, e)
 
+  -- Where the end mark stands, what follows the items is the text from the next position on.
   pub ended-rest : getD s p 0 ≡ endMark object → (ts : List (Tree object)) (r : List ℕ) → Started s p d object ts r → r ≡ drop (p + 1) s
   ended-rest e ts r (ended w f g) = g
   ended-rest e ts r (item l w n h i j) = absurd (n e)
 
   module _ (more : getD s p 0 ≡ endMark object → ⊥) where
+    -- Where the end mark does not stand, an item stands.
     pub some-item : (ts : List (Tree object)) (r : List ℕ) → Started s p d object ts r → SomeItem s p object
     some-item ts r (ended w e f) = absurd (more e)
     some-item ts r (item {t = t} l w n h i j) = record { depth = d; tree = t; rest = l; derives = h; stops = i }
 
     module _ (v : ℕ) (here : ItemValue s p object v) where
+      -- At the position of that item's value stands a value, nested at most as deep as the items may be.
       pub item-readable : (ts : List (Tree object)) (r : List ℕ) → Started s p d object ts r → Readable s v d
       item-readable ts r (ended w e f) = absurd (more e)
       item-readable ts r (item {t = t} l w n h i j) =
@@ -119,6 +131,7 @@ module _ (s : List ℕ) (p d : ℕ) (object : Bool) where
             here = record { tree = valueTree object t; rest = l; derives = here .value d t l h; stops = i; means = refl };
           }
 
+      -- From a position with only spaces before that item, looking gives the item's position and its value's.
       pub peeks-item : (at : ℕ) → at ≤ p → spaces (drop at s) ≡ drop p s → (ts : List (Tree object)) (r : List ℕ) → Started s p d object ts r
           → Peeks s at d object ts (PeekAt p v)
       peeks-item at a e ts r (ended w f g) = absurd (more f)
@@ -131,6 +144,7 @@ module _ (s : List ℕ) (p d : ℕ) (object : Bool) where
             stops = i;
           }
 
+      -- That item is taken, where its value ends at `e` and the text goes on at `q` after spaces.
       pub take : (e q : ℕ) → EndsAt s v d e → spaces (drop e s) ≡ drop q s → (ts : List (Tree object)) (r : List ℕ) → Started s p d object ts r
           → Taken s p v q d object ts r
       take e q k f ts r (ended w m g) = absurd (more m)
@@ -147,6 +161,7 @@ module _ (s : List ℕ) (p v q d : ℕ) (object : Bool) where
   next-within ts r (at-mark w e h) = w
   next-within ts r (at-comma w e h) = w
 
+  -- The position after a taken item and spaces is below the text's length.
   pub taken-within : (ts : List (Tree object)) (r : List ℕ) → Taken s p v q d object ts r → q < length s
   taken-within ts r (taken {ts = us} l h x i n) = next-within us r n
 
@@ -158,12 +173,14 @@ module _ (s : List ℕ) (p v q d : ℕ) (object : Bool) where
   at-end ts r e (at-mark w f h) = h
   at-end ts r e (at-comma w f h) = absurd (e f)
 
+  -- Where a comma stands at `q` after a taken item, reading gives the item, its value and the position after the comma.
   pub gives-comma : (at : ℕ) (ts : List (Tree object)) (r : List ℕ) → at < q → getD s q 0 ≡ 0x2C → Taken s p v q d object ts r
       → Gives s at d object ts r (At p v (q + 1))
   gives-comma at ts r a e (taken {ts = us} l h x i n) =
       let w = next-within us r n in
       record { after = l; derives = h; value = x; stops = i; others = after-comma us r e n; later = omega arith; within = omega arith }
 
+  -- Where no comma stands at `q` after a taken item, reading gives the item, its value and the position `q`.
   pub gives-last : (at : ℕ) (ts : List (Tree object)) (r : List ℕ) → at < q → (getD s q 0 ≡ 0x2C → ⊥) → Taken s p v q d object ts r
       → Gives s at d object ts r (At p v q)
   gives-last at ts r a e (taken {ts = us} l h x i n) =
@@ -173,10 +190,12 @@ module _ (s : List ℕ) (p v q d : ℕ) (object : Bool) where
 -- What stands at position q, after the value of an item that ends at position e and spaces.
 module _ (s : List ℕ) (at d : ℕ) (object : Bool) (p v : ℕ) (place : ItemAt s at object p v) (e : ℕ) (ends : EndsAt s v d e) where
   module _ (q : ℕ) (past : spaces (drop e s) ≡ drop q s) where
+    -- The first of the items from `at` on, at `p` with its value at `v`, is taken.
     pub item-taken : (ts : List (Tree object)) (r : List ℕ) → ListAt s at d object ts r → Taken s p v q d object ts r
     item-taken ts r h =
         take s p d object (place .more) v (place .value) e q ends past ts r (started s p d object at ts r (place .start) h)
 
+    -- The position after that item and spaces is below the text's length and after the position `at`.
     pub item-next : e ≤ q → (ts : List (Tree object)) (r : List ℕ) → ListAt s at d object ts r → (q < length s) × (at < q)
     item-next l ts r h =
         let a = place .reached in
@@ -192,9 +211,11 @@ some-next s e o q l h =
 
 -- An end mark at position p, after spaces, ends the list that has no item from position `at` on.
 module _ (s : List ℕ) (at p : ℕ) (reached : at ≤ p) (start : spaces (drop at s) ≡ drop p s) where
+  -- The position of that end mark is below the text's length.
   pub empty-within : NoItems s at → p < length s
   empty-within n = ended-here s p (n .depth) (n .object) (n .rest) (started s p (n .depth) (n .object) at [] (n .rest) start (n .here)) .0
 
+  -- A list that has no item ends at the position after that end mark.
   pub empty-ends : (d : ℕ) (object : Bool) (r : List ℕ) → ListAt s at d object [] r → ListEndsAt s at d object (p + 1)
   empty-ends d object r h =
       let x = ended-here s p d object r (started s p d object at [] r start h) in

@@ -11,7 +11,7 @@ use Rattle.text_json.specs.Syntax.{Syntax, Numeral, elements, members}
 use Rattle.text_json.specs.Grammar.{Word, Int, Unsigned, Number, String, Scalar, Nested, Value as Derives, Text}
 use Rattle.text_json.specs.Read.{spaces}
 use Rattle.text_json.proofs.Places.{drop-next}
-use Rattle.text_json.proofs.Numerals.{digit-range}
+use Rattle.text_numbers.proofs.Numerals.{digit-range}
 use Rattle.text_json.proofs.Grammar.Ends.{inside-length}
 use Rattle.text_json.proofs.Grammar.Rests.{value-inside}
 use Rattle.text_json.proofs.Grammar.Bytes.{both-ways}
@@ -28,6 +28,7 @@ pub record Begins (s : List ℕ) (p b : ℕ) (l : List ℕ) : Type 0 where
   pub byte : getD s p 0 ≡ b
   pub next : drop (p + 1) s ≡ l
 
+-- Where the text from a position on is a byte and a rest, the byte stands at the position and the rest after it.
 pub begins : (s : List ℕ) (p b : ℕ) (l : List ℕ) → drop p s ≡ b ∷ l → Begins s p b l
 begins s p b l e =
     let w : p < length s = omega (arith, length-drop p s, ap length e) in
@@ -81,6 +82,7 @@ int-numeric (Int.from-nonzero {b} e f p) = let h = digit-range b e in numeric b 
 unsigned-numeric : {negative : Bool} {l r : List ℕ} {n : Numeral} → Unsigned negative l n r → Numeric l
 unsigned-numeric (Unsigned.unsigned p q e) = int-numeric p
 
+-- A number begins with a byte from the minus sign to the digit nine.
 pub number-numeric : {l r : List ℕ} {n : Numeral} → Number l n r → Numeric l
 number-numeric (Number.plain p) = unsigned-numeric p
 number-numeric (Number.minus {b} e p) = numeric b (omega arith) (omega arith)
@@ -105,6 +107,7 @@ value-kind (suc d) l t r (Nested.is-scalar p) = scalar-kind p
 value-kind (suc d) l t r (Nested.is-array e p) = rw e
 value-kind (suc d) l t r (Nested.is-object e p) = rw e
 
+-- A position at which the grammar finds a value is below the text's length.
 pub value-within : (s : List ℕ) (at d : ℕ) (t : Syntax) (r : List ℕ) → Derives d (drop at s) t r → at < length s
 value-within s at d t r p = omega (arith, length-drop at s, inside-length (value-inside d (drop at s) t r p))
 
@@ -113,9 +116,11 @@ unfolding kindFrom
 kind-tree s at d t r p = sym (ap kindFrom (drop-next s at (value-within s at d t r p))) ∙ value-kind d (drop at s) t r p
 
 module _ (s : List ℕ) (at d : ℕ) (v : Value) (p : ValueAt s at d v) where
+  -- A position at which a value with a content stands is below the text's length.
   pub within : at < length s
   within = value-within s at d (p .tree) (p .rest) (p .derives)
 
+  -- The kind that the first byte of a value tells is the value's kind.
   pub kind-at : kindAt (getD s at 0) ≡ kindOf v
   kind-at = kind-tree s at d (p .tree) (p .rest) (p .derives) ∙ ap kindOf (p .means)
 
@@ -128,6 +133,7 @@ abbrev pub branch : (object : Bool) → List (Tree object) → Syntax
 branch false ts = Syntax.array (elements ts)
 branch true ms = Syntax.object (members ms)
 
+-- The opening mark of an array tells the kind array, and that of an object the kind object.
 pub open-kind : (object : Bool) → kindAt (openMark object) ≡ openKind object
 unfolding kindAt
 open-kind false = refl
@@ -178,12 +184,15 @@ opened-list s at true (suc d) l t r e k (Nested.is-array q p) = let z : _≡_ {A
 opened-list s at false (suc d) l t r e k (Nested.is-object q p) = let z : _≡_ {A = ℕ} 0 1 = cc in absurd (omega arith)
 
 module _ (s : List ℕ) (at d : ℕ) (t : Syntax) (r : List ℕ) (p : Derives d (drop at s) t r) where
+  -- Where the content of a value is an array or an object, its items stand after its first byte.
   pub opened-kind : (object : Bool) → kindOf (content t) ≡ openKind object → Opened s at d object t r
   opened-kind object k = opened-list s at object d (drop at s) t r refl k p
 
+  -- The same where its first byte tells the kind array or object.
   pub opened-as : (object : Bool) → kindAt (getD s at 0) ≡ openKind object → Opened s at d object t r
   opened-as object e = opened-kind object (sym (kind-tree s at d t r p) ∙ e)
 
+  -- The same where its first byte is an opening mark.
   pub opened : (object : Bool) → getD s at 0 ≡ openMark object → Opened s at d object t r
   opened object e = opened-as object (ap kindAt e ∙ open-kind object)
 
@@ -195,6 +204,7 @@ scalar-list s at (suc d) l t r e a o (Nested.is-scalar p) = p
 scalar-list s at (suc d) l t r e a o (Nested.is-array {b} {s = m} q p) = absurd (a (begins s at b m e .byte ∙ q))
 scalar-list s at (suc d) l t r e a o (Nested.is-object {b} {s = m} q p) = absurd (o (begins s at b m e .byte ∙ q))
 
+-- A value that begins with no opening mark is neither an array nor an object.
 pub is-scalar : (s : List ℕ) (at d : ℕ) (t : Syntax) (r : List ℕ) → (getD s at 0 ≡ 0x5B → ⊥) → (getD s at 0 ≡ 0x7B → ⊥)
     → Derives d (drop at s) t r → Scalar (drop at s) t r
 is-scalar s at d t r a o p = scalar-list s at d (drop at s) t r refl a o p

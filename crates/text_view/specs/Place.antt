@@ -8,7 +8,7 @@ use lib.ListN.{length, take, drop}
 use Rattle.text_json.specs.Syntax.{Syntax, Char}
 use Rattle.text_json.specs.Grammar.{Chars, Scalar, Value as Derives, Stops}
 use Rattle.text_json.specs.Content.{decimal}
-use Rattle.text_json.specs.Measure.{isUnmarked, every}
+use Rattle.text_chars.specs.Measure.{isUnmarked, every}
 use Rattle.text_json.specs.declared.Scan.{Scan}
 use Rattle.text_json.specs.declared.Scan.the-variants.{Token, NoToken}
 use Rattle.text_content.specs.Value.{Value, null, boolean, number, string, array, object, content}

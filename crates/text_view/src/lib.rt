@@ -6,7 +6,8 @@ ghost use Prim.Native.Nat.{ℕ, _-_};
 ghost use Rattle.text_content.specs.Value.{Values, no-values, Fields, no-fields, array, object};
 ghost use Rattle.text_view.specs.Place.{ValueAt, EndsAt};
 ghost use Rattle.text_view.specs.Listed.{ListEndsAt};
-ghost use Rattle.text_view.specs.Cursor.{SomeArray, SomeElements, ElementsLeft, GivesElement, SomeObject, SomeMembers, MembersLeft, GivesMember, GivesHead, FirstMember, NextMember, SomeMemberEnd};
+ghost use Rattle.text_view.specs.Cursor.{SomeArray, SomeElements, ElementsLeft, GivesElement, SomeObject, SomeMembers, MembersLeft, GivesMember};
+ghost use Rattle.text_view.specs.Cursor.{GivesHead, FirstMember, NextMember, SomeMemberEnd};
 
 // What a value is; a boolean is told apart already.
 pub enum Kind {

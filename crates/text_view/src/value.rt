@@ -13,8 +13,10 @@ ghost use Rattle.text_json.specs.Scan.{At};
 ghost use Rattle.text_json.specs.Content.{decimal};
 ghost use Rattle.text_strings.specs.InString.{Inside, EscapeAt};
 ghost use Rattle.text_content.specs.Value.{Value, number, content};
-ghost use Rattle.text_view.specs.Place.{ValueAt, Readable, SomeValue, SmallNumber, kindOf, EndsAt, StringEndsAt, CharEndsAt, unmarkedRun, ScalarAt, endOf};
-ghost use Rattle.text_view.specs.Listed.{Tree, ListAt, SomeList, AnyList, ListEndsAt, SomeItem, ItemAt, SomeItemEnd, NoItems, ItemValue, Gives, Peeks, endMark};
+ghost use Rattle.text_view.specs.Place.{ValueAt, Readable, SomeValue, SmallNumber, kindOf, EndsAt, StringEndsAt, CharEndsAt, unmarkedRun, ScalarAt};
+ghost use Rattle.text_view.specs.Place.{endOf};
+ghost use Rattle.text_view.specs.Listed.{Tree, ListAt, SomeList, AnyList, ListEndsAt, SomeItem, ItemAt, SomeItemEnd, NoItems, ItemValue, Gives, Peeks};
+ghost use Rattle.text_view.specs.Listed.{endMark};
 ghost use Rattle.text_view.specs.declared.value.Item.the-variants.{At as ItemIs};
 ghost use mathlib.Core.List.{[]};
 
@@ -45,15 +47,16 @@ pub fn kind(s: &[u8], at: usize) -> Kind
 // The number at a position, whose distance from 0 is below 2^32.
 pub fn whole(s: &[u8], at: usize) -> Whole
     requires { ⌜ SmallNumber (now s) at ⌝ }
-    ensures { λ r. ⌜ ((depth : ℕ) (n : Bool) (ds : List ℕ) → ValueAt (now (s .entry)) at depth (number n ds) → (r .negative ≡ n) × (r .magnitude ≡ decimal ds)) ⌝ }
+    ensures { λ r. ⌜ ((depth : ℕ) (n : Bool) (ds : List ℕ) → ValueAt (now (s .entry)) at depth (number n ds)
+        → (r .negative ≡ n) × (r .magnitude ≡ decimal ds)) ⌝ }
 {
     let negative = s[at] == b'-';
-    match text_json::number::int_part(s, at + text_json::number::sign_size(negative)) {
-        text_json::number::Int::Digits { end: _, value } => Whole {
+    match text_numbers::int_part(s, at + text_numbers::sign_size(negative)) {
+        text_numbers::Int::Digits { end: _, value } => Whole {
             negative,
             magnitude: value as u32,
         },
-        text_json::number::Int::NoInt(_) => Whole {
+        text_numbers::Int::NoInt(_) => Whole {
             negative,
             magnitude: 0,
         },
@@ -99,7 +102,7 @@ fn unmarked_left(s: &[u8], at: usize) -> bool
     if s.len() - at < 16 {
         return false;
     }
-    text_json::string::unmarked16(s, at)
+    text_chars::unmarked16(s, at)
 }
 
 // The position after the escape at `i`: a \u escape has four digits.
@@ -137,7 +140,7 @@ fn eight_left(s: &[u8], at: usize) -> bool
     if s.len() - at < 8 {
         return false;
     }
-    text_json::string::unmarked8(s, at)
+    text_chars::unmarked8(s, at)
 }
 
 // The position after the closing quotation mark of the string whose content goes on at `from`: eight bytes at once where that can be.
@@ -173,7 +176,7 @@ fn scalar_end(s: &[u8], at: usize) -> usize
         b'n' | b't' => at + 4,
         b'f' => at + 5,
         b'"' => string_end(s, at + 1),
-        _ => token_end(text_json::number::number(s, at)),
+        _ => token_end(text_numbers::number(s, at)),
     }
 }
 
@@ -215,7 +218,8 @@ pub fn skip(s: &[u8], at: usize, depth: usize) -> usize
 // The first of the items from `at` on, where what follows it is not asked, and so its value need not be passed.
 pub fn peek_item(s: &[u8], at: usize, depth: usize, object: bool) -> Peek
     requires { ⌜ SomeList (now s) at depth object ⌝ }
-    ensures { λ r. ⌜ ((ts : List (Tree object)) (rest : List ℕ) → ListAt (now (s .entry)) at depth object ts rest → Peeks (now (s .entry)) at depth object ts r) ⌝ }
+    ensures { λ r. ⌜ ((ts : List (Tree object)) (rest : List ℕ) → ListAt (now (s .entry)) at depth object ts rest
+        → Peeks (now (s .entry)) at depth object ts r) ⌝ }
 {
     let first = text_json::space::skip_spaces(s, at);
     if s[first] == end_mark(object) {
@@ -228,7 +232,8 @@ pub fn peek_item(s: &[u8], at: usize, depth: usize, object: bool) -> Peek
 // The first of the items from `at` on.
 pub fn read_item(s: &[u8], at: usize, depth: usize, object: bool) -> Item
     requires { ⌜ SomeList (now s) at depth object ⌝ }
-    ensures { λ r. ⌜ ((ts : List (Tree object)) (rest : List ℕ) → ListAt (now (s .entry)) at depth object ts rest → Gives (now (s .entry)) at depth object ts rest r) ⌝ }
+    ensures { λ r. ⌜ ((ts : List (Tree object)) (rest : List ℕ) → ListAt (now (s .entry)) at depth object ts rest
+        → Gives (now (s .entry)) at depth object ts rest r) ⌝ }
 {
     let first = text_json::space::skip_spaces(s, at);
     if s[first] == end_mark(object) {
@@ -255,7 +260,8 @@ pub fn after_value(s: &[u8], end: usize) -> usize
 // The position after the end mark, where no item is left from `at` on.
 pub fn list_end(s: &[u8], at: usize) -> usize
     requires { ⌜ NoItems (now s) at ⌝ }
-    ensures { λ r. ⌜ ((depth : ℕ) (object : Bool) (rest : List ℕ) → ListAt (now (s .entry)) at depth object [] rest → ListEndsAt (now (s .entry)) at depth object r) ⌝ }
+    ensures { λ r. ⌜ ((depth : ℕ) (object : Bool) (rest : List ℕ) → ListAt (now (s .entry)) at depth object [] rest
+        → ListEndsAt (now (s .entry)) at depth object r) ⌝ }
 {
     text_json::space::skip_spaces(s, at) + 1
 }

@@ -19,7 +19,13 @@ pack-requires c κs =
     let i = now (a .id) in
     let m = now (a .manifest) in
     let b = now (a .buffer) in
-    omega (arith, e .0, e .1 .0, load-number-small i m b (a .used), load-used-small i m b (a .used) (λ k. c .before .before .before .before .slice-known .given k .fits))
+    omega (
+      arith,
+      e .0,
+      e .1 .0,
+      load-number-small i m b (a .used),
+      load-used-small i m b (a .used) (λ k. c .before .before .before .before .slice-known .given k .fits),
+    )
 
 same-length : tie.Need-same-length
 same-length c = search needs

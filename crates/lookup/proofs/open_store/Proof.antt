@@ -31,9 +31,9 @@ open-requires c κs =
     let size = length-take-le 4096 (now (s .args .order)) (omega (arith, p .1)) in (
       length-take-le 4096 (now (s .args .at)) (omega (arith, p .0)),
       record {
-        names = record { room = omega (arith, size); sorting = omega (arith, size, p .2) };
-        heads-room = omega (arith, size);
-        keys-room = omega (arith, p .3);
+        names = record { space = omega (arith, size); sorting = omega (arith, size, p .2) };
+        heads-space = omega (arith, size);
+        keys-space = omega (arith, p .3);
       },
     )
 

@@ -161,10 +161,10 @@ resolve-in-requires c κs =
       apart = unbroken-apart _ _ _ (opened e .fills .images) (sound e);
       within = f .if4 .left;
       list = some-list _ (given l);
-      at-room = n .0;
-      order-room = n .1 .0;
-      names-room = omega (arith, n .1 .1 .0);
-      owners-room = omega (arith, n .1 .1 .1 .0);
+      at-space = n .0;
+      order-space = n .1 .0;
+      names-space = omega (arith, n .1 .1 .0);
+      owners-space = omega (arith, n .1 .1 .1 .0);
     }
 
 same-length-5 : tie.Need-same-length-5

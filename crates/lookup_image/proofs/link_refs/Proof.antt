@@ -8,20 +8,20 @@ use denote.Ref.{now}
 use lib.ListN.{length}
 use lib.Seq.{length-take-le}
 use Rattle.manifest_objects.proofs.Standing.{stand-length}
-use Rattle.lookup_image.proofs.Linked.{lent-room, links-lent}
+use Rattle.lookup_image.proofs.Linked.{lent-space, links-lent}
 use Rattle.lookup_image.proofs.link_refs.Statement.{statement}
 use Rattle.lookup_image.proofs.link_refs.Tie as tie
 
 slice-relend-prefix-tabulate : tie.Need-slice-relend-prefix-tabulate
-slice-relend-prefix-tabulate c = c .before .before .before .before .before .before .before .before .before .pre .next-room
+slice-relend-prefix-tabulate c = c .before .before .before .before .before .before .before .before .before .pre .next-space
 
 slice-aggregate-tabulate : tie.Need-slice-aggregate-tabulate
-slice-aggregate-tabulate c = sym (length-take-le _ _ (c .before .before .before .before .before .before .before .before .before .before .pre .next-room))
+slice-aggregate-tabulate c = sym (length-take-le _ _ (c .before .before .before .before .before .before .before .before .before .before .pre .next-space))
 
 tabulate-requires : tie.Need-tabulate-requires
 tabulate-requires c κs =
     let p = c .before .before .before .before .before .before .before .before .before .before .before .pre in
-    (record { refs = _; stand = p .stand; few = p .few }, p .at-room, length-take-le _ _ (p .next-room), p .order-room)
+    (record { refs = _; stand = p .stand; few = p .few }, p .at-space, length-take-le _ _ (p .next-space), p .order-space)
 
 -- the references are marked and indexed
 module _ (k : tie.After-tabulate) where
@@ -32,16 +32,16 @@ module _ (k : tie.After-tabulate) where
   marked = k .tabulate .last .1 .1 .1 .0
 
   marked-size : length marked ≡ length (now (start .args .keys))
-  marked-size = k .tabulate .kept .1 .1 .1 .0 ∙ length-take-le _ _ (start .pre .next-room)
+  marked-size = k .tabulate .kept .1 .1 .1 .0 ∙ length-take-le _ _ (start .pre .next-space)
 
-  indexed-room : k .tabulate .result ≤ length (k .tabulate .last .1 .1 .1 .1 .0)
-  indexed-room = omega (arith, k .tabulate .ensures .0, k .tabulate .kept .1 .1 .1 .1 .0, start .pre .order-room)
+  indexed-space : k .tabulate .result ≤ length (k .tabulate .last .1 .1 .1 .1 .0)
+  indexed-space = omega (arith, k .tabulate .ensures .0, k .tabulate .kept .1 .1 .1 .1 .0, start .pre .order-space)
 
 slice-reshare-prefix-link-all : tie.Need-slice-reshare-prefix-link-all
-slice-reshare-prefix-link-all c = indexed-room (c .before .before .before .before .before .before .before)
+slice-reshare-prefix-link-all c = indexed-space (c .before .before .before .before .before .before .before)
 
 slice-aggregate-link-all : tie.Need-slice-aggregate-link-all
-slice-aggregate-link-all c = sym (length-take-le _ _ (indexed-room (c .before .before .before .before .before .before .before .before)))
+slice-aggregate-link-all c = sym (length-take-le _ _ (indexed-space (c .before .before .before .before .before .before .before .before)))
 
 link-all-requires : tie.Need-link-all-requires
 link-all-requires c κs =
@@ -53,9 +53,9 @@ link-all-requires c κs =
       counted = p .counted;
       layers = p .layers;
       table = t .1;
-      room = lent-room _ (marked k) _ (marked-size k);
-      names-room = p .names-room;
-      owners-room = p .owners-room;
+      space = lent-space _ (marked k) _ (marked-size k);
+      names-space = p .names-space;
+      owners-space = p .owners-space;
     }
 
 same-length : tie.Need-same-length

@@ -97,11 +97,11 @@ link-refs-requires c κs =
       layers = its-layers p;
       stand = e .3;
       few = few;
-      at-room = omega (arith, q .at-room);
-      order-room = omega (arith, q .order-room);
-      next-room = few;
-      names-room = q .names-room;
-      owners-room = q .owners-room;
+      at-space = omega (arith, q .at-space);
+      order-space = omega (arith, q .order-space);
+      next-space = few;
+      names-space = q .names-space;
+      owners-space = q .owners-space;
     }
 
 -- the links from which the layers are followed

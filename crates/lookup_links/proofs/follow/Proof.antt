@@ -19,7 +19,8 @@ use Rattle.lookup_links.proofs.follow.Tie as tie
 abbrev Inv-loop : tie.InvT-loop
 Inv-loop next e objects at₀ left₀ at left =
     Followable next at objects × (left ≤ objects + 1)
-    × ((room : List Image) (refs : List Layer) → anyClash room ≡ false → Links (keysIn room) refs next → objectCount room ≡ objects → e < length refs → Comes room refs e at left)
+    × ((room : List Image) (refs : List Layer) → anyClash room ≡ false → Links (keysIn room) refs next → objectCount room ≡ objects → e < length refs
+    → Comes room refs e at left)
 
 abbrev μ-loop : tie.MeasureT-loop
 μ-loop next e objects at₀ left₀ at left = left
@@ -34,7 +35,7 @@ mul-o : tie.Need-mul-o Inv-loop μ-loop
 mul-o c = let p = c .loop .inv .0 in omega (arith, p .within, p .links .few)
 
 shared-slice-read-o : tie.Need-shared-slice-read-o Inv-loop μ-loop
-shared-slice-read-o c = let p = c .before .loop .inv .0 in omega (arith, p .within, p .links .room)
+shared-slice-read-o c = let p = c .before .loop .inv .0 in omega (arith, p .within, p .links .space)
 
 returns : tie.Need-returns Inv-loop μ-loop
 returns c = λ room refs n l o h. comes-digest room refs _ l _ _ _ (c .before .before .loop .inv .2 room refs n l o h) (c .if1 .taken)
@@ -48,14 +49,16 @@ returns-3 c = λ room refs n l o h. comes-bad room refs _ l _ _ _ (c .before .be
 returns-4 : tie.Need-returns-4 Inv-loop μ-loop
 returns-4 c = λ room refs n l o h.
     let e = c .before in
-    comes-again room refs _ l _ _ _ (e .before .before .before .before .loop .inv .2 room refs n l o h) (e .before .before .if1 .left) (e .before .if2 .left) (e .if3 .left)
+    comes-again room refs _ l _ _ _ (e .before .before .before .before .loop .inv .2 room refs n l o h) (e .before .before .if1 .left) (e .before .if2 .left)
+    (e .if3 .left)
     (c .if4 .taken)
 
 sub-left : tie.Need-sub-left Inv-loop μ-loop
 sub-left c = omega (arith, c .if4 .left)
 
 cast-at : tie.Need-cast-at Inv-loop μ-loop
-cast-at c = let e = c .before in let p = e .before .before .before .before .loop .inv .0 in let f = next-followable _ _ _ p (e .before .before .if1 .left) (e .before .if2 .left) (e .if3 .left) in omega (arith, f .within, f .links .few)
+cast-at c = let e = c .before in let p = e .before .before .before .before .loop .inv .0 in
+    let f = next-followable _ _ _ p (e .before .before .if1 .left) (e .before .if2 .left) (e .if3 .left) in omega (arith, f .within, f .links .few)
 
 loop-less : tie.Need-loop-less Inv-loop μ-loop
 loop-less c = omega (arith, c .if4 .left)

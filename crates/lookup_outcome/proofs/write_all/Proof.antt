@@ -9,7 +9,7 @@ use lib.ListN.{length}
 use Rattle.store_write.proofs.Writing.{kept-length}
 use Rattle.lookup_outcome.specs.Resolving.{Writable}
 use Rattle.lookup_outcome.proofs.Writing.{WrittenTo, written-none, number-within, digest-here, written-next, written-all}
-use Rattle.lookup_outcome.proofs.Writing.{entry-room, entry-lent, entry-fits}
+use Rattle.lookup_outcome.proofs.Writing.{entry-space, entry-lent, entry-fits}
 use Rattle.lookup_outcome.proofs.write_all.Statement.{statement}
 use Rattle.lookup_outcome.proofs.write_all.Tie as tie
 
@@ -71,7 +71,7 @@ add-n c =
     let r = c .before .before in
     let t = r .before .before .before .before in
     let e = r .write-entry .ensures _ (digest-here (start t .pre) _ (reached t)) in
-    omega (arith, e .0, entry-room (start t .pre) _ (reached t) refl (so-far t), start t .good)
+    omega (arith, e .0, entry-space (start t .pre) _ (reached t) refl (so-far t), start t .good)
 
 add-k : tie.Need-add-k Inv-loop μ-loop
 add-k c = search needs

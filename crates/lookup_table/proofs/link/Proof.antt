@@ -10,7 +10,7 @@ use lib.ListN.{length, take, getD, length-set}
 use Rattle.reference.specs.References.{Layer}
 use Rattle.manifest_objects.specs.Objects.{AllStand}
 use Rattle.lookup_table.specs.Linking.{Relinked}
-use Rattle.lookup_table.proofs.Standing.{stand-at, some-stands}
+use Rattle.lookup_index.proofs.Standing.{stand-at, some-stands}
 use Rattle.lookup_table.proofs.Linking.{relinked-none, relinked-all, relinked-set, relinked-kept}
 use Rattle.lookup_table.proofs.link.Statement.{statement}
 use Rattle.lookup_table.proofs.link.Tie as tie
@@ -34,8 +34,8 @@ module _ (t : tie.In-loop Inv-loop μ-loop) where
   few : length (now (start .args .keys)) ≤ 4160
   few = start .pre .0 .few
 
-  room : getD (now (start .args .chosen)) (t .before .loop .i) 0 < length (t .before .loop .next)
-  room = omega (arith, within, start .pre .2, t .before .loop .inv .1)
+  space : getD (now (start .args .chosen)) (t .before .loop .i) 0 < length (t .before .loop .next)
+  space = omega (arith, within, start .pre .2, t .before .loop .inv .1)
 
 -- the turn in which it was linked or not
 abbrev turn : tie.Joined1 Inv-loop μ-loop → tie.In-loop Inv-loop μ-loop
@@ -66,7 +66,7 @@ mul-next : tie.Need-mul-next Inv-loop μ-loop
 mul-next c = let t = c .before .before .before .before in omega (arith, within t, few t)
 
 slice-write-next : tie.Need-slice-write-next Inv-loop μ-loop
-slice-write-next c = room (c .before .before .before .before)
+slice-write-next c = space (c .before .before .before .before)
 
 add-i : tie.Need-add-i Inv-loop μ-loop
 add-i c = omega (arith, turn c .loop-test .taken)
@@ -85,7 +85,7 @@ loop-again c =
           let p = l .inv .2 refs s in
           let h = stand-at s _ (within t) in
           ⊎-elim
-          (λ w. rw (w .1) (relinked-set _ _ refs _ _ _ (l .i) (t .loop-test .taken) (l .next) p (room t) (sym (x _ h) ∙ w .0 .taken)))
+          (λ w. rw (w .1) (relinked-set _ _ refs _ _ _ (l .i) (t .loop-test .taken) (l .next) p (space t) (sym (x _ h) ∙ w .0 .taken)))
           (λ w. rw (w .1) (relinked-kept _ _ refs _ _ _ (l .i) (t .loop-test .taken) (l .next) p (sym (x _ h) ∙ w .0 .left)))
           (c .if1 .came),
     )

@@ -77,7 +77,7 @@ mul-first : tie.Need-mul-first Inv-loop μ-loop
 mul-first c = omega (arith, few (c .before .before .before .before .before .before .before .before .before .before .before .before))
 
 shared-slice-read-first : tie.Need-shared-slice-read-first Inv-loop μ-loop
-shared-slice-read-first c = let t = turn c in omega (arith, few t, start t .pre .counted .room)
+shared-slice-read-first c = let t = turn c in omega (arith, few t, start t .pre .counted .space)
 
 cast-first : tie.Need-cast-first Inv-loop μ-loop
 cast-first c = omega (arith, number (turn c))

@@ -15,9 +15,9 @@ use Rattle.manifest_objects.proofs.Naming.{name-stands, name-within}
 use Rattle.store_record.specs.Reading.{between}
 use Rattle.store_keys.specs.Keys.{LayerKey}
 use Rattle.lookup_links.specs.Links.{Links}
-use Rattle.lookup_table.specs.Table.{Table}
+use Rattle.lookup_index.specs.Table.{Table}
 use Rattle.lookup_table.specs.Linking.{ObjectsFrom}
-use Rattle.lookup_table.proofs.Standing.{stand-length}
+use Rattle.lookup_index.proofs.Standing.{stand-length}
 use Rattle.lookup_table.proofs.Images.{noAlias, keysUnder, keys-held, alias-here, keys-none, keys-next, keys-all}
 use Rattle.lookup_table.proofs.link_image.Statement.{statement}
 use Rattle.lookup_table.proofs.link_image.Tie as tie
@@ -25,7 +25,8 @@ use Rattle.lookup_table.proofs.link_image.Tie as tie
 abbrev Inv-loop : tie.InvT-loop
 Inv-loop b first keys at order next₀ names owners start end signer digest a n k₀ next k =
     (k ≤ n) × (length next ≡ length next₀)
-    × ((refs : List Layer) (ks : List LayerKey) → Table b keys at order refs → ObjectsFrom refs first (objects (take (end - start) (drop start b))) → Links ks refs next₀
+    × ((refs : List Layer) (ks : List LayerKey) → Table b keys at order refs → ObjectsFrom refs first (objects (take (end - start) (drop start b)))
+    → Links ks refs next₀
     → Links (ks ++ take k (keysUnder a (take (digest - signer) (drop signer b)) (take (end - start) (drop start b)))) refs next)
 
 abbrev μ-loop : tie.MeasureT-loop
@@ -42,7 +43,8 @@ part-list-aliases-end c = c .before .before .before .before .before .before .bef
 
 list-aliases-requires : tie.Need-list-aliases-requires Inv-loop μ-loop
 unfolding between
-list-aliases-requires c κs = let p = c .before .before .before .before .before .before .before .before .before .before .pre in (p .opens, p .names-room, p .owners-room)
+list-aliases-requires c κs = let p = c .before .before .before .before .before .before .before .before .before .before .pre in
+    (p .opens, p .names-space, p .owners-space)
 
 -- the aliases were listed
 module _ (a : tie.After-list-aliases Inv-loop μ-loop) where
@@ -67,7 +69,7 @@ module _ (a : tie.After-list-aliases Inv-loop μ-loop) where
   owners = a .list-aliases .last .1 .1 .1 .0
 
   names-fit : a .list-aliases .result ≤ length names
-  names-fit = omega (arith, a .list-aliases .ensures .0, a .list-aliases .ensures .1, start .pre .names-room)
+  names-fit = omega (arith, a .list-aliases .ensures .0, a .list-aliases .ensures .1, start .pre .names-space)
 
   listed : Listed text (take (a .list-aliases .result) names) (take (a .list-aliases .result) owners) (contents text)
   listed = a .list-aliases .ensures .3
@@ -83,7 +85,8 @@ module _ (t : tie.In-loop Inv-loop μ-loop) where
 
   stands : NameStands (now (start linked-from .args .b)) (start linked-from .args .r .text + getD (names linked-from) (t .before .loop .k) 0 + 1)
       (getD (contents (text linked-from)) (t .before .loop .k) noAlias .name)
-  stands = name-stands (now (start linked-from .args .b)) (start linked-from .args .r .text) (start linked-from .args .r .end - start linked-from .args .r .text) _ _ _ alias-at
+  stands = name-stands (now (start linked-from .args .b)) (start linked-from .args .r .text)
+      (start linked-from .args .r .end - start linked-from .args .r .text) _ _ _ alias-at
 
   name-inside : getD (names linked-from) (t .before .loop .k) 0 + 1 < length (text linked-from)
   name-inside = name-within _ _ _ _ alias-at
@@ -124,7 +127,7 @@ mul-number c = let t = c .before in let a = linked-from t in omega (arith, t .lo
 slice-read-number : tie.Need-slice-read-number Inv-loop μ-loop
 slice-read-number c =
     let t = c .before .before in
-    let a = linked-from t in omega (arith, t .loop-test .taken, a .list-aliases .ensures .0, a .list-aliases .ensures .2, start a .pre .owners-room)
+    let a = linked-from t in omega (arith, t .loop-test .taken, a .list-aliases .ensures .0, a .list-aliases .ensures .2, start a .pre .owners-space)
 
 cast-number : tie.Need-cast-number Inv-loop μ-loop
 cast-number c = omega (arith, number-within (c .before .before))
@@ -148,7 +151,7 @@ link-name-requires : tie.Need-link-name-requires Inv-loop μ-loop
 link-name-requires c κs =
     let t = c .before .before .before .before in
     let p = start (linked-from t) .pre in
-    (p .table, record { name = _; stands = stands t }, omega (arith, p .room, t .before .loop .inv .1))
+    (p .table, record { name = _; stands = stands t }, omega (arith, p .space, t .before .loop .inv .1))
 
 add-k : tie.Need-add-k Inv-loop μ-loop
 add-k c = let t = turn c in omega (arith, t .loop-test .taken, linked-from t .list-aliases .ensures .0)

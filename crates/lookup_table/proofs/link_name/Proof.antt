@@ -3,7 +3,7 @@ use native.Mathlib.Omega.{arith}
 use borrow.Author.Needs.{needs}
 use denote.Ref.{now}
 use Rattle.manifest_objects.specs.Objects.{Named}
-use Rattle.lookup_table.proofs.Standing.{stand-length}
+use Rattle.lookup_index.proofs.Standing.{stand-length}
 use Rattle.lookup_table.proofs.Linking.{chosen-below, key-linked}
 use Rattle.lookup_table.proofs.link_name.Statement.{statement}
 use Rattle.lookup_table.proofs.link_name.Tie as tie

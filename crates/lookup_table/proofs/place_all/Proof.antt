@@ -53,7 +53,8 @@ module _ (t : tie.In-loop Inv-loop μ-loop) where
   fits : t .before .loop .n + 64 ≤ length (t .before .loop .keys)
   fits = omega (arith, few, t .before .loop .inv .1 .few, t .before .loop .inv .1 .size, start .pre .1)
 
-  lent : length (midOf (t .before .loop .n) (length (t .before .loop .keys) - t .before .loop .n) (t .before .loop .keys)) ≡ length (t .before .loop .keys) - t .before .loop .n
+  lent : length (midOf (t .before .loop .n) (length (t .before .loop .keys) - t .before .loop .n) (t .before .loop .keys))
+      ≡ length (t .before .loop .keys) - t .before .loop .n
   lent = mid-len (t .before .loop .n) (length (t .before .loop .keys)) (t .before .loop .keys) (omega arith)
 
 -- the turn in which they were placed
@@ -100,7 +101,7 @@ mul-counts : tie.Need-mul-counts Inv-loop μ-loop
 mul-counts c = omega (arith, few (turn c))
 
 slice-write-counts : tie.Need-slice-write-counts Inv-loop μ-loop
-slice-write-counts c = omega (arith, few (turn c), turn c .before .loop .inv .1 .counted .room)
+slice-write-counts c = omega (arith, few (turn c), turn c .before .loop .inv .1 .counted .space)
 
 add-n : tie.Need-add-n Inv-loop μ-loop
 add-n c = let t = turn c in omega (arith, c .before .before .place-objects .ensures .0, few t, t .before .loop .inv .1 .few)
@@ -127,7 +128,7 @@ same-length : tie.Need-same-length Inv-loop μ-loop
 same-length c = c .before .loop .inv .1 .size
 
 same-length-2 : tie.Need-same-length-2 Inv-loop μ-loop
-same-length-2 c = c .before .loop .inv .1 .counted .room ∙ sym (c .before .before .before .before .before .pre .2)
+same-length-2 c = c .before .loop .inv .1 .counted .space ∙ sym (c .before .before .before .before .before .pre .2)
 
 returns : tie.Need-returns Inv-loop μ-loop
 returns c =
@@ -137,7 +138,8 @@ returns c =
     let p = l .inv .1 in (
       omega (arith, p .few, a .pre .0 .fills .few),
       rw e at (p .counted),
-      subst (λ (xs : List Image). AllStand (now (a .args .b)) (take (l .n) (l .keys)) (objectsOf xs)) (all-images _ (a .args .t2) (all-here a) (l .i) e) (p .stand),
+      subst (λ (xs : List Image). AllStand (now (a .args .b)) (take (l .n) (l .keys)) (objectsOf xs)) (all-images _ (a .args .t2) (all-here a) (l .i) e)
+          (p .stand),
     )
 
 pub place-all-spec : {M : Type 1} → statement M

@@ -14,7 +14,7 @@ use Rattle.store_record.specs.Reading.{between, heldIn, noRecord, RecordIn}
 use Rattle.store_record.specs.declared.Record.{Record}
 use Rattle.store_names.proofs.Opened.{opened-at}
 use Rattle.lookup_paths.proofs.Objects.{objects-counted}
-use Rattle.lookup_table.proofs.Standing.{stand-length}
+use Rattle.lookup_index.proofs.Standing.{stand-length}
 use Rattle.lookup_table.proofs.Placing.{back-size, stand-behind}
 use Rattle.lookup_table.proofs.place_refs.Statement.{statement}
 use Rattle.lookup_table.proofs.place_refs.Tie as tie
@@ -95,7 +95,8 @@ same-length : tie.Need-same-length
 same-length c =
     let f = c .before .before in
     let p = objects-of (f .before .before) in
-    back-size (placed p) (keys p) (f .place-layers .last .1 .1 .1 .1 .0) (omega (arith, fits p)) (f .place-layers .ensures .1 ∙ lent p) ∙ p .place-all .kept .1 .1 .1 .0
+    back-size (placed p) (keys p) (f .place-layers .last .1 .1 .1 .1 .0) (omega (arith, fits p)) (f .place-layers .ensures .1 ∙ lent p)
+    ∙ p .place-all .kept .1 .1 .1 .0
 
 same-length-2 : tie.Need-same-length-2
 same-length-2 c = objects-of (c .before .before .before .before) .place-all .kept .1 .1 .1 .1 .0

@@ -1,7 +1,7 @@
 -- `manifest::names::conflicts` meets its contract: the names of the group `contents` are looked up, and their keys compared. Assumes nothing.
 use mathlib.Core.Path.{_∙_}
 use Rattle.manifest_fields.specs.Accessors.{contentsField, contentsOf}
-use Rattle.manifest_names.specs.Contents.{namedIn}
+use Rattle.manifest_heads.specs.Contents.{namedIn}
 use Rattle.manifest.specs.Manifest.{manifestOf}
 use Rattle.manifest.proofs.Groups.{contents-grouped, some-contents}
 use Rattle.manifest_aliases.proofs.Objects.{conflict-keys}

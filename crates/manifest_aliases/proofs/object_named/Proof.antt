@@ -6,7 +6,7 @@ use denote.Ref.{now}
 use Rattle.text_strings.specs.InString.{contentFrom}
 use Rattle.text_strings.proofs.Cursors.{inside-within}
 use Rattle.manifest_fields.specs.Accessors.{contentsOf, contentsField}
-use Rattle.manifest_names.specs.Searches.{KeyFound, FindsKey}
+use Rattle.manifest_names.specs.Objects.{KeyFound, FindsKey}
 use Rattle.manifest.specs.Manifest.{manifestOf}
 use Rattle.manifest.proofs.Groups.{contents-grouped}
 use Rattle.manifest_aliases.proofs.Objects.{no-object, key-inside, object-at}

@@ -10,7 +10,8 @@ shares-requires c κs = let a = c .before .before .before .before in (some-names
 
 returns : tie.Need-returns
 unfolding selfNames selfOf
-returns c = let a = c .before .before .before .before .before in c .shares .ensures (selfNames _) (selfField (manifestOf _)) (a .pre .0 .sorted) (a .pre .2 .own)
+returns c = let a = c .before .before .before .before .before in
+    c .shares .ensures (selfNames _) (selfField (manifestOf _)) (a .pre .0 .sorted) (a .pre .2 .own)
 
 pub shares-self-spec : {M : Type 1} → statement M
 shares-self-spec = tie.close (tie.spec shares-requires returns)

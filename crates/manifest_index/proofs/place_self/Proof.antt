@@ -56,8 +56,8 @@ module _ (t : tie.In-loop Inv-loop μ-loop) where
         length-take-le (a .args .end - a .args .start) (drop (a .args .start) s) (omega (arith, length-drop (a .args .start) s, a .pre .0, a .pre .1)),
       )
 
-  room : t .before .loop .i < length (now (start collected .args .at))
-  room = omega (arith, few collected, t .loop-test .taken, start collected .pre .4)
+  space : t .before .loop .i < length (now (start collected .args .at))
+  space = omega (arith, few collected, t .loop-test .taken, start collected .pre .4)
 
 loop-holds : tie.Need-loop-holds Inv-loop μ-loop
 loop-holds c = (omega arith, placed-none _ _ _)
@@ -81,7 +81,7 @@ mul-at-2 : tie.Need-mul-at-2 Inv-loop μ-loop
 mul-at-2 c = let t = c .before in omega (arith, few (collected t), t .loop-test .taken)
 
 slice-write-at : tie.Need-slice-write-at Inv-loop μ-loop
-slice-write-at c = let t = c .before in omega (arith, room t, t .before .loop .inv .1 .length-kept)
+slice-write-at c = let t = c .before in omega (arith, space t, t .before .loop .inv .1 .length-kept)
 
 add-i : tie.Need-add-i Inv-loop μ-loop
 add-i c = let t = c .before in omega (arith, few (collected t), t .loop-test .taken)
@@ -92,8 +92,11 @@ loop-less c = omega (arith, c .before .loop-test .taken)
 loop-again : tie.Need-loop-again Inv-loop μ-loop
 loop-again c =
     let t = c .before in
-    let l = t .before .loop in
-    (omega (arith, t .loop-test .taken), placed-next _ _ _ (l .at) (l .i) (omega (arith, t .loop-test .taken, collected t .collect-self .ensures .0)) (room t) (l .inv .1))
+    let l = t .before .loop in (
+      omega (arith, t .loop-test .taken),
+      placed-next _ _ _ (l .at) (l .i) (omega (arith, t .loop-test .taken, collected t .collect-self .ensures .0)) (space t)
+          (l .inv .1),
+    )
 
 same-length : tie.Need-same-length Inv-loop μ-loop
 same-length c = c .before .before .before .before .collect-self .kept .1 .1 .0

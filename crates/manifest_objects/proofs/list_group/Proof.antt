@@ -1,5 +1,5 @@
 -- `manifest_objects::list_group` meets its contract. The loop's invariant: the aliases of the members before the cursor were listed with the numbers of their
--- objects, and there is room for 64 of each other member. The measure is how much of the text is left. Assumes nothing.
+-- objects, and there is space for 64 of each other member. The measure is how much of the text is left. Assumes nothing.
 use borrow.Author.Needs.{needs}
 use Prim.Native.Nat.{_-_}
 use mathlib.Core.Path.{subst}
@@ -7,7 +7,8 @@ use native.Mathlib.Omega.{arith}
 use denote.Ref.{now}
 use lib.ListN.{length}
 use Rattle.text_view.specs.Cursor.{GivesMember, NextMember}
-use Rattle.manifest_objects.proofs.Listing.{Numbered, group-object, group-started, group-left, group-within, group-finished, next-number, listable, group-goes-on}
+use Rattle.manifest_objects.proofs.Listing.{Numbered, group-object, group-started, group-left, group-within, group-finished, next-number, listable}
+use Rattle.manifest_objects.proofs.Listing.{group-goes-on}
 use Rattle.manifest_objects.proofs.list_group.Statement.{statement}
 use Rattle.manifest_objects.proofs.list_group.Tie as tie
 
@@ -49,8 +50,10 @@ enum-known-value : tie.Need-enum-known-value Inv-loop μ-loop
 enum-known-value c = search needs
 
 -- what `next` gave: a member
-abbrev inv : (c : tie.After-known-told Inv-loop μ-loop) → let b = c .before .before .before .before in let a = b .before .before .before .before .before .args in
-    Numbered (now (a .s)) (a .at) (a .depth) (now (a .names)) (now (a .owners)) (b .loop .names) (b .loop .owners) (b .loop .left) (b .loop .n) (b .loop .object)
+abbrev inv : (c : tie.After-known-told Inv-loop μ-loop) → let b = c .before .before .before .before in
+    let a = b .before .before .before .before .before .args in
+    Numbered (now (a .s)) (a .at) (a .depth) (now (a .names)) (now (a .owners)) (b .loop .names) (b .loop .owners) (b .loop .left) (b .loop .n)
+    (b .loop .object)
 inv c = c .before .before .before .before .loop .inv
 
 given : (c : tie.After-known-told Inv-loop μ-loop) → let b = c .before .before .before .before in let a = b .before .before .before .before .before .args in

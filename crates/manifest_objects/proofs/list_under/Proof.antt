@@ -7,7 +7,8 @@ use native.Mathlib.Omega.{arith}
 use denote.Ref.{now}
 use lib.ListN.{length}
 use Rattle.text_view.specs.Cursor.{GivesElement, NextElement}
-use Rattle.manifest_objects.proofs.Listing.{UnderObject, under-array, under-started, under-left, under-finished, place-within, place-fits, owner-fits, under-goes-on}
+use Rattle.manifest_objects.proofs.Listing.{UnderObject, under-array, under-started, under-left, under-finished, place-within, place-fits, owner-fits}
+use Rattle.manifest_objects.proofs.Listing.{under-goes-on}
 use Rattle.manifest_objects.proofs.list_under.Statement.{statement}
 use Rattle.manifest_objects.proofs.list_under.Tie as tie
 
@@ -47,8 +48,10 @@ enum-known-p : tie.Need-enum-known-p Inv-loop μ-loop
 enum-known-p c = search needs
 
 -- what `next` gave: an element
-abbrev inv : (c : tie.After-known-told Inv-loop μ-loop) → let b = c .before .before .before .before in let a = b .before .before .before .before .before .args in
-    UnderObject (now (a .s)) (a .at) (a .depth) (a .object) (now (a .names)) (now (a .owners)) (a .n) (b .loop .names) (b .loop .owners) (b .loop .left) (b .loop .i)
+abbrev inv : (c : tie.After-known-told Inv-loop μ-loop) → let b = c .before .before .before .before in
+    let a = b .before .before .before .before .before .args in
+    UnderObject (now (a .s)) (a .at) (a .depth) (a .object) (now (a .names)) (now (a .owners)) (a .n) (b .loop .names) (b .loop .owners) (b .loop .left)
+    (b .loop .i)
 inv c = c .before .before .before .before .loop .inv
 
 given : (c : tie.After-known-told Inv-loop μ-loop) → let b = c .before .before .before .before in let a = b .before .before .before .before .before .args in

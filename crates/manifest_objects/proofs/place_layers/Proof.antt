@@ -27,7 +27,8 @@ place-strings-requires : tie.Need-place-strings-requires
 place-strings-requires c κs =
     let g = c .before .before .before in
     let a = g .before .before .before .before in
-    placeable-list _ _ (a .pre .2) _ (g .list .given .1) _ _ (a .pre .3) (omega (arith, part-end (now (a .args .b)) (a .args .start) (a .args .end) (a .pre .0) (a .pre .1), a .pre .1))
+    placeable-list _ _ (a .pre .2) _ (g .list .given .1) _ _ (a .pre .3)
+    (omega (arith, part-end (now (a .args .b)) (a .args .start) (a .args .end) (a .pre .0) (a .pre .1), a .pre .1))
 
 returns : tie.Need-returns
 returns c =

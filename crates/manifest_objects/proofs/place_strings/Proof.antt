@@ -1,4 +1,5 @@
--- `manifest_objects::place_strings` meets its contract. The loop's invariant: the strings before the cursor were placed. The measure is how much of the text is left.
+-- `manifest_objects::place_strings` meets its contract. The loop's invariant: the strings before the cursor were placed. The measure is how much of
+-- the text is left.
 -- Assumes nothing.
 use borrow.Author.Needs.{needs}
 use Prim.Native.Nat.{_-_}
@@ -7,7 +8,8 @@ use native.Mathlib.Omega.{arith}
 use denote.Ref.{now}
 use lib.ListN.{length}
 use Rattle.text_view.specs.Cursor.{GivesElement, NextElement}
-use Rattle.manifest_objects.proofs.Placing.{StringsPlaced, strings-array, strings-started, strings-left, strings-finished, strings-go-on, string-within, string-fits}
+use Rattle.manifest_objects.proofs.Placing.{StringsPlaced, strings-array, strings-started, strings-left, strings-finished, strings-go-on, string-within}
+use Rattle.manifest_objects.proofs.Placing.{string-fits}
 use Rattle.manifest_objects.proofs.place_strings.Statement.{statement}
 use Rattle.manifest_objects.proofs.place_strings.Tie as tie
 

@@ -1,4 +1,5 @@
--- `manifest::rules::place_strings` meets its contract. The loop's invariant: the strings before the cursor were placed. The measure is how much of the text is left.
+-- `manifest::rules::place_strings` meets its contract. The loop's invariant: the strings before the cursor were placed. The measure is how much of
+-- the text is left.
 -- Assumes nothing.
 use borrow.Author.Needs.{needs}
 use Prim.Native.Nat.{_-_}

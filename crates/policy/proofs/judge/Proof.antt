@@ -68,7 +68,7 @@ slice-aggregate-open-5 : tie.Need-slice-aggregate-open-5
 slice-aggregate-open-5 c = search needs
 
 open-requires : tie.Need-open-requires
-open-requires c κs = (refl, record { names = record { room = omega arith; sorting = omega arith }; heads-room = omega arith; keys-room = omega arith })
+open-requires c κs = (refl, record { names = record { space = omega arith; sorting = omega arith }; heads-space = omega arith; keys-space = omega arith })
 
 refused-requires-2 : tie.Need-refused-requires-2
 refused-requires-2 c κs = search needs

@@ -27,8 +27,8 @@ Inv-loop s x b at order v named word₀ j₀ word j = (y : Rule) → ReadsRule s
 abbrev μ-loop : tie.MeasureT-loop
 μ-loop s x b at order v named word₀ j₀ word j = j
 
-room : (a : tie.Start Inv-loop μ-loop) → length (a .args .t4 .records) ≡ 64
-room a = records-size (a .args .t4) (a .good .1 .1 .1 .0)
+space : (a : tie.Start Inv-loop μ-loop) → length (a .args .t4 .records) ≡ 64
+space a = records-size (a .args .t4) (a .good .1 .1 .1 .0)
 
 -- a turn of the loop: the image that it asks for, and the word before and after it
 module _ (t : tie.In-loop Inv-loop μ-loop) where
@@ -55,28 +55,29 @@ module _ (t : tie.In-loop Inv-loop μ-loop) where
   few = omega (arith, below, start .pre .1 .few)
 
   fits : t .before .loop .word * 2 + 1 < 2 ^ 64
-  fits = word-fits (now (start .args .b)) (start .args .t4) (start .pre .1 .few) (room start) _ _ _ (t .loop-test .taken) built
+  fits = word-fits (now (start .args .b)) (start .args .t4) (start .pre .1 .few) (space start) _ _ _ (t .loop-test .taken) built
 
   module _ (y : Rule) (k : ReadsRule (now (start .args .s)) (start .args .x) y) where
     -- the bit that was looked up tells whether the image has the alias
     named : bitAt (t .before .before .named-by .result) next
-        ≡ anyOf (asksFor y) (selfNames (between (now (start .args .b)) (getD (start .args .t4 .records) next noRecord .text) (getD (start .args .t4 .records) next noRecord .end)))
+        ≡ anyOf (asksFor y) (selfNames (between (now (start .args .b)) (getD (start .args .t4 .records) next noRecord .text)
+        (getD (start .args .t4 .records) next noRecord .end)))
     named =
         t .before .before .named-by .ensures y k next
         ∙ named-in (now (start .args .b)) (start .args .t4) (now (start .args .at)) (now (start .args .order)) (start .pre .1 .few) (start .pre .2) y next below
 
     unmarked : matchesImage y image ≡ false → Grown y next (t .before .loop .word * 2)
     unmarked =
-        image-unmarked (now (start .args .b)) (start .args .t4) (start .pre .1 .few) (room start) _ _ _ (t .loop-test .taken) (t .before .loop .inv y k)
+        image-unmarked (now (start .args .b)) (start .args .t4) (start .pre .1 .few) (space start) _ _ _ (t .loop-test .taken) (t .before .loop .inv y k)
 
     marked : matchesImage y image ≡ true → Grown y next (t .before .loop .word * 2 + 1)
-    marked = image-marked (now (start .args .b)) (start .args .t4) (start .pre .1 .few) (room start) _ _ _ (t .loop-test .taken) (t .before .loop .inv y k)
+    marked = image-marked (now (start .args .b)) (start .args .t4) (start .pre .1 .few) (space start) _ _ _ (t .loop-test .taken) (t .before .loop .inv y k)
 
 named-by-requires : tie.Need-named-by-requires Inv-loop μ-loop
-named-by-requires c κs = let p = c .before .before .before .before .pre in (p .0, some-index (p .2 .index), p .2 .placed .at-room)
+named-by-requires c κs = let p = c .before .before .before .before .pre in (p .0, some-index (p .2 .index), p .2 .placed .at-space)
 
 loop-holds : tie.Need-loop-holds Inv-loop μ-loop
-loop-holds c = λ y k. let a = c .before .before .before .before .before in images-none (now (a .args .b)) (a .args .t4) (a .pre .1 .few) (room a) _
+loop-holds c = λ y k. let a = c .before .before .before .before .before in images-none (now (a .args .b)) (a .args .t4) (a .pre .1 .few) (space a) _
 
 sub-j : tie.Need-sub-j Inv-loop μ-loop
 sub-j c = omega arith

@@ -43,7 +43,11 @@ owners-requires c κs = λ i h.
     let r = c .before .asked .result in
     let order = now (a .args .order) in
     let size = length-take-le (r .to - r .from) (drop (r .from) order) (omega (arith, length-drop (r .from) order, f .within)) in
-    part-below order 4096 (r .from) (r .to - r .from) (λ k l. omega (arith, index-number (a .pre .1 .index) k l, a .pre .2)) (omega (arith, f .rising, f .within))
+    part-below order 4096 (r .from) (r .to - r .from) (λ k l. omega (arith, index-number (a .pre .1 .index) k l, a .pre .2)) (omega (
+      arith,
+      f .rising,
+      f .within,
+    ))
     i (omega (arith, h, size))
 
 returns : tie.Need-returns

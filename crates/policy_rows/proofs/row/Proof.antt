@@ -106,7 +106,11 @@ loop-again : tie.Need-loop-again Inv-loop μ-loop
 loop-again c =
     let t = c .before .before in
     let l = t .before .loop in
-    joined-next _ _ _ _ (l .j) (l .word) (l .inv) no-rule (c .matched .result) (omega (arith, t .loop-test .taken, t .before .before .before .place .ensures .0))
+    joined-next _ _ _ _ (l .j) (l .word) (l .inv) no-rule (c .matched .result) (omega (
+      arith,
+      t .loop-test .taken,
+      t .before .before .before .place .ensures .0,
+    ))
     (c .matched .ensures .0 _ (c .before .read .ensures _ (rule-here t))) (c .matched .ensures .1)
 
 returns : tie.Need-returns Inv-loop μ-loop

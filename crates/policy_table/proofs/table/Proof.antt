@@ -46,14 +46,14 @@ place-all-requires : tie.Need-place-all-requires Inv-loop μ-loop
 place-all-requires c κs = let p = c .before .before .before .before .before .before .before .pre in (p .0, p .3, p .1, refl)
 
 slice-aggregate-index-all : tie.Need-slice-aggregate-index-all Inv-loop μ-loop
-slice-aggregate-index-all c = sym (c .before .before .before .before .before .before .before .place-all .ensures .counts-room)
+slice-aggregate-index-all c = sym (c .before .before .before .before .before .before .before .place-all .ensures .counts-space)
 
 index-all-requires : tie.Need-index-all-requires Inv-loop μ-loop
 index-all-requires c κs =
     let k = c .before .before .before .before .before .before .before .before in
     let p = k .place-all .ensures in
     let few = begin k .pre .0 .fills .few in
-    (placed-numbered _ _ _ _ _ few p, few, p .counts-room, begin k .pre .2)
+    (placed-numbered _ _ _ _ _ few p, few, p .counts-space, begin k .pre .2)
 
 loop-holds : tie.Need-loop-holds Inv-loop μ-loop
 loop-holds c = filled-none _ _ _ _ (begin (placed (c .before .before)) .pre .0 .fills .few)

@@ -19,7 +19,7 @@ use Rattle.store_keys.specs.Clash.{clash}
 use Rattle.store_names.specs.Opened.{OpenedStore}
 use Rattle.store_open.specs.Held.{isBroken, among}
 use Rattle.store_append.specs.Append.{imageWith}
-use Rattle.store_open.proofs.Holding.{room-broken}
+use Rattle.store_open.proofs.Holding.{space-broken}
 use Rattle.store.proofs.Numbering.{shares-held, clashes-held, record-size, size-small, read-among, number-11, number-12, number-rest}
 use borrow.Author.Needs.{needs}
 use Rattle.store.proofs.number_in.Statement.{statement}
@@ -47,7 +47,7 @@ small : (o : tie.After-open) (j : ℕ) → getD (bytes (begin o)) j 0 < 256
 small o j = omega (arith, o .before .before .before .before .before .before .before .before .shared-slice-known4 .given j)
 
 same-broken : (o : tie.After-open) → isBroken (size (begin o)) (images (begin o)) ≡ isBroken (length (bytes (begin o))) (images (begin o))
-same-broken o = room-broken (bytes (begin o)) (small o) (size (begin o)) (omega arith)
+same-broken o = space-broken (bytes (begin o)) (small o) (size (begin o)) (omega arith)
 
 -- 11 does not apply: the store is opened
 abbrev opening : tie.Else1 → tie.After-open
@@ -147,9 +147,9 @@ clashes-with-any-requires c κs =
       a .pre .0 .opens,
       opened e,
       record {
-        names = record { room = omega (arith, n .0, l .names-size); sorting = omega (arith, n .0, n .1 .0, l .names-size, l .spare-size) };
-        heads-room = omega (arith, n .0, n .1 .1 .0, l .names-size);
-        keys-room = omega (arith, n .1 .1 .1 .0);
+        names = record { space = omega (arith, n .0, l .names-size); sorting = omega (arith, n .0, n .1 .0, l .names-size, l .spare-size) };
+        heads-space = omega (arith, n .0, n .1 .1 .0, l .names-size);
+        keys-space = omega (arith, n .1 .1 .1 .0);
       },
     )
 

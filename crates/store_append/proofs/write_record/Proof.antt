@@ -35,8 +35,8 @@ first a = take (a .args .used) (buffer a)
 is-record : (a : tie.Start) → recordOf (its-image a) ≡ head a ++ text a
 is-record a = record-parts (a .args .a) (now (a .args .signer)) (now (a .args .digest)) (text a)
 
-room : (a : tie.Start) → a .args .used + length (head a) + length (text a) ≤ length (buffer a)
-room a =
+space : (a : tie.Start) → a .args .used + length (head a) + length (text a) ≤ length (buffer a)
+space a =
     omega (arith, record-length (a .args .a) (now (a .args .signer)) (now (a .args .digest)) (text a), a .pre .fits .within, a .pre .fits .space)
 
 -- the part that is lent for the head
@@ -60,7 +60,7 @@ head-written c =
     part-written (begun (buffer a) (a .args .used) w) (a .args .used) _ (head a)
     (sym (first-length (buffer a) (a .args .used) w))
     (record {
-      fits = omega (arith, lent a, room a);
+      fits = omega (arith, lent a, space a);
       all = c .write-head .ensures .1
           ∙ ap (λ (k : ℕ). head a ++ drop k (midOf (a .args .used) (length (buffer a) - a .args .used) (buffer a))) (c .write-head .ensures .0);
     })
@@ -71,7 +71,7 @@ at-length c =
     omega (arith, c .write-head .ensures .0, length-append (first a) (head a), first-length (buffer a) (a .args .used) (a .pre .fits .within))
 
 text-fits : (c : tie.After-write-head) → length (text (begin c)) ≤ length (midOf (at c) (length (with-head c) - at c) (with-head c))
-text-fits c = omega (arith, lent-length (head-written c) (at c) (at-length c), room (begin c), c .write-head .ensures .0)
+text-fits c = omega (arith, lent-length (head-written c) (at c) (at-length c), space (begin c), c .write-head .ensures .0)
 
 -- the buffer with the manifest
 abbrev headed : tie.After-copy → tie.After-write-head
@@ -97,18 +97,18 @@ part-write-head-end c = search needs
 write-head-requires : tie.Need-write-head-requires
 write-head-requires c κs =
     let a = c .before .before .before .before .before in
-    (a .pre .digests .signer-size, a .pre .digests .digest-size, a .pre .short, omega (arith, lent a, room a))
+    (a .pre .digests .signer-size, a .pre .digests .digest-size, a .pre .short, omega (arith, lent a, space a))
 
 add-at : tie.Need-add-at
 add-at c =
     let h = c .before .before in
     let a = begin h in
-    omega (arith, room a, h .write-head .ensures .0, a .good .1 .1 .1 .1 .0 .0)
+    omega (arith, space a, h .write-head .ensures .0, a .good .1 .1 .1 .1 .0 .0)
 
 sub-copy : tie.Need-sub-copy
 sub-copy c =
     let h = c .before .before in
-    omega (arith, room (begin h), h .write-head .ensures .0, kept-length (head-written h))
+    omega (arith, space (begin h), h .write-head .ensures .0, kept-length (head-written h))
 
 part-copy-start : tie.Need-part-copy-start
 part-copy-start c = sub-copy c

@@ -11,8 +11,8 @@ use Rattle.store_record.specs.Reading.{imagesIn}
 use Rattle.store_record.proofs.Walks.{records-size, pair-few}
 use Rattle.store_keys.specs.Clash.{clash, anyClash}
 use Rattle.store_keys.specs.Signed.{layersClash}
-use Rattle.store_clash.proofs.Lent.{space-kept}
-use Rattle.store_clash.proofs.Walking.{any-clash-is}
+use Rattle.store_conflict.proofs.Lent.{space-kept}
+use Rattle.store_conflict.proofs.Walking.{any-clash-is}
 use Rattle.store_clash.proofs.any_clash.Statement.{statement}
 use Rattle.store_clash.proofs.any_clash.Tie as tie
 
@@ -40,7 +40,7 @@ any-shared-requires : tie.Need-any-shared-requires
 any-shared-requires c κs =
     let p = c .before .before .before .before .before .before .before .before .before .before .before .pre in
     let n = p .2 .names in
-    (p .0, p .1, n .room, omega (arith, n .room, n .sorting))
+    (p .0, p .1, n .space, omega (arith, n .space, n .sorting))
 
 same-length : tie.Need-same-length
 same-length c = search needs

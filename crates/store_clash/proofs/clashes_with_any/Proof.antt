@@ -4,8 +4,8 @@ use mathlib.Core.Path.{refl, sym, _∙_}
 use borrow.Author.Tests.{not-true}
 use denote.Ref.{now}
 use lib.Seq.{length-take-le}
-use Rattle.store_clash.proofs.Lent.{space-kept}
-use Rattle.store_clash.proofs.Walking.{clash-none, clash-shared, clash-layers}
+use Rattle.store_conflict.proofs.Lent.{space-kept}
+use Rattle.store_conflict.proofs.Walking.{clash-none, clash-shared, clash-layers}
 use borrow.Author.Needs.{needs}
 use Rattle.store_clash.proofs.clashes_with_any.Statement.{statement}
 use Rattle.store_clash.proofs.clashes_with_any.Tie as tie

@@ -27,7 +27,8 @@ slice-reshare-prefix-shares-with-any : tie.Need-slice-reshare-prefix-shares-with
 slice-reshare-prefix-shares-with-any c = search needs
 
 slice-aggregate-shares-with-any : tie.Need-slice-aggregate-shares-with-any
-slice-aggregate-shares-with-any c = sym (length-take-le _ _ (c .before .before .before .before .before .before .before .before .before .before .sort-self .ensures .0))
+slice-aggregate-shares-with-any c =
+    sym (length-take-le _ _ (c .before .before .before .before .before .before .before .before .before .before .sort-self .ensures .0))
 
 shares-with-any-requires : tie.Need-shares-with-any-requires
 shares-with-any-requires c κs = search needs

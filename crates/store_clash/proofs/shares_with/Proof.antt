@@ -4,7 +4,7 @@ use borrow.Author.Needs.{needs}
 use borrow.Author.Tests.{not-true, not-false}
 use denote.Ref.{now}
 use Rattle.store_record.specs.Reading.{between}
-use Rattle.store_clash.proofs.Walking.{signed-is, not-sharing, sharing}
+use Rattle.store_conflict.proofs.Walking.{signed-is, not-sharing, sharing}
 use Rattle.store_clash.proofs.shares_with.Statement.{statement}
 use Rattle.store_clash.proofs.shares_with.Tie as tie
 
@@ -14,7 +14,8 @@ is-signed-by-requires c κs = search needs
 returns : tie.Need-returns
 returns c =
     let a = c .before .before .before .before .before .before .before .args in
-    sym (not-sharing (now (a .b)) (a .r) (a .a) (now (a .signer)) (now (a .s)) (sym (c .before .is-signed-by .ensures ∙ signed-is _ _ _ _) ∙ not-true _ (c .if1 .taken)))
+    sym (not-sharing (now (a .b)) (a .r) (a .a) (now (a .signer)) (now (a .s)) (sym (c .before .is-signed-by .ensures ∙ signed-is _ _ _ _)
+    ∙ not-true _ (c .if1 .taken)))
 
 sub-shares-self : tie.Need-sub-shares-self
 sub-shares-self c = search needs
@@ -35,7 +36,8 @@ returns-2 c =
     let e = c .before .before in
     let a = e .before .before .before .before .before .before .before .args in
     c .shares-self .ensures
-    ∙ sym (sharing (now (a .b)) (a .r) (a .a) (now (a .signer)) (now (a .s)) (sym (e .before .is-signed-by .ensures ∙ signed-is _ _ _ _) ∙ not-false _ (e .if1 .left)))
+    ∙ sym (sharing (now (a .b)) (a .r) (a .a) (now (a .signer)) (now (a .s)) (sym (e .before .is-signed-by .ensures ∙ signed-is _ _ _ _)
+    ∙ not-false _ (e .if1 .left)))
 
 pub shares-with-spec : {M : Type 1} → statement M
 shares-with-spec =

@@ -51,7 +51,7 @@ index-image-requires c κs =
       some-index (x .index),
       few t,
       few-aliases t,
-      omega (arith, few t, few-aliases t, x .few, x .room, start t .pre .3),
+      omega (arith, few t, few-aliases t, x .few, x .space, start t .pre .3),
       start t .pre .0 .each (l .i) (t .loop-test .taken),
     )
 
@@ -69,7 +69,7 @@ loop-again c =
     (omega (arith, t .loop-test .taken), indexed-next _ _ _ _ (l .i) (l .n) (l .order) (l .inv .1) (few-aliases t) _ _ (e .0) (e .1) (e .2))
 
 same-length : tie.Need-same-length Inv-loop μ-loop
-same-length c = c .before .loop .inv .1 .room
+same-length c = c .before .loop .inv .1 .space
 
 returns : tie.Need-returns Inv-loop μ-loop
 returns c =
@@ -77,7 +77,7 @@ returns c =
     let a = c .before .before .before .before .before .before in
     let e : l .i ≡ a .args .images = omega (arith, l .inv .0, c .loop-test .left) in
     let x = rw e at (l .inv .1) in
-    (omega (arith, x .few, a .pre .1), x .room, x .index)
+    (omega (arith, x .few, a .pre .1), x .space, x .index)
 
 pub index-all-spec : {M : Type 1} → statement M
 index-all-spec =

@@ -45,7 +45,7 @@ module _ (t : tie.In-loop Inv-loop μ-loop) where
   first = 64 * t .before .loop .i
 
   fits : first + 64 ≤ length (t .before .loop .at)
-  fits = omega (arith, few, t .before .loop .inv .1 .at-room)
+  fits = omega (arith, few, t .before .loop .inv .1 .at-space)
 
   lent : length (midOf first (length (t .before .loop .at) - first) (t .before .loop .at)) ≡ length (t .before .loop .at) - first
   lent = mid-len first (length (t .before .loop .at)) (t .before .loop .at) (omega arith)
@@ -100,7 +100,7 @@ mul-counts : tie.Need-mul-counts Inv-loop μ-loop
 mul-counts c = omega (arith, few (turn c))
 
 slice-write-counts : tie.Need-slice-write-counts Inv-loop μ-loop
-slice-write-counts c = omega (arith, few (turn c), turn c .before .loop .inv .1 .counts-room)
+slice-write-counts c = omega (arith, few (turn c), turn c .before .loop .inv .1 .counts-space)
 
 add-i : tie.Need-add-i Inv-loop μ-loop
 add-i c = omega (arith, few (turn c))
@@ -123,10 +123,10 @@ same-length : tie.Need-same-length Inv-loop μ-loop
 same-length c = c .before .loop .inv .2
 
 same-length-2 : tie.Need-same-length-2 Inv-loop μ-loop
-same-length-2 c = c .before .loop .inv .1 .at-room ∙ sym (c .before .before .before .before .before .before .pre .2)
+same-length-2 c = c .before .loop .inv .1 .at-space ∙ sym (c .before .before .before .before .before .before .pre .2)
 
 same-length-3 : tie.Need-same-length-3 Inv-loop μ-loop
-same-length-3 c = c .before .loop .inv .1 .counts-room ∙ sym (c .before .before .before .before .before .before .pre .3)
+same-length-3 c = c .before .loop .inv .1 .counts-space ∙ sym (c .before .before .before .before .before .before .pre .3)
 
 returns : tie.Need-returns Inv-loop μ-loop
 returns c =

@@ -57,11 +57,11 @@ are-apart-requires c κs =
       p .0,
       record {
         names = record {
-          room = omega (arith, sorted-kept j, p .1 .names .room);
+          space = omega (arith, sorted-kept j, p .1 .names .space);
           sorting = omega (arith, sorted-kept j, spare-kept j, p .1 .names .sorting);
         };
-        heads-room = omega (arith, sorted-kept j, p .1 .heads-room);
-        keys-room = p .1 .keys-room;
+        heads-space = omega (arith, sorted-kept j, p .1 .heads-space);
+        keys-space = p .1 .keys-space;
       },
     )
 

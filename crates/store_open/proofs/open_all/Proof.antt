@@ -77,7 +77,7 @@ check-with-requires : tie.Need-check-with-requires Inv-loop μ-loop
 check-with-requires c κs =
     let l = head (c .before .before .before) in
     let p = start l .pre .1 in
-    record { room = omega (arith, l .loop .inv .1, p .room); sorting = omega (arith, l .loop .inv .1, l .loop .inv .2, p .sorting) }
+    record { space = omega (arith, l .loop .inv .1, p .space); sorting = omega (arith, l .loop .inv .1, l .loop .inv .2, p .sorting) }
 
 enum-told : tie.Need-enum-told Inv-loop μ-loop
 enum-told c = search needs

@@ -20,7 +20,7 @@ start k = k .before .before .before .before .before .before .before .before
 abbrev placed : tie.After-index-all → tie.After-place-all
 placed k = k .before .before .before .before .before .before .before .before .before
 
--- the index has room for the numbers that are in it
+-- the index has space for the numbers that are in it
 in-order : (k : tie.After-index-all) → k .index-all .result ≤ length (k .index-all .last .1 .1 .1 .1 .0)
 in-order k = let e = k .index-all .ensures in omega (arith, e .0, e .1, start (placed k) .pre .2)
 
@@ -41,7 +41,7 @@ index-all-requires c κs =
     let k = c .before .before .before .before .before .before .before .before in
     let p = k .place-all .ensures in
     let few = start k .pre .0 .fills .few in
-    (placed-numbered _ _ _ _ _ few p, few, p .counts-room, start k .pre .2)
+    (placed-numbered _ _ _ _ _ few p, few, p .counts-space, start k .pre .2)
 
 slice-aggregate-group-all : tie.Need-slice-aggregate-group-all
 slice-aggregate-group-all c = search needs
@@ -61,7 +61,7 @@ slice-aggregate-shares-any-2 c = search needs
 shares-any-requires : tie.Need-shares-any-requires
 shares-any-requires c κs =
     let k = c .before .before .before .before .before .before .before .before in
-    (some-index (k .index-all .ensures .2), placed k .place-all .ensures .at-room, c .before .before .before .before .group-all .ensures .0)
+    (some-index (k .index-all .ensures .2), placed k .place-all .ensures .at-space, c .before .before .before .before .group-all .ensures .0)
 
 same-length : tie.Need-same-length
 same-length c = search needs
@@ -79,7 +79,8 @@ returns c =
     let p = placed k in
     let a = start p in (
       c .shares-any .ensures
-          ∙ index-shared (now (a .args .b)) (a .args .v) _ _ _ (a .pre .0 .fills .few) (fits a) (p .place-all .ensures) (g .group-all .ensures .1) (k .index-all .ensures .2),
+          ∙ index-shared (now (a .args .b)) (a .args .v) _ _ _ (a .pre .0 .fills .few) (fits a) (p .place-all .ensures) (g .group-all .ensures .1)
+          (k .index-all .ensures .2),
       (p .place-all .kept .1 .1 .1 .1 .0, k .index-all .ensures .1, p .place-all .kept .1 .1 .1 .0),
     )
 

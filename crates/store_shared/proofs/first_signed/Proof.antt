@@ -6,7 +6,7 @@ use native.Mathlib.Omega.{arith}
 use denote.Ref.{now}
 use lib.ListN.{getD}
 use Rattle.store_record.specs.Reading.{noRecord}
-use Rattle.store_shared.specs.Shared.{signedAs}
+use Rattle.store_names.specs.Shared.{signedAs}
 use Rattle.store_shared.proofs.Groups.{none-passed, one-passed}
 use Rattle.store_shared.proofs.first_signed.Statement.{statement}
 use Rattle.store_shared.proofs.first_signed.Tie as tie
@@ -55,8 +55,11 @@ unfolding signedAs
 loop-again c =
     let t = c .before .before .before in
     let l = t .before in
-    let a = start l .args in
-    (omega (arith, t .loop-test .taken), one-passed (now (a .b)) (a .t2) (a .a) (now (a .signer)) (l .loop .j) (l .loop .inv .1) (sym (c .before .is-signed-by .ensures) ∙ c .if1 .left))
+    let a = start l .args in (
+      omega (arith, t .loop-test .taken),
+      one-passed (now (a .b)) (a .t2) (a .a) (now (a .signer)) (l .loop .j) (l .loop .inv .1)
+          (sym (c .before .is-signed-by .ensures) ∙ c .if1 .left),
+    )
 
 returns-2 : tie.Need-returns-2 Inv-loop μ-loop
 returns-2 c =

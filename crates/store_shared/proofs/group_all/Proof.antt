@@ -5,7 +5,7 @@ use native.Mathlib.Omega.{arith}
 use denote.Ref.{now}
 use lib.ListN.{length, getD, length-set}
 use Rattle.store_record.specs.Reading.{between, noRecord, RecordIn}
-use Rattle.store_shared.specs.Shared.{GroupsOf}
+use Rattle.store_names.specs.Shared.{GroupsOf}
 use Rattle.store_shared.proofs.Groups.{groups-none, groups-next}
 use Rattle.store_shared.proofs.group_all.Statement.{statement}
 use Rattle.store_shared.proofs.group_all.Tie as tie

@@ -11,7 +11,7 @@ use denote.Ref.{now}
 use lib.Dec.{eqb}
 use lib.ListN.{length, take, drop, getD}
 use Rattle.laws.specs.Any.{anyOf}
-use Rattle.store_shared.specs.Shared.{groupOf}
+use Rattle.store_names.specs.Shared.{groupOf}
 use Rattle.store_names.proofs.Pairs.{any-part, any-part-end}
 use Rattle.store_shared.proofs.meets.Statement.{statement}
 use Rattle.store_shared.proofs.meets.Tie as tie
@@ -48,7 +48,8 @@ module _ (t : tie.In-loop Inv-loop μ-loop) where
       let a = start .args in
       anyOf (its (now (a .order)) (now (a .groups)) (a .m)) (take (a .m - (t .before .loop .k + 1)) (drop (t .before .loop .k + 1) (now (a .order))))
 
-  step : anyOf (its (now (start .args .order)) (now (start .args .groups)) (start .args .m)) (take (start .args .m - t .before .loop .k) (drop (t .before .loop .k) (now (start .args .order))))
+  step : anyOf (its (now (start .args .order)) (now (start .args .groups)) (start .args .m))
+      (take (start .args .m - t .before .loop .k) (drop (t .before .loop .k) (now (start .args .order))))
       ≡ (its (now (start .args .order)) (now (start .args .groups)) (start .args .m) (getD (now (start .args .order)) (t .before .loop .k) 0) || later)
   step = any-part _ _ _ _ (t .loop-test .taken) (omega (arith, start .pre .3))
 

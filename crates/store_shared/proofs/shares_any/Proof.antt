@@ -33,7 +33,8 @@ returns : tie.Need-returns Inv-loop μ-loop
 returns c =
     let k = c .before .before in
     let t = k .before in
-    sym (some-shared _ _ _ _ (t .before .loop .start) _ _ (t .before .loop .inv) (t .loop-test .taken) (k .run-start .ensures) (sym (c .before .meets .ensures) ∙ c .if1 .taken))
+    sym (some-shared _ _ _ _ (t .before .loop .start) _ _ (t .before .loop .inv) (t .loop-test .taken) (k .run-start .ensures)
+    (sym (c .before .meets .ensures) ∙ c .if1 .taken))
 
 add-m : tie.Need-add-m Inv-loop μ-loop
 add-m c = search needs
@@ -45,7 +46,8 @@ loop-again : tie.Need-loop-again Inv-loop μ-loop
 loop-again c =
     let k = c .before .before in
     let t = k .before in
-    none-next _ _ _ _ (t .before .loop .start) _ _ (t .before .loop .inv) (t .loop-test .taken) (k .run-start .ensures) (sym (c .before .meets .ensures) ∙ c .if1 .left)
+    none-next _ _ _ _ (t .before .loop .start) _ _ (t .before .loop .inv) (t .loop-test .taken) (k .run-start .ensures) (sym (c .before .meets .ensures)
+    ∙ c .if1 .left)
 
 returns-2 : tie.Need-returns-2 Inv-loop μ-loop
 returns-2 c = sym (none-shared _ _ _ _ _ _ (c .loop-test .left) (c .before .loop .inv))

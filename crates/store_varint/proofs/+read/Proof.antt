@@ -113,14 +113,16 @@ read-returns-7 : (t : ℕ) → read-lts.Need-returns-7 (read-below t, read.Post)
 read-returns-7 t c =
     let e = c .before .before .before in
     let a = e .before .before .before .before .before in
-    rest-missing (now (a .args .s)) (a .args .i) (a .args .most) (omega arith) (e .before .if2 .left) (rw (c .enum-told .given .1) at (c .before .before .read .ensures))
+    rest-missing (now (a .args .s)) (a .args .i) (a .args .most) (omega arith) (e .before .if2 .left)
+    (rw (c .enum-told .given .1) at (c .before .before .read .ensures))
 
 read-returns-8 : (t : ℕ) → read-lts.Need-returns-8 (read-below t, read.Post) (read-at t) read.Post
 read-returns-8 t c =
     let k = c .before .before .before in
     let e = k .before .before .before in
     let a = e .before .before .before .before .before in
-    with-rest (now (a .args .s)) (a .args .i) (a .args .most) (omega (arith, e)) (e .before .if2 .left) _ _ (read-rest t k) (omega (arith, c .before .if5 .left)) (read-small t c)
+    with-rest (now (a .args .s)) (a .args .i) (a .args .most) (omega (arith, e)) (e .before .if2 .left) _ _ (read-rest t k)
+    (omega (arith, c .before .if5 .left)) (read-small t c)
 
 pub +read-spec : {M : Type 1} → statement M
 +read-spec =

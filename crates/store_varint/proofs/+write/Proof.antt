@@ -6,7 +6,7 @@ use mathlib.Core.Path.{sym, ap, _∙_}
 use denote.Ref.{now}
 use lib.ListN.{length-set}
 use Rattle.store_varint.proofs.Laws.{length-small, length-more, varint-least}
-use Rattle.store_varint.proofs.Writing.{room, one-written, begun-room, rest-fits, same-length, more-written}
+use Rattle.store_varint.proofs.Writing.{space, one-written, begun-space, rest-fits, same-length, more-written}
 use borrow.Fn.Kinds.{In}
 use borrow.Fn.PlainCycle.{Measures, is, falls, and}
 use Rattle.store_varint.proofs.write.Reads as write
@@ -30,7 +30,7 @@ write-cast-out t c = omega arith
 
 write-slice-write-out :
     (t : ℕ) → write-lts.Need-slice-write-out (write-below t, write.Post) (write-at t) write.Post
-write-slice-write-out t c = let a = c .before .before in room _ (now (a .args .out)) (a .pre .1)
+write-slice-write-out t c = let a = c .before .before in space _ (now (a .args .out)) (a .pre .1)
 
 write-same-length :
     (t : ℕ) → write-lts.Need-same-length (write-below t, write.Post) (write-at t) write.Post
@@ -50,15 +50,15 @@ write-cast-out-2 t c = omega arith
 
 write-slice-write-out-2 :
     (t : ℕ) → write-lts.Need-slice-write-out-2 (write-below t, write.Post) (write-at t) write.Post
-write-slice-write-out-2 t c = let a = c .before .before in room _ (now (a .args .out)) (a .pre .1)
+write-slice-write-out-2 t c = let a = c .before .before in space _ (now (a .args .out)) (a .pre .1)
 
 write-sub-write :
     (t : ℕ) → write-lts.Need-sub-write (write-below t, write.Post) (write-at t) write.Post
-write-sub-write t c = let a = c .before .before in begun-room _ (now (a .args .out)) (a .pre .1) (c .if1 .left)
+write-sub-write t c = let a = c .before .before in begun-space _ (now (a .args .out)) (a .pre .1) (c .if1 .left)
 
 write-part-write-start :
     (t : ℕ) → write-lts.Need-part-write-start (write-below t, write.Post) (write-at t) write.Post
-write-part-write-start t c = let a = c .before .before in begun-room _ (now (a .args .out)) (a .pre .1) (c .if1 .left)
+write-part-write-start t c = let a = c .before .before in begun-space _ (now (a .args .out)) (a .pre .1) (c .if1 .left)
 
 write-part-write-end :
     (t : ℕ) → write-lts.Need-part-write-end (write-below t, write.Post) (write-at t) write.Post

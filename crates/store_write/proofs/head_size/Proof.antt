@@ -34,7 +34,8 @@ returns : tie.Need-returns
 unfolding headSize
 returns c =
     let a = c .before .before .args in
-    ap (λ (n : ℕ). n + (1 + 2 * c .before .digest-bytes .result)) (c .size .ensures) ∙ ap (λ (d : ℕ). length (varint (1 + 2 * d + a .text)) + (1 + 2 * d)) (c .before .digest-bytes .ensures .0)
+    ap (λ (n : ℕ). n + (1 + 2 * c .before .digest-bytes .result)) (c .size .ensures)
+    ∙ ap (λ (d : ℕ). length (varint (1 + 2 * d + a .text)) + (1 + 2 * d)) (c .before .digest-bytes .ensures .0)
 
 pub head-size-spec : {M : Type 1} → statement M
 head-size-spec =

@@ -43,15 +43,19 @@ size c =
     let a = start c .args in
     head-length (a .a) (now (a .signer)) (now (a .manifest)) (a .text) (digest c) (c .digest-bytes .ensures .0) (start c .pre .0) (start c .pre .1)
 
-room : (c : tie.After-digest-bytes) → length (number c) + 1 + digest c + digest c ≤ length (out c)
-room c = omega (arith, size c, start c .pre .3)
+space : (c : tie.After-digest-bytes) → length (number c) + 1 + digest c + digest c ≤ length (out c)
+space c = omega (arith, size c, start c .pre .3)
 
 -- the whole start of a record is short
 short : (c : tie.After-digest-bytes) → length (number c) + 1 + digest c + digest c ≤ 1000
-short c = let d = c .digest-bytes .ensures .1 in omega (arith, start c .pre .2, varint-short (1 + 2 * digest c + start c .args .text) (omega (arith, start c .pre .2)))
+short c = let d = c .digest-bytes .ensures .1 in omega (
+  arith,
+  start c .pre .2,
+  varint-short (1 + 2 * digest c + start c .args .text) (omega (arith, start c .pre .2)),
+)
 
 number-written : (c : tie.After-write) → Writes (out (c .before .before)) (c .write .last .1 .0) (number (c .before .before))
-number-written c = record { fits = omega (arith, room (c .before .before)); all = c .write .ensures .1 }
+number-written c = record { fits = omega (arith, space (c .before .before)); all = c .write .ensures .1 }
 
 -- the slice with the algorithm's byte
 abbrev begun : tie.After-byte → List ℕ
@@ -66,7 +70,7 @@ first c = c .before .before .before .write .result + 1
 first-written : (c : tie.After-byte) → Writes (out (sized c)) (begun c) (number (sized c) ++ c .byte .result ∷ [])
 first-written c =
     let w = c .before .before .before in
-    byte-written (number-written w) (w .write .result) (c .byte .result) (w .write .ensures .0) (omega (arith, room (w .before .before), w .write .ensures .0))
+    byte-written (number-written w) (w .write .result) (c .byte .result) (w .write .ensures .0) (omega (arith, space (w .before .before), w .write .ensures .0))
 
 first-length : (c : tie.After-byte) → first c ≡ length (number (sized c) ++ c .byte .result ∷ [])
 first-length c =
@@ -75,7 +79,13 @@ first-length c =
 
 signer-fits : (c : tie.After-byte) → length (now (start (sized c) .args .signer)) ≤ length (midOf (first c) (length (begun c) - first c) (begun c))
 signer-fits c =
-    omega (arith, lent-length (first-written c) (first c) (first-length c), room (sized c), digest-size (sized c), c .before .before .before .write .ensures .0)
+    omega (
+      arith,
+      lent-length (first-written c) (first c) (first-length c),
+      space (sized c),
+      digest-size (sized c),
+      c .before .before .before .write .ensures .0,
+    )
 
 -- the slice with the signer's digest
 abbrev signed : tie.After-copy → List ℕ
@@ -97,23 +107,32 @@ second-length c =
     let b = c .before .before in
     omega (arith, first-length b, digest-size (sized b), length-append (number (sized b) ++ b .byte .result ∷ []) (now (start (sized b) .args .signer)))
 
-manifest-fits : (c : tie.After-copy) → length (now (start (sized (c .before .before)) .args .manifest)) ≤ length (midOf (second c) (length (signed c) - second c) (signed c))
+manifest-fits : (c : tie.After-copy) → length (now (start (sized (c .before .before)) .args .manifest)) ≤ length
+    (midOf (second c) (length (signed c) - second c) (signed c))
 manifest-fits c =
     let b = c .before .before in
-    omega (arith, lent-length (second-written c) (second c) (second-length c), room (sized b), manifest-size (sized b), b .before .before .before .write .ensures .0)
+    omega (
+      arith,
+      lent-length (second-written c) (second c) (second-length c),
+      space (sized b),
+      manifest-size (sized b),
+      b .before .before .before .write .ensures .0,
+    )
 
 -- the slice with both digests
 abbrev whole : tie.After-copy2 → List ℕ
 whole c = let d = c .before .before .before .before in putMid (second d) (length (signed d) - second d) (signed d) (c .copy2 .last .1 .0)
 
-all-written : (c : tie.After-copy2) → Writes (out (sized (c .before .before .before .before .before .before))) (whole c) (head (sized (c .before .before .before .before .before .before)))
+all-written : (c : tie.After-copy2) → Writes (out (sized (c .before .before .before .before .before .before))) (whole c)
+    (head (sized (c .before .before .before .before .before .before)))
 all-written c =
     let d = c .before .before .before .before in
     let b = d .before .before in
     let a = start (sized b) .args in
     subst (Writes (out (sized b)) (whole c))
     (ap (λ (k : ℕ). ((number (sized b) ++ k ∷ []) ++ now (a .signer)) ++ now (a .manifest)) (b .byte .ensures)
-    ∙ sym (head-is (a .a) (now (a .signer)) (now (a .manifest)) (a .text) (digest (sized b)) (sized b .digest-bytes .ensures .0) (start (sized b) .pre .0) (start (sized b) .pre .1)))
+    ∙ sym (head-is (a .a) (now (a .signer)) (now (a .manifest)) (a .text) (digest (sized b)) (sized b .digest-bytes .ensures .0) (start (sized b) .pre .0)
+    (start (sized b) .pre .1)))
     (part-written (second-written d) (second d) _ (now (a .manifest)) (second-length d) (record { fits = manifest-fits d; all = c .copy2 .ensures }))
 
 digest-bytes-requires : tie.Need-digest-bytes-requires
@@ -129,7 +148,7 @@ add-write-2 : tie.Need-add-write-2
 add-write-2 c = search needs
 
 write-requires : tie.Need-write-requires
-write-requires c κs = omega (arith, room (c .before))
+write-requires c κs = omega (arith, space (c .before))
 
 byte-requires : tie.Need-byte-requires
 byte-requires c κs = search needs
@@ -137,7 +156,7 @@ byte-requires c κs = search needs
 slice-write-out : tie.Need-slice-write-out
 slice-write-out c =
     let w = c .before .before .before in
-    omega (arith, room (w .before .before), w .write .ensures .0, kept-length (number-written w))
+    omega (arith, space (w .before .before), w .write .ensures .0, kept-length (number-written w))
 
 add-first : tie.Need-add-first
 add-first c =
@@ -147,7 +166,7 @@ add-first c =
 sub-copy : tie.Need-sub-copy
 sub-copy c =
     let w = c .before .before .before in
-    omega (arith, room (w .before .before), w .write .ensures .0, kept-length (first-written c))
+    omega (arith, space (w .before .before), w .write .ensures .0, kept-length (first-written c))
 
 part-copy-start : tie.Need-part-copy-start
 part-copy-start c = sub-copy c
@@ -165,7 +184,7 @@ sub-copy-2 : tie.Need-sub-copy-2
 sub-copy-2 c =
     let d = c .before .before in
     let b = d .before .before in
-    omega (arith, room (sized b), b .before .before .before .write .ensures .0, kept-length (second-written d))
+    omega (arith, space (sized b), b .before .before .before .write .ensures .0, kept-length (second-written d))
 
 part-copy-start-2 : tie.Need-part-copy-start-2
 part-copy-start-2 c = sub-copy-2 c
@@ -177,7 +196,8 @@ copy-requires-2 : tie.Need-copy-requires-2
 copy-requires-2 c κs = manifest-fits (c .before .before .before)
 
 add-result : tie.Need-add-result
-add-result c = let b = c .before .before .before .before .before .before .before .before in omega (arith, short (sized b), b .before .before .before .write .ensures .0)
+add-result c = let b = c .before .before .before .before .before .before .before .before in
+    omega (arith, short (sized b), b .before .before .before .write .ensures .0)
 
 same-length : tie.Need-same-length
 same-length c = kept-length (all-written (c .before .before))

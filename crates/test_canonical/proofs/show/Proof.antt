@@ -39,7 +39,8 @@ array-share-prefix-out : tie.Need-array-share-prefix-out
 array-share-prefix-out c = search needs
 
 slice-aggregate-write-all-3 : tie.Need-slice-aggregate-write-all-3
-slice-aggregate-write-all-3 c = sym (length-take-le _ (c .before .before .before .before .before .before .before .before .canonical .last .1 .0) (omega (arith, c .before .before .before .before .before .before .before .before .canonical .kept .1 .0, c .before .if2 .taken)))
+slice-aggregate-write-all-3 c = sym (length-take-le _ (c .before .before .before .before .before .before .before .before .canonical .last .1 .0)
+    (omega (arith, c .before .before .before .before .before .before .before .before .canonical .kept .1 .0, c .before .if2 .taken)))
 
 write-all-requires-3 : tie.Need-write-all-requires-3
 write-all-requires-3 c κs = search needs

@@ -1,4 +1,5 @@
--- `test_lines::after` meets its contract. The loop's invariant: `i` is not past the word, and the word is not longer than the line. The measure is what is left of the word.
+-- `test_lines::after` meets its contract. The loop's invariant: `i` is not past the word, and the word is not longer than the line. The measure is
+-- what is left of the word.
 -- Assumes nothing.
 use Prim.Native.Nat.{_-_, _≤_}
 use lib.ListN.{length}

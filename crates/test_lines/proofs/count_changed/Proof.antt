@@ -1,4 +1,5 @@
--- `test_lines::count_changed` reads in place and ends, and the count does not wrap. The loop's invariant: no more are counted than were passed. The measure is how much is left.
+-- `test_lines::count_changed` reads in place and ends, and the count does not wrap. The loop's invariant: no more are counted than were passed. The
+-- measure is how much is left.
 -- Assumes nothing.
 use Prim.Native.Nat.{_-_, _≤_}
 use mathlib.Core.Logic.{⊎-elim}

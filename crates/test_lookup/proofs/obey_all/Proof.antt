@@ -1,4 +1,5 @@
--- `test_lookup::obey_all` ends and reads in place. The loop's invariant: the line's start is not past the end, the buffer is as long as it was, and the store is within it. The
+-- `test_lookup::obey_all` ends and reads in place. The loop's invariant: the line's start is not past the end, the buffer is as long as it was, and
+-- the store is within it. The
 -- measure is how much is left.
 -- Assumes nothing.
 use Prim.Native.Nat.{_-_, _≤_}

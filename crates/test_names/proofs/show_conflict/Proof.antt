@@ -20,7 +20,7 @@ slice-aggregate-sort-contents-3 c = search needs
 sort-contents-requires : tie.Need-sort-contents-requires
 sort-contents-requires c κs =
     let a = c .before .before .before .before .before in
-    (a .pre .0, record { room = omega arith; sorting = omega arith }, omega (arith, opened-short _ _ (a .pre .0)))
+    (a .pre .0, record { space = omega arith; sorting = omega arith }, omega (arith, opened-short _ _ (a .pre .0)))
 
 array-share-prefix-names : tie.Need-array-share-prefix-names
 array-share-prefix-names c = search needs

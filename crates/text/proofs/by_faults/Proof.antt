@@ -20,7 +20,8 @@ offset-requires-3 : tie.Need-offset-requires-3
 offset-requires-3 c κs = search needs
 
 returns-3 : tie.Need-returns-3
-returns-3 c = λ t e. same-keys _ t e _ _ (c .before .before .before .before .before .if1 .left) (c .before .before .before .if2 .left) _ (c .offset3 .ensures) (c .before .if3 .taken)
+returns-3 c = λ t e. same-keys _ t e _ _ (c .before .before .before .before .before .if1 .left) (c .before .before .before .if2 .left) _ (c .offset3 .ensures)
+    (c .before .if3 .taken)
 
 returns-4 : tie.Need-returns-4
 returns-4 c = λ t e. accepted _ t e _ _ (c .before .before .before .before .if1 .left) (c .before .before .if2 .left) (c .if3 .left)

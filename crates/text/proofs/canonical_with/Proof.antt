@@ -56,11 +56,11 @@ write-form-requires c κs =
     let g = c .before .before .before .before .before .answer2 .given .1 in
     let e = sym (k .check-with .ensures .0) ∙ g in
     let l = k .check-with .kept .1 in
-    let room = start k .pre in
+    let space = start k .pre in
     record {
       taken = accepted-number s out _ _ e;
       fits = omega (arith, accepted-size s out _ _ e, c .before .before .before .if1 .left);
-      room = record { enough = omega (arith, l .0, room .enough); sorting = omega (arith, l .0, l .1 .0, room .sorting) };
+      space = record { enough = omega (arith, l .0, space .enough); sorting = omega (arith, l .0, l .1 .0, space .sorting) };
       sorted = (rw g at (k .check-with .ensures .1)) .1;
     }
 

@@ -56,7 +56,8 @@ same-length-4 c = search needs
 
 returns-2 : tie.Need-returns-2
 returns-2 c =
-    let s = now (c .before .before .before .before .before .before .before .before .before .before .before .before .before .before .before .before .before .args .text) in
+    let s = now
+    (c .before .before .before .before .before .before .before .before .before .before .before .before .before .before .before .before .before .args .text) in
     let g = c .before .before .before .before .before .f .given in
     let f = g .0 .0 in
     let r = rw (g .1) at (c .before .before .before .before .before .before .before .before .before .before .before .text .ensures) in

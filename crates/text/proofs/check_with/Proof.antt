@@ -40,15 +40,19 @@ unfolding byVerdict
 returns-2 c =
     let s = now (c .before .before .before .before .before .before .before .before .before .before .before .before .before .before .args .text) in
     let r = c .before .before .before .before .check-json .ensures in
-    let u = c .before .before .before .before .before .before .before .before .before .check in
-    (by-verdict s (u .result) _ (c .before .before .before .before .before .before .before .before .before .before .if1 .left) (u .ensures) (r .0 ∙ sym (ap (byVerdict s) (c .before .before .before .before .before .before .before .enum-told .given .1))), r .1)
+    let u = c .before .before .before .before .before .before .before .before .before .check in (
+      by-verdict s (u .result) _ (c .before .before .before .before .before .before .before .before .before .before .if1 .left) (u .ensures) (r .0
+          ∙ sym (ap (byVerdict s) (c .before .before .before .before .before .before .before .enum-told .given .1))),
+      r .1,
+    )
 
 returns-3 : tie.Need-returns-3
 unfolding byVerdict
 returns-3 c =
     let s = now (c .before .before .before .before .before .before .before .before .before .args .text) in
     let u = c .before .before .before .before .check in
-    refused-keys s _ _ _ _ (c .refusal2 .ensures) (by-verdict s (u .result) _ (c .before .before .before .before .before .if1 .left) (u .ensures) (sym (ap (byVerdict s) (c .before .before .at .given .1))))
+    refused-keys s _ _ _ _ (c .refusal2 .ensures) (by-verdict s (u .result) _ (c .before .before .before .before .before .if1 .left) (u .ensures)
+    (sym (ap (byVerdict s) (c .before .before .at .given .1))))
 
 pub check-with-spec : {M : Type 1} → statement M
 check-with-spec =

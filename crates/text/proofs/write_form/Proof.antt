@@ -27,14 +27,15 @@ write-value-requires c κs =
     let here = c .before .before .before .root .ensures .0 8 (p .tree) (taken-text s p) in
     record {
       value = content (p .tree);
-      room = record {
+      space = record {
         here = here;
         short = omega (arith, p .short);
         form = omega (arith, b .fits, f);
-        enough = omega (arith, p .short, w, f, b .room .enough);
-        sorting = b .room .sorting;
+        enough = omega (arith, p .short, w, f, b .space .enough);
+        sorting = b .space .sorting;
       };
-      sorted = λ fs e. root-sorted s at _ _ (p .tree) (c .before .before .before .root .ensures .1) (p .reads) (b .sorted) fs (subst (λ (v : Value). ValueAt s at 8 v) e here);
+      sorted = λ fs e. root-sorted s at _ _ (p .tree) (c .before .before .before .root .ensures .1) (p .reads) (b .sorted) fs
+          (subst (λ (v : Value). ValueAt s at 8 v) e here);
     }
 
 same-length : tie.Need-same-length
@@ -50,9 +51,13 @@ returns : tie.Need-returns
 returns c =
     let s = now (c .before .before .before .before .before .before .before .before .before .before .before .before .before .before .before .args .text) in
     let p = taken s (c .before .before .before .before .before .before .before .before .before .before .before .before .before .before .before .pre .taken) in
-    let w = c .before .before .before .before .before .before .write-value .ensures (content (p .tree)) (c .before .before .before .before .before .before .before .before .before .before .root .ensures .0 8 (p .tree) (taken-text s p)) in
-    let e = sym (taken-form s p) in
-    ((refl, w .0 ∙ ap length e), w .1 .all ∙ ap (λ (l : List ℕ). l ++ drop (length l) (now (c .before .before .before .before .before .before .before .before .before .before .before .before .before .before .before .args .out))) e)
+    let w = c .before .before .before .before .before .before .write-value .ensures (content (p .tree))
+    (c .before .before .before .before .before .before .before .before .before .before .root .ensures .0 8 (p .tree) (taken-text s p)) in
+    let e = sym (taken-form s p) in (
+      (refl, w .0 ∙ ap length e),
+      w .1 .all ∙ ap (λ (l : List ℕ). l ++ drop (length l) (now
+          (c .before .before .before .before .before .before .before .before .before .before .before .before .before .before .before .args .out))) e,
+    )
 
 pub write-form-spec : {M : Type 1} → statement M
 write-form-spec =

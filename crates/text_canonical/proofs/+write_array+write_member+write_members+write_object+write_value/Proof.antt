@@ -14,7 +14,7 @@ use Rattle.text_view.specs.Listed.{Gives}
 use Rattle.text_view.specs.declared.value.Item.the-variants.{At, End}
 use Rattle.text_view.proofs.Values.{within}
 use Rattle.text_canonical.proofs.Values.{array-value, object-value, no-branch}
-use Rattle.text_canonical.proofs.Marks.{from-mark, room-of}
+use Rattle.text_canonical.proofs.Marks.{from-mark, space-of}
 use Rattle.text_canonical.proofs.Arrays
 use Rattle.text_canonical.proofs.Objects
 use Rattle.text_canonical.proofs.MemberParts
@@ -166,7 +166,7 @@ write-array-slice-write-out t c = Arrays.mark-fits (c .before .before .before .b
 write-array-add-i : (t : ℕ) → In-array t write-array-lts.Need-add-i
 write-array-add-i t c =
     let b = c .before .before .before .before in
-    omega (arith, within _ _ _ _ (b .pre .1 .room .here), b .good)
+    omega (arith, within _ _ _ _ (b .pre .1 .space .here), b .good)
 
 write-array-loop-holds : (t : ℕ) → In-array t write-array-lts.Need-loop-holds
 write-array-loop-holds t c = (Arrays.started (c .before .before .before .before .pre .1), refl, refl)
@@ -515,7 +515,7 @@ abbrev In-object : ℕ → (write-object-lts.Claims → In 4 write-object-kinds.
 In-object t F = F (write-object-calls t) (write-object-at t) write-object.Post
 
 write-object-sorted-keys-requires : (t : ℕ) → In-object t write-object-lts.Need-sorted-keys-requires
-write-object-sorted-keys-requires t c κs = Objects.keys-room (c .before .before .before .before .before .before .pre .1)
+write-object-sorted-keys-requires t c κs = Objects.keys-space (c .before .before .before .before .before .before .pre .1)
 
 write-object-write-members-requires : (t : ℕ) → In-object t write-object-lts.Need-write-members-requires
 write-object-write-members-requires t c κs =
@@ -543,7 +543,7 @@ In-value t F = F (write-value-calls t) (write-value-at t) write-value.Post
 write-value-kind-requires : (t : ℕ) → In-value t write-value-lts.Need-kind-requires
 write-value-kind-requires t c κs =
     let b = c .before .before .before .before in
-    record { depth = b .args .depth; value = b .pre .1 .value; here = b .pre .1 .room .here }
+    record { depth = b .args .depth; value = b .pre .1 .value; here = b .pre .1 .space .here }
 
 write-value-enum-told : (t : ℕ) → In-value t write-value-lts.Need-enum-told
 write-value-enum-told t c = search needs
@@ -553,9 +553,9 @@ write-value-write-array-requires t c κs =
     let d = c .before .before .before in
     let b = d .before .before .before .before .before .before .before in
     let p = b .pre .1 in
-    let k = sym (d .enum-told .given .1) ∙ d .before .before .kind .ensures (b .args .depth) (p .value) (p .room .here) in
+    let k = sym (d .enum-told .given .1) ∙ d .before .before .kind .ensures (b .args .depth) (p .value) (p .space .here) in
     let v = array-value (p .value) k in
-    (omega (arith, b .pre .0), record { values = v .0; room = room-of (v .1) (p .room) })
+    (omega (arith, b .pre .0), record { values = v .0; space = space-of (v .1) (p .space) })
 
 write-value-enum-told-2 : (t : ℕ) → In-value t write-value-lts.Need-enum-told-2
 write-value-enum-told-2 t c = search needs
@@ -565,9 +565,9 @@ write-value-write-object-requires t c κs =
     let d = c .before .before .before in
     let b = d .before .before .before .before .before .before .before in
     let p = b .pre .1 in
-    let k = sym (d .enum-told2 .given .1) ∙ d .before .before .kind .ensures (b .args .depth) (p .value) (p .room .here) in
+    let k = sym (d .enum-told2 .given .1) ∙ d .before .before .kind .ensures (b .args .depth) (p .value) (p .space .here) in
     let v = object-value (p .value) k in
-    (omega (arith, b .pre .0), record { fields = v .0; room = room-of (v .1) (p .room) })
+    (omega (arith, b .pre .0), record { fields = v .0; space = space-of (v .1) (p .space) })
 
 write-value-write-scalar-requires : (t : ℕ) → In-value t write-value-lts.Need-write-scalar-requires
 write-value-write-scalar-requires t c κs =
@@ -578,11 +578,11 @@ write-value-write-scalar-requires t c κs =
     record {
       depth = b .args .depth;
       value = p .value;
-      here = p .room .here;
-      tells = d .before .kind .ensures (b .args .depth) (p .value) (p .room .here);
+      here = p .space .here;
+      tells = d .before .kind .ensures (b .args .depth) (p .value) (p .space .here);
       no-array = n .0;
       no-object = n .1;
-      form = p .room .form;
+      form = p .space .form;
     }
 
 write-value-same-length : (t : ℕ) → In-value t write-value-lts.Need-same-length

@@ -52,10 +52,15 @@ given c =
     let p = inv c in
     let b = c .before .before .before in
     let a = b .before .before .before .before .args in
-    subst (Gives (now (a .s)) (b .before .loop .i) (a .depth - 1) true (p .trees) (p .rest)) (c .before .first .given .1) (b .read-item .ensures (p .trees) (p .rest) (p .left))
+    subst (Gives (now (a .s)) (b .before .loop .i) (a .depth - 1) true (p .trees) (p .rest)) (c .before .first .given .1)
+    (b .read-item .ensures (p .trees) (p .rest) (p .left))
 
 cast-keys : tie.Need-cast-keys Inv-loop μ-loop
-cast-keys c = let p = inv c in omega (arith, Collect.position p _ _ _ (p .trees) (given c), c .before .before .before .before .before .before .before .pre .short)
+cast-keys c = let p = inv c in omega (
+  arith,
+  Collect.position p _ _ _ (p .trees) (given c),
+  c .before .before .before .before .before .before .before .pre .short,
+)
 
 mul-keys : tie.Need-mul-keys Inv-loop μ-loop
 mul-keys c = omega (arith, Collect.fits (inv c) _ _ _ (given c), inv-length c, c .before .before .before .before .before .before .before .good)
@@ -82,8 +87,12 @@ returns : tie.Need-returns Inv-loop μ-loop
 returns c =
     let d = c .before .before in
     let p = d .before .loop .inv .0 in
-    let a = d .before .before .before .before .args in
-    (omega (arith, p .room, d .before .loop .inv .1), Collect.finished p _ (subst (Gives (now (a .s)) (d .before .loop .i) (a .depth - 1) true (p .trees) (p .rest)) (c .enum-told .given .1) (d .read-item .ensures (p .trees) (p .rest) (p .left))))
+    let a = d .before .before .before .before .args in (
+      omega (arith, p .space, d .before .loop .inv .1),
+      Collect.finished p _
+          (subst (Gives (now (a .s)) (d .before .loop .i) (a .depth - 1) true (p .trees) (p .rest)) (c .enum-told .given .1)
+          (d .read-item .ensures (p .trees) (p .rest) (p .left))),
+    )
 
 pub collect-keys-spec : {M : Type 1} → statement M
 collect-keys-spec =

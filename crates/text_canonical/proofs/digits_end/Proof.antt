@@ -6,8 +6,8 @@ use native.Mathlib.Omega.{arith}
 use denote.Ref.{now}
 use lib.Dec.{eqb}
 use lib.ListN.{getD}
-use Rattle.text_json.specs.Parts.{Ints}
-use Rattle.text_json.proofs.Numerals.{signs-most}
+use Rattle.text_numbers.specs.Parts.{Ints}
+use Rattle.text_numbers.proofs.Numerals.{signs-most}
 use Rattle.text_view.proofs.Values.{within}
 use Rattle.text_view.proofs.Numbers.{number-parts, no-int}
 use Rattle.text_canonical.proofs.Scalars.{digits-end}
@@ -46,7 +46,8 @@ returns c =
     let b = d .before .before .before .before in
     let p = b .pre in
     let f = ap (λ (n : ℕ). b .args .at + n) (d .before .sign-size .ensures) in
-    digits-end _ _ _ _ _ (within _ _ (p .depth) _ (p .here)) f (subst (Ints (now (b .args .s)) (b .args .at + d .before .sign-size .result)) (c .before .end .given .1) (d .int-part .ensures))
+    digits-end _ _ _ _ _ (within _ _ (p .depth) _ (p .here)) f
+    (subst (Ints (now (b .args .s)) (b .args .at + d .before .sign-size .result)) (c .before .end .given .1) (d .int-part .ensures))
 
 returns-2 : tie.Need-returns-2
 returns-2 c =
@@ -55,7 +56,8 @@ returns-2 c =
     let p = b .pre in
     let f = ap (λ (n : ℕ). b .args .at + n) (d .before .sign-size .ensures) in
     let k = number-parts (now (b .args .s)) (b .args .at) (p .depth) (p .negative) (p .digits) (p .here) in
-    no-int _ _ _ f _ _ (k .1 .1) _ (subst (Ints (now (b .args .s)) (b .args .at + d .before .sign-size .result)) (c .before .end2 .given .1) (d .int-part .ensures))
+    no-int _ _ _ f _ _ (k .1 .1) _ (subst (Ints (now (b .args .s)) (b .args .at + d .before .sign-size .result)) (c .before .end2 .given .1)
+    (d .int-part .ensures))
 
 pub digits-end-spec : {M : Type 1} → statement M
 digits-end-spec =

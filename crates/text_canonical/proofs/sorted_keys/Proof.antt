@@ -21,8 +21,16 @@ slice-aggregate-sort-keys c =
 sort-keys-requires : tie.Need-sort-keys-requires
 sort-keys-requires c κs =
     let f = c .before .before .before .before .collect-keys in
-    let b = c .before .before .before .before .before .before .before .before .before in
-    (f .ensures .1 .keys, omega (arith, f .ensures .0, f .kept .1 .1 .1 .0, length-take-le (f .result) (f .last .1 .1 .1 .0) (omega (arith, f .ensures .0, f .kept .1 .1 .1 .0)), b .pre .1))
+    let b = c .before .before .before .before .before .before .before .before .before in (
+      f .ensures .1 .keys,
+      omega (
+        arith,
+        f .ensures .0,
+        f .kept .1 .1 .1 .0,
+        length-take-le (f .result) (f .last .1 .1 .1 .0) (omega (arith, f .ensures .0, f .kept .1 .1 .1 .0)),
+        b .pre .1,
+      ),
+    )
 
 same-length : tie.Need-same-length
 same-length c = search needs
@@ -34,7 +42,8 @@ returns : tie.Need-returns
 returns c =
     let f = c .before .before .before .before .before .before .before .before .before .collect-keys in
     let g = c .before .before .before .before .sort-keys in
-    sorted _ _ _ (f .result) (f .last .1 .1 .1 .0) (g .last .1 .0) (omega (arith, f .ensures .0, f .kept .1 .1 .1 .0)) (f .ensures .1) (g .ensures) (g .kept .1 .0)
+    sorted _ _ _ (f .result) (f .last .1 .1 .1 .0) (g .last .1 .0) (omega (arith, f .ensures .0, f .kept .1 .1 .1 .0)) (f .ensures .1) (g .ensures)
+    (g .kept .1 .0)
 
 pub sorted-keys-spec : {M : Type 1} → statement M
 sorted-keys-spec =

@@ -56,7 +56,8 @@ returns : tie.Need-returns
 returns c =
     let d = c .before .before in
     let b = d .before .before .before .before .before .before .before in
-    λ depth v h. rw (null-bytes v (sym (d .before .before .before .enum-told .given .1) ∙ b .pre .tells ∙ same-kind _ _ _ _ _ v (b .pre .here) h)) (d .copy .ensures)
+    λ depth v h. rw (null-bytes v (sym (d .before .before .before .enum-told .given .1) ∙ b .pre .tells ∙ same-kind _ _ _ _ _ v (b .pre .here) h))
+    (d .copy .ensures)
 
 same-length-2 : tie.Need-same-length-2
 same-length-2 c = search needs
@@ -65,7 +66,8 @@ returns-2 : tie.Need-returns-2
 returns-2 c =
     let d = c .before .before in
     let b = d .before .before .before .before .before .before .before in
-    λ depth v h. rw (boolean-bytes _ v (sym (d .before .before .before .kind .given .1) ∙ b .pre .tells ∙ same-kind _ _ _ _ _ v (b .pre .here) h)) (d .write-boolean .ensures)
+    λ depth v h. rw (boolean-bytes _ v (sym (d .before .before .before .kind .given .1) ∙ b .pre .tells ∙ same-kind _ _ _ _ _ v (b .pre .here) h))
+    (d .write-boolean .ensures)
 
 same-length-3 : tie.Need-same-length-3
 same-length-3 c = search needs

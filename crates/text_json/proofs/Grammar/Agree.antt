@@ -22,6 +22,7 @@ unfolding atEnd
 end-reads d s s₁ s₂ t p q [] h = is-found (whole (Text.text p q h))
 end-reads d s s₁ s₂ t p q (b ∷ s₃) h = is-stuck all
 
+-- Reading a text finds a tree that the grammar gives to the whole text, or is stuck at an end of the text.
 pub text-reads : (d : ℕ) (s : List ℕ) → Answer (Whole d s) (λ r. Ends r s) (readText d s)
 unfolding readText
 text-reads d s =
@@ -35,21 +36,25 @@ text-rest d s t r e = rest (answer-found (text-reads d s) e)
     rest : {r : List ℕ} → Whole d s t r → r ≡ []
     rest (whole p) = refl
 
+-- A text that is read as a tree has this tree by the grammar.
 pub text-sound : (d : ℕ) (s : List ℕ) (t : Syntax) (r : List ℕ) → readText d s ≡ found t r → Text d s t
 text-sound d s t r e = text (answer-found (text-reads d s) e)
   where
     text : {r : List ℕ} → Whole d s t r → Text d s t
     text (whole p) = p
 
+-- Where reading a text is stuck, the rest is an end of the text.
 pub text-stuck-ends : (d : ℕ) (s r : List ℕ) → readText d s ≡ stuck r → Ends r s
 text-stuck-ends d s r e = answer-stuck (text-reads d s) e
 
+-- A text that has a tree by the grammar is read as this tree, and nothing is left.
 pub text-complete : (d : ℕ) {s : List ℕ} {t : Syntax} → Text d s t → readText d s ≡ found t []
 unfolding readText andThen atEnd
 text-complete d {t} (Text.text {s} {s₁} {s₂} p q h) =
     rw (spaces-complete p (first-no-space s₁ (value-first d s₁ t s₂ q))) (rw (read-complete d s₁ t s₂ q (space-stops h end-stops))
     (rw (spaces-complete h refl)))
 
+-- A text is read as a tree, with nothing left, exactly where the grammar gives it this tree.
 pub text-agrees : (d : ℕ) (s : List ℕ) (t : Syntax) → (Text d s t → readText d s ≡ found t []) × (readText d s ≡ found t [] → Text d s t)
 text-agrees d s t = (λ p. text-complete d p, text-sound d s t [])
 

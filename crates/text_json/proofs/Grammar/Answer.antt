@@ -21,20 +21,24 @@ by-test true f g = f refl
 by-test false f g = g refl
 
 module _ {A : Type 0} {P : A → List ℕ → Type 0} {Q : List ℕ → Type 0} where
+  -- If an answer is something found, `P` holds of it and its rest.
   pub answer-found : {x : A} {r : List ℕ} {y : Read A} → Answer P Q y → y ≡ found x r → P x r
   answer-found {x} {r} (is-found {x = x₁} {r = r₁} p) e =
       let i : x₁ ≡ x = cc in let j : r₁ ≡ r = cc in rw (← i, ← j) p
   answer-found (is-stuck q) e = let z : _≡_ {A = ℕ} 0 1 = cc in absurd (omega arith)
 
+  -- If an answer is stuck, `Q` holds of the rest from which it is stuck.
   pub answer-stuck : {r : List ℕ} {y : Read A} → Answer P Q y → y ≡ stuck r → Q r
   answer-stuck (is-found p) e = let z : _≡_ {A = ℕ} 0 1 = cc in absurd (omega arith)
   answer-stuck {r} (is-stuck {r = r₁} q) e = let j : r₁ ≡ r = cc in rw (← j) q
 
+  -- What holds of an answer may be replaced by what follows from it, both for what was found and for where it is stuck.
   pub answer-map : {P′ : A → List ℕ → Type 0} {Q′ : List ℕ → Type 0} {y : Read A} → ((x : A) (r : List ℕ) → P x r → P′ x r)
       → ((r : List ℕ) → Q r → Q′ r) → Answer P Q y → Answer P′ Q′ y
   answer-map f g (is-found p) = is-found (f _ _ p)
   answer-map f g (is-stuck q) = is-stuck (g _ q)
 
+  -- What holds of a second reading after all that a first one may find, and where the first is stuck, holds of both in a row.
   pub answer-then : {B : Type 0} {P′ : B → List ℕ → Type 0} {y : Read A} {f : A → List ℕ → Read B} → Answer P Q y
       → ((x : A) (r : List ℕ) → P x r → Answer P′ Q (f x r)) → Answer P′ Q (andThen y f)
   unfolding andThen
@@ -64,6 +68,7 @@ unfolding andThen
 reads-as g (is-found p) k = is-found (k _ _ p)
 reads-as g (is-stuck q) k = is-stuck q
 
+-- With an item put before the list that was found, an answer has the condition that follows for the longer list.
 pub reads-prepend : {A : Type 0} {P P′ : List A → List ℕ → Type 0} {s : List ℕ} {y : Read (List A)} (x : A)
     → Answer P (λ r. Ends r s) y → ((xs : List A) (r : List ℕ) → P xs r → P′ (x ∷ xs) r) → Answer P′ (λ r. Ends r s) (prepend x y)
 unfolding prepend

@@ -11,33 +11,41 @@ use lib.Dec.{eqb}
 use borrow.Author.Tests.{eq-eqb, ne-eqb}
 use Rattle.text_json.specs.Bytes.{between, isSpace, isDigit, isPoint, isExp, isSign, hexValue, isUnescaped, isShort}
 use Rattle.text_json.specs.Syntax.{Char, Numeral, Syntax, number, Member}
-use Rattle.text_json.specs.Grammar.{hexNumber, Space, Word, Digits, SomeDigits, Int, Frac, Exp, Unsigned, Number, Chars, String, Scalar, Items, Listed, Pair, Nested, Value, starts, Stops}
-use Rattle.text_json.specs.Read.{Read, found, andThen, spaces, readWord, digitsOf, afterDigits, readSomeDigits, readInt, readFrac, readSigned, readExp, readUnsigned, readNumber, Pending, prepend, readChars, readString, readScalar, afterItem, readItems, readFirst, readListed, readPair, readNested, read}
+use Rattle.text_json.specs.Grammar.{hexNumber, Space, Word, Digits, SomeDigits, Int, Frac, Exp, Unsigned, Number, Chars, String, Scalar, Items, Listed}
+use Rattle.text_json.specs.Grammar.{Pair, Nested, Value, starts, Stops}
+use Rattle.text_json.specs.Read.{Read, found, andThen, spaces, readWord, digitsOf, afterDigits, readSomeDigits, readInt, readFrac, readSigned, readExp}
+use Rattle.text_json.specs.Read.{readUnsigned, readNumber, Pending, prepend, readChars, readString, readScalar, afterItem, readItems, readFirst}
+use Rattle.text_json.specs.Read.{readListed, readPair, readNested, read}
 use Rattle.text_json.proofs.Grammar.Ends.{Inside, inside-ends, ends-length, inside-length}
 use Rattle.text_json.proofs.Grammar.Answer.{by-test}
 use Rattle.text_json.proofs.Grammar.Rests.{space-ends, word-ends, pair-inside, value-inside}
 use Rattle.text_json.proofs.Grammar.Bytes.{both-ways, space-cases, exp-cases, apart}
 
+-- The empty text does not go on as a number does.
 pub end-stops : Stops []
 end-stops = record { no-digit = refl; no-point = refl; no-exp = refl }
 
 -- spaces, words and digits
 
+-- Of a text that begins with no white space, none is skipped.
 pub spaces-none : (s : List ℕ) → starts isSpace s ≡ false → spaces s ≡ s
 unfolding spaces
 spaces-none [] h = refl
 spaces-none (b ∷ s) h = rw (h, spaces)
 
+-- Skipping white space leaves what the grammar leaves after it, if that begins with no white space.
 pub spaces-complete : {s r : List ℕ} → Space s r → starts isSpace r ≡ false → spaces s ≡ r
 unfolding spaces
 spaces-complete {s} Space.end h = spaces-none s h
 spaces-complete (Space.more e p) h = rw (e, spaces) (spaces-complete p h)
 
+-- A word that a text begins with by the grammar is found, with the same rest.
 pub word-complete : {w s r : List ℕ} → Word w s r → readWord w s ≡ found tt r
 unfolding readWord
 word-complete Word.end = refl
 word-complete (Word.more {w} {b} e p) = rw (eq-eqb b w e, readWord) (word-complete p)
 
+-- The digits that a text begins with by the grammar are those that are read, with the same rest, if no digit follows.
 pub digits-complete : {s ds r : List ℕ} → Digits s ds r → starts isDigit r ≡ false → (digitsOf s ≡ ds) × (afterDigits s ≡ r)
 unfolding digitsOf afterDigits
 digits-complete {s} Digits.end h = none s h
@@ -49,17 +57,20 @@ digits-complete (Digits.more e p) h =
     let (d, a) = digits-complete p h in
     (rw (e, digitsOf) (cc d), rw (e, afterDigits) a)
 
+-- One digit or more by the grammar is found, with the same rest, if no digit follows.
 pub some-digits-complete : {s r : List ℕ} → SomeDigits s r → starts isDigit r ≡ false → readSomeDigits s ≡ found tt r
 unfolding readSomeDigits
 some-digits-complete (SomeDigits.digits e p) h = rw (e, readSomeDigits) (cc (digits-complete p h .1))
 
 -- numbers
 
+-- An integer part by the grammar is found, with the same digits and rest, if no digit follows.
 pub int-complete : {s ds r : List ℕ} → Int s ds r → starts isDigit r ≡ false → readInt s ≡ found ds r
 unfolding readInt
 int-complete (Int.lone-zero {b} e) h = rw (eq-eqb b 0x30 e, readInt)
 int-complete (Int.from-nonzero {b} e f p) h = rw (ne-eqb b 0x30 f, readInt) (rw e (cc (digits-complete p h .0, digits-complete p h .1)))
 
+-- A fraction by the grammar, present or absent, is found, with the same rest, if no digit and no decimal point follows.
 pub frac-complete : {s r : List ℕ} {f : Bool} → Frac s f r → starts isDigit r ≡ false → starts isPoint r ≡ false → readFrac s ≡ found f r
 unfolding readFrac andThen
 frac-complete {s} Frac.absent h k = none s k
@@ -77,6 +88,7 @@ signed-complete : {s r : List ℕ} → SomeDigits s r → starts isDigit r ≡ f
 unfolding readSigned
 signed-complete (SomeDigits.digits {b} e p) h = rw (digit-unsigned b e, readSigned) (some-digits-complete (SomeDigits.digits e p) h)
 
+-- An exponent by the grammar, present or absent, is found, with the same rest, if no digit and no letter e or E follows.
 pub exp-complete : {s r : List ℕ} {e : Bool} → Exp s e r → starts isDigit r ≡ false → starts isExp r ≡ false → readExp s ≡ found e r
 unfolding readExp andThen readSigned
 exp-complete {s} Exp.absent h k = none s k
@@ -98,6 +110,7 @@ exp-first p x y Exp.absent h = h
 exp-first p x y (Exp.unsigned {b} e q) h = exp-cases (λ c. p c ≡ false) x y b e
 exp-first p x y (Exp.signed {b} e f q) h = exp-cases (λ c. p c ≡ false) x y b e
 
+-- A number without its sign by the grammar is found, with the same rest, if that does not go on as a number does.
 pub unsigned-complete : {negative : Bool} {s r : List ℕ} {n : Numeral} → Unsigned negative s n r → Stops r → readUnsigned negative s ≡ found n r
 unfolding readUnsigned andThen isDigit between
 unsigned-complete (Unsigned.unsigned p q e) h =
@@ -118,6 +131,7 @@ number-plain (b ∷ s) h = rw (apart isDigit 0x2D b refl h, readNumber)
 unsigned-first : {negative : Bool} {s r : List ℕ} {n : Numeral} → Unsigned negative s n r → starts isDigit s ≡ true
 unsigned-first (Unsigned.unsigned p q e) = int-first p
 
+-- A number by the grammar is found, with the same rest, if that does not go on as a number does.
 pub number-complete : {s r : List ℕ} {n : Numeral} → Number s n r → Stops r → readNumber s ≡ found n r
 unfolding readNumber
 number-complete {s} (Number.plain p) h = rw (number-plain s (unsigned-first p)) (unsigned-complete p h)
@@ -125,6 +139,7 @@ number-complete (Number.minus {b} e p) h = rw (eq-eqb b 0x2D e, readNumber) (uns
 
 -- strings
 
+-- The chars of a string and its closing quotation mark by the grammar are found, with the same rest.
 pub chars-complete : {s r : List ℕ} {cs : List Char} → Chars s cs r → readChars Pending.char s ≡ found cs r
 unfolding readChars prepend isUnescaped isShort hexNumber
 chars-complete (Chars.close {q} e) = rw (eq-eqb q 0x22 e, readChars)
@@ -134,6 +149,7 @@ chars-complete (Chars.short e f p) = rw e (rw (f, readChars) (rw (chars-complete
 chars-complete (Chars.hex {a = a₁} e u a b c d p) =
     rw (e, u) (rw (a, readChars) (rw (b, readChars) (rw (c, readChars) (rw (d, readChars) (rw (chars-complete p) (rw (zero-add (hexValue a₁))))))))
 
+-- A string by the grammar is found, with the same rest.
 pub string-complete : {s r : List ℕ} {cs : List Char} → String s cs r → readString s ≡ found cs r
 unfolding readString
 string-complete (String.quoted {q} e p) = rw (eq-eqb q 0x22 e, readString) (chars-complete p)
@@ -155,6 +171,7 @@ starts-map : (p q : ℕ → Bool) → ((b : ℕ) → p b ≡ true → q b ≡ tr
 starts-map p q f [] h = h
 starts-map p q f (b ∷ s) h = f b h
 
+-- If two sets have no byte in common, a text that begins with a byte of the first begins with none of the second.
 pub starts-apart : (p q : ℕ → Bool) → ((b : ℕ) → p b ≡ true → q b ≡ false) → (s : List ℕ) → starts p s ≡ true → starts q s ≡ false
 starts-apart p q f [] h = refl
 starts-apart p q f (b ∷ s) h = f b h
@@ -172,6 +189,7 @@ scalar-first (Scalar.is-false (Word.more e p)) = rw e
 scalar-first {s} (Scalar.is-number p) = starts-map isNumeric isPlain (λ b e. rw e) s (number-first p)
 scalar-first (Scalar.is-string (String.quoted e p)) = rw e
 
+-- A string begins with one of the bytes that begin values.
 pub string-begins : {s r : List ℕ} {cs : List Char} → String s cs r → starts isFirst s ≡ true
 unfolding isFirst isPlain isNumeric isDigit between
 string-begins (String.quoted e p) = rw e
@@ -182,11 +200,13 @@ nested-first {s} (Nested.is-scalar p) = starts-map isPlain isFirst (λ b e. rw e
 nested-first (Nested.is-array e p) = rw e
 nested-first (Nested.is-object e p) = rw e
 
+-- A value begins with a digit, a minus sign, a quotation mark, a letter n, t or f, or an opening bracket or brace.
 pub value-first : (d : ℕ) (s : List ℕ) (t : Syntax) (r : List ℕ) → Value d s t r → starts isFirst s ≡ true
 unfolding isFirst
 value-first zero s t r p = starts-map isPlain isFirst (λ b e. rw e) s (scalar-first p)
 value-first (suc d) s t r p = nested-first p
 
+-- A text that begins with one of the bytes that begin values begins with no white space.
 pub first-no-space : (s : List ℕ) → starts isFirst s ≡ true → starts isSpace s ≡ false
 unfolding isFirst isPlain isNumeric isDigit between
 first-no-space s h =
@@ -202,6 +222,7 @@ number-scalar (b ∷ s) h =
     rw (apart isNumeric 0x22 b refl h, readScalar) (rw (apart isNumeric 0x6E b refl h) (rw (apart isNumeric 0x74 b refl h)
     (rw (apart isNumeric 0x66 b refl h) refl)))
 
+-- A value by the grammar, no array or object, is found, with the same rest, if that does not go on as a number does.
 pub scalar-complete : {s r : List ℕ} {t : Syntax} → Scalar s t r → Stops r → readScalar s ≡ found t r
 unfolding readScalar andThen
 scalar-complete (Scalar.is-null (Word.more e p)) h = rw e (rw (word-complete p))
@@ -219,6 +240,7 @@ pub record Closes (mark : ℕ) : Type 0 where
   pub no-comma : eqb 0x2C mark ≡ false
   pub stops : (r : List ℕ) → Stops (mark ∷ r)
 
+-- A text that does not go on as a number does still does not with white space before it.
 pub space-stops : {s r : List ℕ} → Space s r → Stops r → Stops s
 unfolding isDigit isExp between
 space-stops Space.end h = h
@@ -228,10 +250,12 @@ space-stops (Space.more {b} {s} e p) h =
     space-cases (λ c. Stops (c ∷ s)) (stops 0x20 refl refl refl) (stops 0x0A refl refl refl) (stops 0x0D refl refl refl)
     (stops 0x09 refl refl refl) b e
 
+-- A text that begins with a comma does not go on as a number does.
 pub comma-stops : (r : List ℕ) → Stops (0x2C ∷ r)
 unfolding isDigit isExp between
 comma-stops r = record { no-digit = refl; no-point = refl; no-exp = refl }
 
+-- A comma is no white space.
 pub comma-no-space : isSpace 0x2C ≡ false
 unfolding isSpace
 comma-no-space = refl
@@ -258,6 +282,7 @@ module _ {A : Type 0} {Item : List ℕ → A → List ℕ → Type 0} {item : Li
       rw (complete _ _ _ p (space-stops q (rw e (comma-stops _)))) (rw (spaces-complete q (rw e comma-no-space)) (rw e
       (rw (closes .no-comma, afterItem) (rw (spaces-complete i (first-no-space s₄ f)) (rw j)))))
 
+  -- Under these conditions on an item and the end mark, items by the grammar are found, if the bound is at least the text's length.
   pub items-complete : {s r : List ℕ} {xs : List A} → Items Item mark s xs r → (n : ℕ) → length s ≤ n → readItems item mark n s ≡ found xs r
   items-complete (Items.last p q h) zero l = let i = inside-length (item-inside _ _ _ p) in absurd (omega arith)
   items-complete (Items.last p q h) (suc n) l = last-complete n p q h
@@ -274,6 +299,7 @@ module _ {A : Type 0} {Item : List ℕ → A → List ℕ → Type 0} {item : Li
   first-items [] h = both-ways h refl
   first-items (b ∷ s) h = rw (apart isFirst mark b (closes .no-first) h, readFirst)
 
+  -- Under these conditions, white space, items or none, and the end mark by the grammar are found, with the same rest.
   pub listed-complete : {s r : List ℕ} {xs : List A} → Listed Item mark s xs r → readListed item mark s ≡ found xs r
   unfolding readListed readFirst
   listed-complete (Listed.empty p (Word.more {b} e Word.end)) =
@@ -281,11 +307,13 @@ module _ {A : Type 0} {Item : List ℕ → A → List ℕ → Type 0} {item : Li
   listed-complete (Listed.items {s₁} p q) =
       rw (spaces-complete p (first-no-space s₁ (items-first q))) (rw (first-items s₁ (items-first q)) (items-complete q (length s₁) (omega arith)))
 
+-- A closing bracket begins no value, is neither white space nor a comma, and does not go on as a number does.
 pub bracket-closes : Closes 0x5D
 unfolding isFirst isPlain isNumeric isDigit between isSpace isExp
 bracket-closes =
     record { no-first = refl; no-space = refl; no-comma = refl; stops = λ r. record { no-digit = refl; no-point = refl; no-exp = refl } }
 
+-- The same for a closing brace.
 pub brace-closes : Closes 0x7D
 unfolding isFirst isPlain isNumeric isDigit between isSpace isExp
 brace-closes =
@@ -304,15 +332,18 @@ module _ {Inner : List ℕ → Syntax → List ℕ → Type 0} {inner : List ℕ
     (complete : (s : List ℕ) (t : Syntax) (r : List ℕ) → Inner s t r → Stops r → inner s ≡ found t r)
     (inner-inside : (s : List ℕ) (t : Syntax) (r : List ℕ) → Inner s t r → Inside r s)
     (inner-first : (s : List ℕ) (t : Syntax) (r : List ℕ) → Inner s t r → starts isFirst s ≡ true) where
+  -- A member begins with one of the bytes that begin values.
   pub pair-first : (s : List ℕ) (m : Member) (r : List ℕ) → Pair Inner s m r → starts isFirst s ≡ true
   pair-first s m r (Pair.pair p q h i j) = string-begins p
 
+  -- Under these conditions on inner values, a member is found, if the text after it does not go on as a number does.
   pub pair-complete : (s : List ℕ) (m : Member) (r : List ℕ) → Pair Inner s m r → Stops r → readPair inner s ≡ found m r
   unfolding readPair andThen readWord
   pair-complete s m r (Pair.pair {s₄} p q (Word.more e Word.end) i j) h =
       rw (string-complete p) (rw (spaces-complete q (rw e colon-no-space)) (rw e
       (rw (spaces-complete i (first-no-space s₄ (inner-first _ _ _ j))) (rw (complete _ _ _ j h)))))
 
+  -- The same for a value that may hold such inner values in arrays and objects.
   pub nested-complete : (s : List ℕ) (t : Syntax) (r : List ℕ) → Nested Inner s t r → Stops r → readNested inner s ≡ found t r
   unfolding readNested andThen
   nested-complete s t r (Nested.is-scalar p) h = rw (plain-nested inner s (scalar-first p)) (scalar-complete p h)
@@ -322,6 +353,7 @@ module _ {Inner : List ℕ → Syntax → List ℕ → Type 0} {inner : List ℕ
 
 -- values
 
+-- A value of bounded depth by the grammar is found, with the same rest, if that does not go on as a number does.
 pub read-complete : (d : ℕ) (s : List ℕ) (t : Syntax) (r : List ℕ) → Value d s t r → Stops r → read d s ≡ found t r
 unfolding read
 read-complete zero s t r p h = scalar-complete p h

@@ -9,14 +9,17 @@ pub data Ends (r : List ℕ) : List ℕ → Type 0 where
   all : Ends r r
   after : {b : ℕ} {s : List ℕ} → Ends r s → Ends r (b ∷ s)
 
+-- An end of an end of a text is an end of the text.
 pub ends-trans : {p r s : List ℕ} → Ends p r → Ends r s → Ends p s
 ends-trans e all = e
 ends-trans e (after f) = after (ends-trans e f)
 
+-- An end of a text is no longer than the text.
 pub ends-length : {r s : List ℕ} → Ends r s → length r ≤ length s
 ends-length all = omega arith
 ends-length (after e) = let h = ends-length e in omega arith
 
+-- The empty list is an end of every text.
 pub ends-nil : (s : List ℕ) → Ends [] s
 ends-nil [] = all
 ends-nil (b ∷ s) = after (ends-nil s)
@@ -25,12 +28,15 @@ ends-nil (b ∷ s) = after (ends-nil s)
 pub data Inside (r : List ℕ) : List ℕ → Type 0 where
   inside : {b : ℕ} {s : List ℕ} → Ends r s → Inside r (b ∷ s)
 
+-- An end that leaves out the first byte at least is an end.
 pub inside-ends : {r s : List ℕ} → Inside r s → Ends r s
 inside-ends (inside e) = after e
 
+-- An end that leaves out the first byte at least is shorter than the text.
 pub inside-length : {r s : List ℕ} → Inside r s → length r < length s
 inside-length (inside e) = let h = ends-length e in omega arith
 
+-- An end of an end that leaves out the first byte at least leaves it out too.
 pub ends-inside : {p r s : List ℕ} → Ends p r → Inside r s → Inside p s
 ends-inside e (inside f) = inside (ends-trans e f)
 
@@ -42,6 +48,7 @@ ends-drop {r} (after {b} {s} e) =
     let f : suc (length s) - length r ≡ suc (length s - length r) = omega arith in
     rw f (ends-drop e)
 
+-- What is left of a text when its first bytes are dropped, however many, is an end of it.
 pub drop-ends : (n : ℕ) (s : List ℕ) → Ends (drop n s) s
 drop-ends zero s = all
 drop-ends (suc n) [] = all

@@ -9,11 +9,15 @@ use lib.ListN.{length}
 use lib.Dec.{eqb}
 use Rattle.text_json.specs.Bytes.{isSpace, isDigit, isExp, isSign, isHex, hexValue, isUnescaped, isShort}
 use Rattle.text_json.specs.Syntax.{Syntax, Member}
-use Rattle.text_json.specs.Read.{Read, found, stuck, andThen, spaces, readWord, afterDigits, readSomeDigits, readInt, readFrac, readSigned, readExp, readUnsigned, readNumber, Pending, prepend, readChars, readString, readScalar, afterItem, readItems, readFirst, readListed, readPair, readNested, read, atEnd, readText}
+use Rattle.text_json.specs.Read.{Read, found, stuck, andThen, spaces, readWord, afterDigits, readSomeDigits, readInt, readFrac, readSigned, readExp}
+use Rattle.text_json.specs.Read.{readUnsigned, readNumber, Pending, prepend, readChars, readString, readScalar, afterItem, readItems, readFirst}
+use Rattle.text_json.specs.Read.{readListed, readPair, readNested, read, atEnd, readText}
 use Rattle.text_json.proofs.Grammar.Ends.{Ends, all, after, ends-nil, ends-trans, ends-length}
 use Rattle.text_json.proofs.Grammar.Answer.{by-test}
 use Rattle.text_json.proofs.Grammar.Sound.{read-shorter}
-use Rattle.text_json.proofs.Grammar.ReadEnds.{restOf, spaces-ends, afterDigits-ends, readWord-ends, readSomeDigits-ends, readInt-ends, readFrac-ends, readSigned-ends, readExp-ends, readNumber-ends, readChars-ends, readString-ends, readScalar-ends, readItems-ends, readFirst-ends, readPair-ends, readPair-shorter, readNested-ends, read-ends}
+use Rattle.text_json.proofs.Grammar.ReadEnds.{restOf, spaces-ends, afterDigits-ends, readWord-ends, readSomeDigits-ends, readInt-ends, readFrac-ends}
+use Rattle.text_json.proofs.Grammar.ReadEnds.{readSigned-ends, readExp-ends, readNumber-ends, readChars-ends, readString-ends, readScalar-ends}
+use Rattle.text_json.proofs.Grammar.ReadEnds.{readItems-ends, readFirst-ends, readPair-ends, readPair-shorter, readNested-ends, read-ends}
 
 -- the second text is as the first one is, as far as the first one's end q
 pub data Along (q : List ℕ) : List ℕ → List ℕ → Type 0 where
@@ -244,6 +248,7 @@ module _ {q : List ℕ} (inner : List ℕ → Read Syntax) (inner-ends : (s : Li
       (listed-local (readPair inner) 0x7D (readPair-ends inner inner-ends) (readPair-shorter inner inner-ends) pair-local h)))
       (λ f. rw f (scalar-local (along h)))))
 
+-- In texts that are alike as far as `q`, reading a value ends or is stuck alike, if the first one's rest begins before `q`.
 pub read-local : (d : ℕ) {q : List ℕ} (s s′ : List ℕ) → Along q s s′ → Local q (read d s) (read d s′)
 unfolding read
 read-local zero s s′ h = scalar-local h
@@ -259,6 +264,7 @@ unfolding atEnd
 end-local t t′ (beyond {s} e) = past (ends-trans (atEnd-ends t s) e)
 end-local t t′ (along h) = stucks (along h)
 
+-- The same for reading a whole text.
 pub text-local : (d : ℕ) {q s s′ : List ℕ} → Along q s s′ → Local q (readText d s) (readText d s′)
 unfolding readText
 text-local d {s} {s′} h =

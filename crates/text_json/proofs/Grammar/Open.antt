@@ -8,12 +8,16 @@ use lib.Dec.{eqb}
 use borrow.Author.Tests.{eqb-true}
 use Rattle.text_json.specs.Bytes.{between, isDigit, isExp, isSign, isHex, hexValue, isUnescaped, isShort, shortValue}
 use Rattle.text_json.specs.Syntax.{Char, byte, unit, Numeral, Syntax, Member}
-use Rattle.text_json.specs.Grammar.{Space, Word, Digits, SomeDigits, Int, Frac, Exp, Unsigned, Number, Chars, String, Scalar, Items, Listed, Pair, Nested, Value}
-use Rattle.text_json.specs.Read.{Read, found, stuck, andThen, spaces, readWord, readSomeDigits, readInt, readFrac, readSigned, readExp, readUnsigned, readNumber, Pending, prepend, readChars, readString, readScalar, afterItem, readItems, readFirst, readListed, readPair, readNested, read, atEnd, readText}
+use Rattle.text_json.specs.Grammar.{Space, Word, Digits, SomeDigits, Int, Frac, Exp, Unsigned, Number, Chars, String, Scalar, Items, Listed, Pair, Nested}
+use Rattle.text_json.specs.Grammar.{Value}
+use Rattle.text_json.specs.Read.{Read, found, stuck, andThen, spaces, readWord, readSomeDigits, readInt, readFrac, readSigned, readExp, readUnsigned}
+use Rattle.text_json.specs.Read.{readNumber, Pending, prepend, readChars, readString, readScalar, afterItem, readItems, readFirst, readListed, readPair}
+use Rattle.text_json.specs.Read.{readNested, read, atEnd, readText}
 use Rattle.text_json.proofs.Grammar.Ends.{Ends}
 use Rattle.text_json.proofs.Grammar.Rests.{value-ends}
 use Rattle.text_json.proofs.Grammar.Answer.{Answer, is-found, is-stuck, Reads, by-test, answer-map}
-use Rattle.text_json.proofs.Grammar.Sound.{spaces-sound, word-reads, int-reads, frac-reads, Rest, after-backslash, of-chars, string-reads, pair-reads, value-reads}
+use Rattle.text_json.proofs.Grammar.Sound.{spaces-sound, word-reads, int-reads, frac-reads, Rest, after-backslash, of-chars, string-reads, pair-reads}
+use Rattle.text_json.proofs.Grammar.Sound.{value-reads}
 
 -- s′ is s with u for its end r
 pub data Swap (r u : List ℕ) : List ℕ → List ℕ → Type 0 where
@@ -515,6 +519,7 @@ module _ {Inner : List ℕ → Syntax → List ℕ → Type 0} {inner : List ℕ
       (listed-opens 0x7D (pair-reads inner-reads inner-ends) (pair-again inner-again) some-pair pair-opens s))))
       (λ f. rw f (opens-map (λ _ _ p. to-nested Inner p) (scalar-opens (b ∷ s))))))
 
+-- Where reading a value is stuck, the text before that place can go on to a value that is followed by any given text.
 pub read-opens : (d : ℕ) (s : List ℕ) → Opens (Has (Value d)) s (read d s)
 unfolding read
 read-opens zero s = scalar-opens s
@@ -536,6 +541,7 @@ pub data Around (d : ℕ) (s r : List ℕ) : Type 0 where
 to-around : (d : ℕ) {s r : List ℕ} → Then Space (Then (Has (Value d)) (Then Space Same)) s r → Around d s r
 to-around d (then p (then q (then h same))) = around p q h
 
+-- The same for reading a whole text, and a value with white space before and after it.
 pub text-opens : (d : ℕ) (s : List ℕ) → Opens (Around d) s (readText d s)
 unfolding readText
 text-opens d s =

@@ -117,7 +117,10 @@ merge-sort-merge-sort-requires-2 t c κs =
     let f = c .before .before .before .before .before .before .merge-sort in
     let e = right-half k (f .last .1 .0) (length k / 2) (omega arith) (f .kept .1 .0) in (
       omega (arith, ap length e, length-drop (length k / 2) k),
-      (subst (KeysAt (now (a .args .s))) (sym e) (keys-drop (length k / 2) (a .pre .1 .0)), omega (arith, ap length e, length-drop (length k / 2) k, f .kept .1 .1 .0)),
+      (
+        subst (KeysAt (now (a .args .s))) (sym e) (keys-drop (length k / 2) (a .pre .1 .0)),
+        omega (arith, ap length e, length-drop (length k / 2) k, f .kept .1 .1 .0),
+      ),
     )
 
 -- once both halves are sorted
@@ -128,13 +131,16 @@ halves : (t : ℕ) (c : merge-sort-lts.After-merge-sort2 (
   merge-halves-reads.Learnt,
 ) (merge-sort-at t) merge-sort.Post)
     → let k = now (c .before .before .before .before .before .before .before .before .before .before .before .before .before .before .args .keys) in
-    Halved (now (c .before .before .before .before .before .before .before .before .before .before .before .before .before .before .args .s)) k (with-both k (c .before .before .before .before .before .before .before .merge-sort .last .1 .0) (c .merge-sort2 .last .1 .0) (length k / 2)) (length k / 2)
+    Halved (now (c .before .before .before .before .before .before .before .before .before .before .before .before .before .before .args .s)) k
+    (with-both k (c .before .before .before .before .before .before .before .merge-sort .last .1 .0) (c .merge-sort2 .last .1 .0) (length k / 2))
+    (length k / 2)
 halves t c =
     let a = c .before .before .before .before .before .before .before .before .before .before .before .before .before .before in
     let k = now (a .args .keys) in
     let f = c .before .before .before .before .before .before .before .merge-sort in
     let g = c .merge-sort2 in
-    halved (now (a .args .s)) k (f .last .1 .0) (g .last .1 .0) (length k / 2) (omega arith) (a .pre .1 .0) (f .kept .1 .0) (f .ensures) (g .kept .1 .0) (g .ensures)
+    halved (now (a .args .s)) k (f .last .1 .0) (g .last .1 .0) (length k / 2) (omega arith) (a .pre .1 .0) (f .kept .1 .0) (f .ensures) (g .kept .1 .0)
+    (g .ensures)
 
 merge-sort-merge-halves-requires : (t : ℕ) → merge-sort-lts.Need-merge-halves-requires (
   merge-sort-below t,
@@ -145,7 +151,8 @@ merge-sort-merge-halves-requires : (t : ℕ) → merge-sort-lts.Need-merge-halve
 merge-sort-merge-halves-requires t c κs =
     let g = c .before .before .before .before .before .before in
     let w = halves t g in
-    (w .there, omega (arith, w .size), omega (arith, c .before .before .before .before .before .before .before .before .before .before .before .before .before .merge-sort .kept .1 .1 .0, g .merge-sort2 .kept .1 .1 .0))
+    let first = c .before .before .before .before .before .before .before .before .before .before .before .before .before .merge-sort in
+    (w .there, omega (arith, w .size), omega (arith, first .kept .1 .1 .0, g .merge-sort2 .kept .1 .1 .0))
 
 merge-sort-same-length : (t : ℕ) → merge-sort-lts.Need-same-length (
   merge-sort-below t,
@@ -153,7 +160,8 @@ merge-sort-same-length : (t : ℕ) → merge-sort-lts.Need-same-length (
   merge-halves-reads.Asked,
   merge-halves-reads.Learnt,
 ) (merge-sort-at t) merge-sort.Post
-merge-sort-same-length t c = c .before .before .before .before .merge-halves .kept .1 .0 ∙ halves t (c .before .before .before .before .before .before .before .before .before .before .before) .size
+merge-sort-same-length t c = c .before .before .before .before .merge-halves .kept .1 .0
+    ∙ halves t (c .before .before .before .before .before .before .before .before .before .before .before) .size
 
 merge-sort-same-length-2 : (t : ℕ) → merge-sort-lts.Need-same-length-2 (
   merge-sort-below t,
@@ -163,7 +171,8 @@ merge-sort-same-length-2 : (t : ℕ) → merge-sort-lts.Need-same-length-2 (
 ) (merge-sort-at t) merge-sort.Post
 merge-sort-same-length-2 t c =
     let g = c .before .before .before .before .before .before .before .before .before .before .before in
-    c .before .before .before .before .merge-halves .kept .1 .1 .1 .0 ∙ g .merge-sort2 .kept .1 .1 .0 ∙ g .before .before .before .before .before .before .before .merge-sort .kept .1 .1 .0
+    c .before .before .before .before .merge-halves .kept .1 .1 .1 .0 ∙ g .merge-sort2 .kept .1 .1 .0
+    ∙ g .before .before .before .before .before .before .before .merge-sort .kept .1 .1 .0
 
 merge-sort-returns-2 : (t : ℕ) → merge-sort-lts.Need-returns-2 (
   merge-sort-below t,
@@ -171,7 +180,8 @@ merge-sort-returns-2 : (t : ℕ) → merge-sort-lts.Need-returns-2 (
   merge-halves-reads.Asked,
   merge-halves-reads.Learnt,
 ) (merge-sort-at t) merge-sort.Post
-merge-sort-returns-2 t c = c .before .before .before .before .merge-halves .ensures ∙ halves t (c .before .before .before .before .before .before .before .before .before .before .before) .merged
+merge-sort-returns-2 t c = c .before .before .before .before .merge-halves .ensures
+    ∙ halves t (c .before .before .before .before .before .before .before .before .before .before .before) .merged
 
 pub +merge-sort-spec : {M : Type 1} → statement M
 +merge-sort-spec = close μ-merge-sort λ t. merge-sort-lts.spec (

@@ -32,8 +32,10 @@ slice-read-not-after c = omega arith
 
 not-after-requires : tie.Need-not-after-requires Inv-loop μ-loop
 not-after-requires c κs =
-    let a = c .before .before .before .before .before .before .before .before in
-    (keys-get (a .pre .0) _ (c .before .before .before .loop-test .taken), key-right (c .before .before .before .before .loop .inv) (a .pre .1) (c .before .before .if1 .taken))
+    let a = c .before .before .before .before .before .before .before .before in (
+      keys-get (a .pre .0) _ (c .before .before .before .loop-test .taken),
+      key-right (c .before .before .before .before .loop .inv) (a .pre .1) (c .before .before .if1 .taken),
+    )
 
 mul-keys : tie.Need-mul-keys Inv-loop μ-loop
 mul-keys c = omega arith
@@ -59,7 +61,8 @@ loop-less c = omega arith
 loop-again : tie.Need-loop-again Inv-loop μ-loop
 loop-again c =
     let r = c .before .before in
-    merging-right _ _ _ _ _ _ _ (r .before .before .before .before .before .loop .inv) (r .before .before .before .before .loop-test .taken) (r .before .before .before .if1 .taken) (sym (r .not-after .ensures) ∙ not-true _ (c .before .if2 .taken))
+    merging-right _ _ _ _ _ _ _ (r .before .before .before .before .before .loop .inv) (r .before .before .before .before .loop-test .taken)
+    (r .before .before .before .if1 .taken) (sym (r .not-after .ensures) ∙ not-true _ (c .before .if2 .taken))
 
 mul-keys-3 : tie.Need-mul-keys-3 Inv-loop μ-loop
 mul-keys-3 c = omega arith
@@ -83,7 +86,8 @@ loop-less-2 : tie.Need-loop-less-2 Inv-loop μ-loop
 loop-less-2 c = omega arith
 
 loop-again-2 : tie.Need-loop-again-2 Inv-loop μ-loop
-loop-again-2 c = merging-left _ _ _ _ _ _ _ (c .before .before .before .loop .inv) (c .before .before .loop-test .taken) (⊎-elim (λ w. inr (w .0 .taken, sym (w .3 .ensures) ∙ not-false _ (w .4 .left))) (λ w. inl (w .left)) (c .before .if1 .came))
+loop-again-2 c = merging-left _ _ _ _ _ _ _ (c .before .before .before .loop .inv) (c .before .before .loop-test .taken)
+    (⊎-elim (λ w. inr (w .0 .taken, sym (w .3 .ensures) ∙ not-false _ (w .4 .left))) (λ w. inl (w .left)) (c .before .if1 .came))
 
 same-length : tie.Need-same-length Inv-loop μ-loop
 same-length c = c .before .loop .inv .size

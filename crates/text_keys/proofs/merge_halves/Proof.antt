@@ -28,7 +28,8 @@ slice-aggregate-merge-back c = sym (length-take-le _ _ (search needs))
 merge-back-requires : tie.Need-merge-back-requires
 merge-back-requires c κs =
     let a = c .before .before .before .before .before .before .before .before .before .before in
-    let e = copied (a .args .mid) (now (a .args .keys)) (c .before .before .before .before .copy-keys .last .1 .0) (a .pre .1) (c .before .before .before .before .copy-keys .ensures) in
+    let e = copied (a .args .mid) (now (a .args .keys)) (c .before .before .before .before .copy-keys .last .1 .0) (a .pre .1)
+    (c .before .before .before .before .copy-keys .ensures) in
     (subst (KeysAt (now (a .args .s))) (sym e) (keys-take (a .args .mid) (a .pre .0)), a .pre .0, rw length-take (omega arith))
 
 same-length : tie.Need-same-length

@@ -56,7 +56,8 @@ loop-again c =
     let l = c .before .before .before .before .before .loop in
     let a = c .before .before .before .before .before .before .before .before .args in (
       omega arith,
-      ap (λ (n : ℕ). max n (nextLeft (now (a .s)) (drop (l .i + 1) (now (a .keys))))) (c .larger .ensures ∙ ap (max (l .most)) (c .before .left-if-same .ensures))
+      ap (λ (n : ℕ). max n (nextLeft (now (a .s)) (drop (l .i + 1) (now (a .keys))))) (c .larger .ensures
+          ∙ ap (max (l .most)) (c .before .left-if-same .ensures))
           ∙ next-step (now (a .s)) (l .most) (now (a .keys)) (l .i) (omega arith) ∙ l .inv .1,
     )
 
@@ -64,7 +65,13 @@ returns : tie.Need-returns Inv-loop μ-loop
 returns c =
     let l = c .before .loop in
     let a = c .before .before .before .before .args in
-    λ ks e. omega (arith, next-short (now (a .s)) (drop (l .i) (now (a .keys))) (rw length-drop (omega arith)), ap (nextLeft (now (a .s))) e, next-sort (now (a .s)) ks, l .inv .1)
+    λ ks e. omega (
+      arith,
+      next-short (now (a .s)) (drop (l .i) (now (a .keys))) (rw length-drop (omega arith)),
+      ap (nextLeft (now (a .s))) e,
+      next-sort (now (a .s)) ks,
+      l .inv .1,
+    )
 
 pub repeat-left-spec : {M : Type 1} → statement M
 repeat-left-spec =

@@ -35,7 +35,8 @@ unmarked16-requires c κs = omega arith
 returns-4 : tie.Need-returns-4
 returns-4 c =
     c .unmarked16 .ensures
-    ∙ enough 16 _ _ (rw length-drop (omega arith)) (rw length-drop (omega arith)) (sym (c .before .before .same16 .ensures) ∙ not-false _ (c .before .if3 .left))
+    ∙ enough 16 _ _ (rw length-drop (omega arith)) (rw length-drop (omega arith)) (sym (c .before .before .same16 .ensures)
+    ∙ not-false _ (c .before .if3 .left))
 
 pub alike16-spec : {M : Type 1} → statement M
 alike16-spec = tie.close (tie.spec sub-if1 returns sub-if2 returns-2 same16-requires returns-3 unmarked16-requires returns-4)

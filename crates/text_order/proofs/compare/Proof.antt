@@ -34,7 +34,8 @@ returns c = c .compare-bytes .ensures
 loop-holds : tie.Need-loop-holds Inv-loop μ-loop
 loop-holds c =
     let a = c .before .before .before .before .before .args in
-    subst₂ (λ (m n : ℕ). Both (InString (now (a .s)) (a .i)) (InString (now (a .t)) (a .j)) (now (a .s)) m (now (a .t)) n) (sym (add-zero (a .i))) (sym (add-zero (a .j)))
+    subst₂ (λ (m n : ℕ). Both (InString (now (a .s)) (a .i)) (InString (now (a .t)) (a .j)) (now (a .s)) m (now (a .t)) n) (sym (add-zero (a .i)))
+    (sym (add-zero (a .j)))
     (c .before .before .before .before .before .pre .0, c .before .before .before .before .before .pre .1, λ x y p q. (x, y, p, q, refl))
 
 add-alike16 : tie.Need-add-alike16 Inv-loop μ-loop
@@ -61,8 +62,10 @@ loop-again : tie.Need-loop-again Inv-loop μ-loop
 loop-again c =
     let l = c .before .before .loop in
     let a = c .before .before .before .before .before .before .before .before .args in
-    subst₂ (λ (m n : ℕ). Both (InString (now (a .s)) (a .i)) (InString (now (a .t)) (a .j)) (now (a .s)) m (now (a .t)) n) (add-assoc (a .i) (l .k) 16) (add-assoc (a .j) (l .k) 16)
-    (past (now (a .s)) (now (a .t)) (a .i + l .k) (a .j + l .k) 16 (sym (c .before .alike16 .ensures) ∙ c .if2 .taken) (InString (now (a .s)) (a .i)) (InString (now (a .t)) (a .j)) (l .inv))
+    subst₂ (λ (m n : ℕ). Both (InString (now (a .s)) (a .i)) (InString (now (a .t)) (a .j)) (now (a .s)) m (now (a .t)) n) (add-assoc (a .i) (l .k) 16)
+    (add-assoc (a .j) (l .k) 16)
+    (past (now (a .s)) (now (a .t)) (a .i + l .k) (a .j + l .k) 16 (sym (c .before .alike16 .ensures)
+    ∙ c .if2 .taken) (InString (now (a .s)) (a .i)) (InString (now (a .t)) (a .j)) (l .inv))
 
 add-compare-bytes : tie.Need-add-compare-bytes Inv-loop μ-loop
 add-compare-bytes c = omega (arith, inside-within _ _ (c .before .before .loop .inv .0))

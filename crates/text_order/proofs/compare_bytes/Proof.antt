@@ -30,7 +30,13 @@ loop-holds c =
     let a = c .before .before .args in (
       subst (Inside (now (a .s))) (sym (add-zero (a .i))) (c .before .before .pre .0),
       subst (Inside (now (a .t))) (sym (add-zero (a .j))) (c .before .before .pre .1),
-      λ x y p q. (x, y, subst (λ (n : ℕ). InString (now (a .s)) n x) (sym (add-zero (a .i))) p, subst (λ (n : ℕ). InString (now (a .t)) n y) (sym (add-zero (a .j))) q, refl),
+      λ x y p q. (
+        x,
+        y,
+        subst (λ (n : ℕ). InString (now (a .s)) n x) (sym (add-zero (a .i))) p,
+        subst (λ (n : ℕ). InString (now (a .t)) n y) (sym (add-zero (a .j))) q,
+        refl,
+      ),
     )
 
 add-x : tie.Need-add-x Inv-loop μ-loop
@@ -92,14 +98,17 @@ new-requires-2 c κs = search needs
 
 compare-cursors-requires : tie.Need-compare-cursors-requires Inv-loop μ-loop
 compare-cursors-requires c κs =
-    let inv = c .before .before .before .before .before .before .before .before .loop .inv in
-    (record { bytes = inv .0 .bytes; left = new-left _ _ _ _ (c .before .new .ensures) (inv .0 .here) }, record { bytes = inv .1 .bytes; left = new-left _ _ _ _ (c .new2 .ensures) (inv .1 .here) })
+    let inv = c .before .before .before .before .before .before .before .before .loop .inv in (
+      record { bytes = inv .0 .bytes; left = new-left _ _ _ _ (c .before .new .ensures) (inv .0 .here) },
+      record { bytes = inv .1 .bytes; left = new-left _ _ _ _ (c .new2 .ensures) (inv .1 .here) },
+    )
 
 returns : tie.Need-returns Inv-loop μ-loop
 returns c =
     let inv = c .before .before .before .before .before .before .before .before .before .loop .inv in
     λ x y p q. let k = inv .2 x y p q in
-    c .compare-cursors .ensures (k .0) (k .1) (new-left _ _ _ _ (c .before .before .new .ensures) (k .2)) (new-left _ _ _ _ (c .before .new2 .ensures) (k .3)) ∙ sym (k .4)
+    c .compare-cursors .ensures (k .0) (k .1) (new-left _ _ _ _ (c .before .before .new .ensures) (k .2)) (new-left _ _ _ _ (c .before .new2 .ensures) (k .3))
+    ∙ sym (k .4)
 
 differ-requires : tie.Need-differ-requires Inv-loop μ-loop
 differ-requires c κs = search needs
@@ -107,7 +116,8 @@ differ-requires c κs = search needs
 returns-2 : tie.Need-returns-2 Inv-loop μ-loop
 returns-2 c =
     let e = either-false _ _ (sym (c .before .before .before .either-escapes .ensures) ∙ c .before .before .if1 .left) in
-    λ x y p q. c .differ .ensures ∙ bytes-differ _ _ _ _ (c .before .before .before .before .before .before .loop .inv .2) (e .0) (e .1) (c .before .if3 .taken) x y p q
+    λ x y p q. c .differ .ensures ∙ bytes-differ _ _ _ _ (c .before .before .before .before .before .before .loop .inv .2) (e .0) (e .1)
+    (c .before .if3 .taken) x y p q
 
 returns-3 : tie.Need-returns-3 Inv-loop μ-loop
 returns-3 c = both-close _ _ _ _ (c .before .before .before .before .before .before .loop .inv .2) (c .before .if3 .left) (c .if4 .taken)
@@ -127,7 +137,8 @@ loop-again-2 c =
     let f = c .before .if3 .left in (
       subst (Inside (now (a .s))) (add-assoc (a .i) k 1) (inside-next _ _ (inv .0) (c .if4 .left) (e .0)),
       subst (Inside (now (a .t))) (add-assoc (a .j) k 1) (inside-next _ _ (inv .1) (λ h. c .if4 .left (f ∙ h)) (e .1)),
-      subst₂ (λ (m n : ℕ). Tracks (InString (now (a .s)) (a .i)) (InString (now (a .t)) (a .j)) (InString (now (a .s)) m) (InString (now (a .t)) n)) (add-assoc (a .i) k 1) (add-assoc (a .j) k 1)
+      subst₂ (λ (m n : ℕ). Tracks (InString (now (a .s)) (a .i)) (InString (now (a .t)) (a .j)) (InString (now (a .s)) m) (InString (now (a .t)) n))
+          (add-assoc (a .i) k 1) (add-assoc (a .j) k 1)
           (both-plain _ _ _ _ (inv .2) (e .0) (e .1) f (c .if4 .left)),
     )
 

@@ -28,30 +28,37 @@ next-requires-2 c κs = c .before .loop .inv .1
 returns : tie.Need-returns Inv-loop μ-loop
 returns c =
     let d = c .before .before .before in
-    first-ends _ _ (d .before .before .loop .inv .2) (d .before .next .result) (d .next2 .result) (d .before .next .ensures .0) (d .next2 .ensures .0) (not-true _ (c .before .if1 .taken)) (c .if2 .taken)
+    first-ends _ _ (d .before .before .loop .inv .2) (d .before .next .result) (d .next2 .result) (d .before .next .ensures .0) (d .next2 .ensures .0)
+    (not-true _ (c .before .if1 .taken)) (c .if2 .taken)
 
 returns-2 : tie.Need-returns-2 Inv-loop μ-loop
 returns-2 c =
     let d = c .before .before .before in
-    both-end _ _ (d .before .before .loop .inv .2) (d .before .next .result) (d .next2 .result) (d .before .next .ensures .0) (d .next2 .ensures .0) (not-true _ (c .before .if1 .taken)) (c .if2 .left)
+    both-end _ _ (d .before .before .loop .inv .2) (d .before .next .result) (d .next2 .result) (d .before .next .ensures .0) (d .next2 .ensures .0)
+    (not-true _ (c .before .if1 .taken)) (c .if2 .left)
 
 returns-3 : tie.Need-returns-3 Inv-loop μ-loop
 returns-3 c =
     let d = c .before .before .before .before in
-    second-ends _ _ (d .before .before .loop .inv .2) (d .before .next .result) (d .next2 .result) (d .before .next .ensures .0) (d .next2 .ensures .0) (not-false _ (c .before .before .if1 .left)) (not-true _ (c .if3 .taken))
+    second-ends _ _ (d .before .before .loop .inv .2) (d .before .next .result) (d .next2 .result) (d .before .next .ensures .0) (d .next2 .ensures .0)
+    (not-false _ (c .before .before .if1 .left)) (not-true _ (c .if3 .taken))
 
 returns-4 : tie.Need-returns-4 Inv-loop μ-loop
 returns-4 c =
     let d = c .before .before .before .before .before .before .before in
-    first-less _ _ (d .before .before .loop .inv .2) (d .before .next .result) (d .next2 .result) (d .before .next .ensures .0) (d .next2 .ensures .0) (not-false _ (c .before .before .before .before .before .if1 .left)) (not-false _ (c .before .before .before .if3 .left)) (c .if4 .taken)
+    first-less _ _ (d .before .before .loop .inv .2) (d .before .next .result) (d .next2 .result) (d .before .next .ensures .0) (d .next2 .ensures .0)
+    (not-false _ (c .before .before .before .before .before .if1 .left)) (not-false _ (c .before .before .before .if3 .left)) (c .if4 .taken)
 
 returns-5 : tie.Need-returns-5 Inv-loop μ-loop
 returns-5 c =
     let d = c .before .before .before .before .before .before .before .before .before .before in
-    first-more _ _ (d .before .before .loop .inv .2) (d .before .next .result) (d .next2 .result) (d .before .next .ensures .0) (d .next2 .ensures .0) (not-false _ (c .before .before .before .before .before .before .before .before .if1 .left)) (not-false _ (c .before .before .before .before .before .before .if3 .left)) (c .if5 .taken)
+    first-more _ _ (d .before .before .loop .inv .2) (d .before .next .result) (d .next2 .result) (d .before .next .ensures .0) (d .next2 .ensures .0)
+    (not-false _ (c .before .before .before .before .before .before .before .before .if1 .left))
+    (not-false _ (c .before .before .before .before .before .before .if3 .left)) (c .if5 .taken)
 
 loop-less : tie.Need-loop-less Inv-loop μ-loop
-loop-less c = c .before .before .before .before .before .before .before .before .before .before .before .before .before .next .ensures .1 (not-false _ (c .before .before .before .before .before .before .before .before .before .before .if1 .left))
+loop-less c = c .before .before .before .before .before .before .before .before .before .before .before .before .before .next .ensures .1
+    (not-false _ (c .before .before .before .before .before .before .before .before .before .before .if1 .left))
 
 loop-again : tie.Need-loop-again Inv-loop μ-loop
 loop-again c =
@@ -65,7 +72,11 @@ loop-again c =
     let y = given-byte _ _ m b (d .next2 .ensures .0 (inv .1 .bytes) (inv .1 .left)) in (
       record { bytes = x .0; left = x .2 },
       record { bytes = y .0; left = y .2 },
-      goes-on _ _ (inv .2) n m (d .before .next .ensures .0) (d .next2 .ensures .0) a b (omega (arith, c .before .before .before .before .before .if4 .left, c .before .before .if5 .left)),
+      goes-on _ _ (inv .2) n m (d .before .next .ensures .0) (d .next2 .ensures .0) a b (omega (
+        arith,
+        c .before .before .before .before .before .if4 .left,
+        c .before .before .if5 .left,
+      )),
     )
 
 pub compare-cursors-spec : {M : Type 1} → statement M

@@ -5,7 +5,9 @@ use Prim.Native.Nat.{_-_}
 use native.Mathlib.Omega.{arith}
 use lib.ListN.{length, length-set}
 use Rattle.text_printer.proofs.Written
-use Rattle.text_printer.proofs.Contents.{Progress, started, within, escape-here, byte-room, closed, run-within, run-room, run-fits, after-run, char-room, char-fits, after-escape}
+use Rattle.text_printer.proofs.Contents.{Progress, started, within, escape-here, byte-space, closed, run-within, run-space, run-fits, after-run}
+use Rattle.text_printer.proofs.Contents.{char-space}
+use Rattle.text_printer.proofs.Contents.{char-fits, after-escape}
 use Rattle.text_printer.proofs.write_content.Statement.{statement}
 use Rattle.text_printer.proofs.write_content.Tie as tie
 
@@ -22,10 +24,10 @@ shared-slice-read-b : tie.Need-shared-slice-read-b Inv-loop μ-loop
 shared-slice-read-b c = within (c .before .loop .inv)
 
 slice-write-out : tie.Need-slice-write-out Inv-loop μ-loop
-slice-write-out c = byte-room (c .before .before .loop .inv) (c .before .before .before .before .before .pre .1)
+slice-write-out c = byte-space (c .before .before .loop .inv) (c .before .before .before .before .before .pre .1)
 
 add-result : tie.Need-add-result Inv-loop μ-loop
-add-result c = omega (arith, byte-room (c .before .before .loop .inv) (c .before .before .before .before .before .pre .1))
+add-result c = omega (arith, byte-space (c .before .before .loop .inv) (c .before .before .before .before .before .pre .1))
 
 same-length : tie.Need-same-length Inv-loop μ-loop
 same-length c = simp length-set (Written.same-length (c .before .before .loop .inv .written))
@@ -38,11 +40,11 @@ read-escape-requires c κs = escape-here (c .before .before .before .loop .inv) 
 
 sub-write-char : tie.Need-sub-write-char Inv-loop μ-loop
 sub-write-char c =
-    omega (arith, byte-room (c .before .before .before .before .loop .inv) (c .before .before .before .before .before .before .before .pre .1))
+    omega (arith, byte-space (c .before .before .before .before .loop .inv) (c .before .before .before .before .before .before .before .pre .1))
 
 part-write-char-start : tie.Need-part-write-char-start Inv-loop μ-loop
 part-write-char-start c =
-    omega (arith, byte-room (c .before .before .before .before .loop .inv) (c .before .before .before .before .before .before .before .pre .1))
+    omega (arith, byte-space (c .before .before .before .before .loop .inv) (c .before .before .before .before .before .before .before .pre .1))
 
 part-write-char-end : tie.Need-part-write-char-end Inv-loop μ-loop
 part-write-char-end c = search needs
@@ -57,7 +59,7 @@ add-n : tie.Need-add-n Inv-loop μ-loop
 add-n c =
     let d = c .before .before .before .before in
     let l = d .before .before .before .before in
-    omega (arith, c .before .before .write-char .ensures .0, char-room (l .loop .inv) (l .before .before .before .pre .1) _ _ (d .read-escape .ensures))
+    omega (arith, c .before .before .write-char .ensures .0, char-space (l .loop .inv) (l .before .before .before .pre .1) _ _ (d .read-escape .ensures))
 
 loop-less : tie.Need-loop-less Inv-loop μ-loop
 loop-less c =
@@ -79,10 +81,10 @@ plain-end-requires : tie.Need-plain-end-requires Inv-loop μ-loop
 plain-end-requires c κs = omega (arith, within (c .before .before .before .loop .inv))
 
 sub-copy : tie.Need-sub-copy Inv-loop μ-loop
-sub-copy c = let l = c .before .before .before .before in omega (arith, byte-room (l .loop .inv) (l .before .before .before .pre .1))
+sub-copy c = let l = c .before .before .before .before in omega (arith, byte-space (l .loop .inv) (l .before .before .before .pre .1))
 
 part-copy-start : tie.Need-part-copy-start Inv-loop μ-loop
-part-copy-start c = let l = c .before .before .before .before in omega (arith, byte-room (l .loop .inv) (l .before .before .before .pre .1))
+part-copy-start c = let l = c .before .before .before .before in omega (arith, byte-space (l .loop .inv) (l .before .before .before .pre .1))
 
 part-copy-end : tie.Need-part-copy-end Inv-loop μ-loop
 part-copy-end c = search needs
@@ -101,7 +103,12 @@ add-n-2 : tie.Need-add-n-2 Inv-loop μ-loop
 add-n-2 c =
     let d = c .before .before .before .before in
     let l = d .before .before .before .before in
-    omega (arith, c .before .before .copy .ensures .0, run-room (l .loop .inv) (l .before .before .before .pre .1) (d .before .before .if1 .left) (d .before .if2 .left) _ (d .plain-end .ensures))
+    omega (
+      arith,
+      c .before .before .copy .ensures .0,
+      run-space (l .loop .inv) (l .before .before .before .pre .1) (d .before .before .if1 .left)
+          (d .before .if2 .left) _ (d .plain-end .ensures),
+    )
 
 loop-less-2 : tie.Need-loop-less-2 Inv-loop μ-loop
 loop-less-2 c =
@@ -115,7 +122,8 @@ loop-again-2 c =
     let d = c .before .before .before .before in
     let l = d .before .before .before .before in
     let w = c .before .before .copy .ensures in
-    after-run (l .loop .inv) (l .before .before .before .pre .1) (d .before .before .if1 .left) (d .before .if2 .left) _ (d .plain-end .ensures) _ _ (w .0) (w .1)
+    after-run (l .loop .inv) (l .before .before .before .pre .1) (d .before .before .if1 .left) (d .before .if2 .left) _ (d .plain-end .ensures) _ _ (w .0)
+    (w .1)
 
 pub write-content-spec : {M : Type 1} → statement M
 write-content-spec =

@@ -361,9 +361,9 @@ few-keys t l =
     omega (arith, length-take-le (l .loop .n) (l .loop .keys) (l .loop .inv .1), p .from, p .within, object-entry t l .pre .1 .0 .short)
 
 -- the array of keys is as long as at the start
-room-left : (t : ℕ) (l : In-object t object-lts.At-loop) → let a = object-entry t l .args in
+space-left : (t : ℕ) (l : In-object t object-lts.At-loop) → let a = object-entry t l .args in
     length (now (a .s)) < a .at + 4 * length (l .loop .keys)
-room-left t l = omega (arith, object-entry t l .pre .1 .1, l .loop .inv .2)
+space-left t l = omega (arith, object-entry t l .pre .1 .1, l .loop .inv .2)
 
 -- the key that was read
 name : (t : ℕ) (m : In-object t object-lts.After-mark) → let l = name-loop t m in let g = m .before .before .end .given .0 in
@@ -377,7 +377,7 @@ name t m =
 free : (t : ℕ) (m : In-object t object-lts.After-mark) → name-loop t m .loop .n < length (name-loop t m .loop .keys)
 free t m =
     let l = name-loop t m in
-    let k = objects.key-room (l .loop .inv .0) (name t m) (length (l .loop .keys)) (room-left t l) in
+    let k = objects.key-space (l .loop .inv .0) (name t m) (length (l .loop .keys)) (space-left t l) in
     omega (arith, length-take-le (l .loop .n) (l .loop .keys) (l .loop .inv .1), k)
 
 object-cast-keys : (t : ℕ) → In-object t object-lts.Need-cast-keys
@@ -417,7 +417,7 @@ object-value-requires t c κs =
       record {
         within = name t m .within;
         short = b .1 .0 .short;
-        enough = omega (arith, e, objects.value-room (l .loop .inv .0) (name t m) (length (l .loop .keys)) (room-left t l), n);
+        enough = omega (arith, e, objects.value-space (l .loop .inv .0) (name t m) (length (l .loop .keys)) (space-left t l), n);
         sorting = omega (arith, e, b .1 .0 .sorting, l .loop .inv .2, l .loop .inv .3);
       },
     )

@@ -31,7 +31,8 @@ returns : tie.Need-returns
 returns c =
     let a = c .before .before .before .before .before .before .before .before .before .before .before .before .args in
     let o = c .before .before .before .before .object in
-    let h = c .before .before .before .before .before .before .before .before .stands .ensures .0 (c .before .before .before .before .before .before .before .if1 .taken) in (
+    let h = c .before .before .before .before .before .before .before .before .stands .ensures .0
+    (c .before .before .before .before .before .before .before .if1 .taken) in (
       is-object (now (a .s)) (a .at) 8 (o .result) (h .0) (omega arith) (h .1) (o .ensures .0),
       object-keys (now (a .s)) (a .at) 8 _ (o .result) (h .0) (omega arith) (h .1) (o .ensures .1),
     )
@@ -48,8 +49,12 @@ same-length-4 c = search needs
 returns-2 : tie.Need-returns-2
 returns-2 c =
     let a = c .before .before .before .before .before .before .before .before .before .before .before .before .args in
-    let v = c .before .before .before .before .value in
-    (v .ensures, no-object (now (a .s)) (a .at) 8 _ (v .result) (c .before .before .before .before .before .before .before .before .stands .ensures .1 (c .before .before .before .before .before .before .before .if1 .left)))
+    let v = c .before .before .before .before .value in (
+      v .ensures,
+      no-object (now (a .s)) (a .at) 8 _ (v .result)
+          (c .before .before .before .before .before .before .before .before .stands .ensures .1
+          (c .before .before .before .before .before .before .before .if1 .left)),
+    )
 
 pub root-spec : {M : Type 1} → statement M
 root-spec =

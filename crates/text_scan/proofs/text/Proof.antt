@@ -31,7 +31,11 @@ same-length-2 : tie.Need-same-length-2
 same-length-2 c = search needs
 
 returns : tie.Need-returns
-returns c = (text-stuck _ _ (c .before .before .before .before .before .before .before .before .before .before .skip-spaces .ensures .1) _ ((rw (c .before .e .given .1) at (c .before .before .before .before .before .before .before .root .ensures)) .0), tt)
+returns c = (
+  text-stuck _ _ (c .before .before .before .before .before .before .before .before .before .before .skip-spaces .ensures .1) _
+      ((rw (c .before .e .given .1) at (c .before .before .before .before .before .before .before .root .ensures)) .0),
+  tt,
+)
 
 -- the value that was read
 abbrev answer : (c : tie.After-known-told) → Type 0
@@ -43,7 +47,8 @@ answer c =
 val : (c : tie.After-known-told) → answer c
 val c =
     let s = now (c .before .before .before .before .before .before .before .before .before .before .before .before .before .before .args .s) in
-    scans-value s (read 8 (drop (c .before .before .before .before .before .before .before .before .before .before .skip-spaces .result) s)) (c .before .f .given .0 .0) ((rw (c .before .f .given .1) at (c .before .before .before .before .before .before .before .root .ensures)) .0)
+    scans-value s (read 8 (drop (c .before .before .before .before .before .before .before .before .before .before .skip-spaces .result) s))
+    (c .before .f .given .0 .0) ((rw (c .before .f .given .1) at (c .before .before .before .before .before .before .before .root .ensures)) .0)
 
 skip-spaces-requires-2 : tie.Need-skip-spaces-requires-2
 skip-spaces-requires-2 c κs = val c .within
@@ -55,7 +60,11 @@ same-length-4 : tie.Need-same-length-4
 same-length-4 c = search needs
 
 returns-2 : tie.Need-returns-2
-returns-2 c = (text-junk _ _ (c .before .before .before .before .before .before .before .before .before .before .before .before .skip-spaces .ensures .1) _ (val (c .before .before)) _ (c .before .skip-spaces2 .ensures .1) (c .if1 .taken), tt)
+returns-2 c = (
+  text-junk _ _ (c .before .before .before .before .before .before .before .before .before .before .before .before .skip-spaces .ensures .1) _
+      (val (c .before .before)) _ (c .before .skip-spaces2 .ensures .1) (c .if1 .taken),
+  tt,
+)
 
 same-length-5 : tie.Need-same-length-5
 same-length-5 c = search needs
@@ -67,7 +76,8 @@ returns-3 : tie.Need-returns-3
 returns-3 c =
     let p = c .before .before .before .before .before .before .before .before .before .before .before .before .before .skip-spaces .ensures .1 in (
       text-whole _ _ p _ (val (c .before .before .before)) _ (c .before .before .skip-spaces2 .ensures .1) (c .before .if1 .left),
-      text-keys _ _ _ _ p ((rw (c .before .before .before .before .f .given .1) at (c .before .before .before .before .before .before .before .before .before .before .root .ensures)) .1),
+      text-keys _ _ _ _ p ((rw (c .before .before .before .before .f .given .1) at
+          (c .before .before .before .before .before .before .before .before .before .before .root .ensures)) .1),
     )
 
 pub text-spec : {M : Type 1} → statement M

@@ -55,10 +55,12 @@ hex-value-requires-4 c κs = search needs
 
 -- each digit's number is below 16
 first-small : (c : tie.After-hex-value4) → c .before .before .before .before .before .before .hex-value .result < 16
-first-small c = hex-small _ _ (c .before .before .before .before .before .before .before .before .before .pre .first) (c .before .before .before .before .before .before .hex-value .ensures)
+first-small c = hex-small _ _ (c .before .before .before .before .before .before .before .before .before .pre .first)
+    (c .before .before .before .before .before .before .hex-value .ensures)
 
 second-small : (c : tie.After-hex-value4) → c .before .before .before .before .hex-value2 .result < 16
-second-small c = hex-small _ _ (c .before .before .before .before .before .before .before .before .before .pre .second) (c .before .before .before .before .hex-value2 .ensures)
+second-small c = hex-small _ _ (c .before .before .before .before .before .before .before .before .before .pre .second)
+    (c .before .before .before .before .hex-value2 .ensures)
 
 third-small : (c : tie.After-hex-value4) → c .before .before .hex-value3 .result < 16
 third-small c = hex-small _ _ (c .before .before .before .before .before .before .before .before .before .pre .third) (c .before .before .hex-value3 .ensures)
@@ -87,7 +89,12 @@ add-result-3 c = omega (arith, first-small c, second-small c, third-small c, fou
 returns : tie.Need-returns
 unfolding hexNumber
 returns c = (
-  cc (c .before .before .before .before .before .before .hex-value .ensures, c .before .before .before .before .hex-value2 .ensures, c .before .before .hex-value3 .ensures, c .hex-value4 .ensures),
+  cc (
+    c .before .before .before .before .before .before .hex-value .ensures,
+    c .before .before .before .before .hex-value2 .ensures,
+    c .before .before .hex-value3 .ensures,
+    c .hex-value4 .ensures,
+  ),
   omega (arith, first-small c, second-small c, third-small c, fourth-small c),
 )
 

@@ -32,7 +32,8 @@ cast-t11 c = search needs
 returns : tie.Need-returns
 returns c =
     let a = c .before .before .before .before .args in
-    subst (λ (x : ℕ). Escapes (now (a .s)) (a .i) (a .i + 2) x) (sym (c .short-value .ensures)) (short-escapes _ _ (c .before .before .before .before .pre) (c .before .if1 .taken))
+    subst (λ (x : ℕ). Escapes (now (a .s)) (a .i) (a .i + 2) x) (sym (c .short-value .ensures))
+    (short-escapes _ _ (c .before .before .before .before .pre) (c .before .if1 .taken))
 
 add-hex-number : tie.Need-add-hex-number
 add-hex-number c = omega (arith, letter-within _ _ (c .before .before .before .pre))
@@ -43,7 +44,13 @@ hex-number-requires c κs = hex-at _ _ (c .before .before .before .pre) (c .if1 
 read-pair-requires : tie.Need-read-pair-requires
 read-pair-requires c κs =
     let b = c .before .before .before .before .before .before in
-    record { escape = b .pre; letter = c .before .before .before .if1 .left; number = from-letter (now (b .args .s)) (b .args .i) _ (c .before .before .hex-number .ensures .0); low = c .before .if2 .taken; high = c .if3 .taken }
+    record {
+      escape = b .pre;
+      letter = c .before .before .before .if1 .left;
+      number = from-letter (now (b .args .s)) (b .args .i) _ (c .before .before .hex-number .ensures .0);
+      low = c .before .if2 .taken;
+      high = c .if3 .taken;
+    }
 
 returns-2 : tie.Need-returns-2
 returns-2 c = search needs
@@ -54,7 +61,8 @@ add-t6 c = omega (arith, next-char _ _ (c .before .before .before .before .befor
 returns-3 : tie.Need-returns-3
 returns-3 c =
     let b = c .before .before .before .before .before in
-    single-escapes _ _ (b .pre) (c .before .before .if1 .left) _ (from-letter (now (b .args .s)) (b .args .i) _ (c .before .hex-number .ensures .0)) (c .before .hex-number .ensures .1)
+    single-escapes _ _ (b .pre) (c .before .before .if1 .left) _ (from-letter (now (b .args .s)) (b .args .i) _ (c .before .hex-number .ensures .0))
+    (c .before .hex-number .ensures .1)
     (λ ds r d. not-high _ ds (⊎-elim (λ w. above-high _ (w .1 .left)) (λ w. below-high _ (w .left)) (c .if2 .came)))
 
 pub read-escape-spec : {M : Type 1} → statement M

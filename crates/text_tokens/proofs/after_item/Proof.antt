@@ -19,7 +19,8 @@ add-t10 : tie.Need-add-t10
 add-t10 c = search needs
 
 returns-2 : tie.Need-returns-2
-returns-2 c = end-follows _ _ _ _ (c .before .before .before .skip-spaces .ensures .0) (c .before .before .before .skip-spaces .ensures .1) (c .before .before .if1 .left) (c .if2 .taken)
+returns-2 c = end-follows _ _ _ _ (c .before .before .before .skip-spaces .ensures .0) (c .before .before .before .skip-spaces .ensures .1)
+    (c .before .before .if1 .left) (c .if2 .taken)
 
 add-skip-spaces : tie.Need-add-skip-spaces
 add-skip-spaces c = search needs
@@ -28,10 +29,13 @@ skip-spaces-requires-2 : tie.Need-skip-spaces-requires-2
 skip-spaces-requires-2 c κs = search needs
 
 returns-3 : tie.Need-returns-3
-returns-3 c = more-follows _ _ _ _ (c .before .before .before .before .before .skip-spaces .ensures .0) (c .before .before .before .before .before .skip-spaces .ensures .1) (c .before .before .before .before .if1 .left) _ (c .before .before .if2 .left) (c .before .if3 .taken) (c .skip-spaces2 .ensures)
+returns-3 c = more-follows _ _ _ _ (c .before .before .before .before .before .skip-spaces .ensures .0)
+    (c .before .before .before .before .before .skip-spaces .ensures .1) (c .before .before .before .before .if1 .left) _ (c .before .before .if2 .left)
+    (c .before .if3 .taken) (c .skip-spaces2 .ensures)
 
 returns-4 : tie.Need-returns-4
-returns-4 c = misfit-follows _ _ _ _ (c .before .before .before .before .skip-spaces .ensures .0) (c .before .before .before .before .skip-spaces .ensures .1) (c .before .before .before .if1 .left) (c .before .if2 .left) (c .if3 .left)
+returns-4 c = misfit-follows _ _ _ _ (c .before .before .before .before .skip-spaces .ensures .0) (c .before .before .before .before .skip-spaces .ensures .1)
+    (c .before .before .before .if1 .left) (c .before .if2 .left) (c .if3 .left)
 
 pub after-item-spec : {M : Type 1} → statement M
 after-item-spec =

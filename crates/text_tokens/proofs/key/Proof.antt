@@ -21,20 +21,30 @@ use Rattle.text_tokens.proofs.key.Reads as reads
 use Rattle.text_tokens.proofs.key.Lts as lts
 use Rattle.text_json.proofs.space.skip_spaces.Reads as skip-spaces-reads
 use Rattle.text_json.proofs.space.word.Reads as word-reads
-use Rattle.text_json.proofs.string.string.Reads as string-reads
+use Rattle.text_chars.proofs.string.Reads as string-reads
 
 -- the string that was read, at the place after its parts are known
-token : (c : tie.After-known-told2) → Within (c .before .before .before .before .before .args .at) (Token (c .before .end .given .0 .0) (c .before .end .given .0 .1 .0) (c .before .end .given .0 .1 .1 .0))
-    × TokenScans refusedString stringSize (now (c .before .before .before .before .before .args .s)) (readString (drop (c .before .before .before .before .before .args .at) (now (c .before .before .before .before .before .args .s)))) (Token (c .before .end .given .0 .0) (c .before .end .given .0 .1 .0) (c .before .end .given .0 .1 .1 .0))
-token c = subst (λ (w : Scan). Within (c .before .before .before .before .before .args .at) w × TokenScans refusedString stringSize (now (c .before .before .before .before .before .args .s)) (readString (drop (c .before .before .before .before .before .args .at) (now (c .before .before .before .before .before .args .s)))) w) (c .before .end .given .1) (c .before .before .before .string .ensures)
+token : (c : tie.After-known-told2) → Within (c .before .before .before .before .before .args .at)
+    (Token (c .before .end .given .0 .0) (c .before .end .given .0 .1 .0) (c .before .end .given .0 .1 .1 .0))
+    × TokenScans refusedString stringSize (now (c .before .before .before .before .before .args .s))
+    (readString (drop (c .before .before .before .before .before .args .at) (now (c .before .before .before .before .before .args .s))))
+    (Token (c .before .end .given .0 .0) (c .before .end .given .0 .1 .0) (c .before .end .given .0 .1 .1 .0))
+token c = subst (λ (w : Scan). Within (c .before .before .before .before .before .args .at) w
+    × TokenScans refusedString stringSize (now (c .before .before .before .before .before .args .s))
+    (readString (drop (c .before .before .before .before .before .args .at) (now (c .before .before .before .before .before .args .s)))) w)
+    (c .before .end .given .1) (c .before .before .before .string .ensures)
 
 -- the colon after it, at the places after its step is known
 no-colon : (c : tie.After-known-told3) → (c .before .before .before .before .before .skip-spaces .result ≤ c .before .e2 .given .0 .0)
-    × Steps (now (c .before .before .before .before .before .before .before .before .before .before .before .args .s)) (readWord (0x3A ∷ []) (drop (c .before .before .before .before .before .skip-spaces .result) (now (c .before .before .before .before .before .before .before .before .before .before .before .args .s)))) (Step.Stuck (c .before .e2 .given .0 .0))
+    × Steps (now (c .before .before .before .before .before .before .before .before .before .before .before .args .s))
+    (readWord (0x3A ∷ []) (drop (c .before .before .before .before .before .skip-spaces .result)
+    (now (c .before .before .before .before .before .before .before .before .before .before .before .args .s)))) (Step.Stuck (c .before .e2 .given .0 .0))
 no-colon c = rw (c .before .e2 .given .1) at (c .before .before .before .word .ensures)
 
 colon : (c : tie.After-known-told4) → (c .before .before .before .before .before .skip-spaces .result ≤ c .before .e3 .given .0 .0)
-    × Steps (now (c .before .before .before .before .before .before .before .before .before .before .before .args .s)) (readWord (0x3A ∷ []) (drop (c .before .before .before .before .before .skip-spaces .result) (now (c .before .before .before .before .before .before .before .before .before .before .before .args .s)))) (End (c .before .e3 .given .0 .0))
+    × Steps (now (c .before .before .before .before .before .before .before .before .before .before .before .args .s))
+    (readWord (0x3A ∷ []) (drop (c .before .before .before .before .before .skip-spaces .result)
+    (now (c .before .before .before .before .before .before .before .before .before .before .before .args .s)))) (End (c .before .e3 .given .0 .0))
 colon c = rw (c .before .e3 .given .1) at (c .before .before .before .word .ensures)
 
 string-requires : tie.Need-string-requires
@@ -48,7 +58,8 @@ enum-known-end c = search needs
 
 skip-spaces-requires : tie.Need-skip-spaces-requires
 skip-spaces-requires c κs =
-    token-inside refusedString stringSize (now (c .before .before .before .before .before .args .s)) (readString (drop (c .before .before .before .before .before .args .at) (now (c .before .before .before .before .before .args .s)))) _ _ _ (token c .1)
+    token-inside refusedString stringSize (now (c .before .before .before .before .before .args .s))
+    (readString (drop (c .before .before .before .before .before .args .at) (now (c .before .before .before .before .before .args .s)))) _ _ _ (token c .1)
 
 slice-aggregate-word : tie.Need-slice-aggregate-word
 slice-aggregate-word c = search needs
@@ -63,7 +74,9 @@ enum-known-e-3 : tie.Need-enum-known-e-3
 enum-known-e-3 c = search needs
 
 skip-spaces-requires-2 : tie.Need-skip-spaces-requires-2
-skip-spaces-requires-2 c κs = steps-inside (now (c .before .before .before .before .before .before .before .before .before .before .before .args .s)) (readWord (0x3A ∷ []) (drop (c .before .before .before .before .before .skip-spaces .result) (now (c .before .before .before .before .before .before .before .before .before .before .before .args .s)))) _ (colon c .1)
+skip-spaces-requires-2 c κs = steps-inside (now (c .before .before .before .before .before .before .before .before .before .before .before .args .s))
+    (readWord (0x3A ∷ []) (drop (c .before .before .before .before .before .skip-spaces .result)
+    (now (c .before .before .before .before .before .before .before .before .before .before .before .args .s)))) _ (colon c .1)
 
 returns : tie.Need-returns
 returns c =
@@ -85,7 +98,8 @@ returns-3 c =
     let two = two-marks (now (a .s)) (readString (drop (a .at) (now (a .s)))) _ _ _ (token d .1) in
     let later = colon-later (now (a .s)) (c .before .before .before .before .before .before .skip-spaces .result) _ (colon (c .before) .1) in (
       omega (arith, token d .0, two, later, c .before .before .before .before .before .before .skip-spaces .ensures .0, c .skip-spaces2 .ensures .0),
-      key-found (now (a .s)) (a .at) _ _ _ _ (token d .1) (c .before .before .before .before .before .before .skip-spaces .ensures .1) _ _ (colon (c .before) .1) (c .skip-spaces2 .ensures .1),
+      key-found (now (a .s)) (a .at) _ _ _ _ (token d .1) (c .before .before .before .before .before .before .skip-spaces .ensures .1) _ _
+          (colon (c .before) .1) (c .skip-spaces2 .ensures .1),
     )
 
 pub key-spec : {M : Type 1} → statement M

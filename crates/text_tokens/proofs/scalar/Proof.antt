@@ -68,17 +68,23 @@ returns-2 c = scalar-string _ _ (c .before .before .before .if1 .left) _ (c .bef
 returns-3 : tie.Need-returns-3
 returns-3 c =
     let a = c .before .before .before .before .before .before .before .args in
-    subst (Scans (now (a .s)) (readScalar (drop (a .at) (now (a .s))))) (sym (c .literal .ensures)) (scalar-null (now (a .s)) (a .at) (c .before .before .before .before .before .if1 .left) (c .before .word .result) (c .before .before .before .match .keys2) (c .before .word .ensures .1))
+    subst (Scans (now (a .s)) (readScalar (drop (a .at) (now (a .s))))) (sym (c .literal .ensures))
+    (scalar-null (now (a .s)) (a .at) (c .before .before .before .before .before .if1 .left) (c .before .word .result)
+    (c .before .before .before .match .keys2) (c .before .word .ensures .1))
 
 returns-4 : tie.Need-returns-4
 returns-4 c =
     let a = c .before .before .before .before .before .before .before .args in
-    subst (Scans (now (a .s)) (readScalar (drop (a .at) (now (a .s))))) (sym (c .literal2 .ensures)) (scalar-true (now (a .s)) (a .at) (c .before .before .before .before .before .if1 .left) (c .before .word2 .result) (c .before .before .before .match .keys3) (c .before .word2 .ensures .1))
+    subst (Scans (now (a .s)) (readScalar (drop (a .at) (now (a .s))))) (sym (c .literal2 .ensures))
+    (scalar-true (now (a .s)) (a .at) (c .before .before .before .before .before .if1 .left) (c .before .word2 .result)
+    (c .before .before .before .match .keys3) (c .before .word2 .ensures .1))
 
 returns-5 : tie.Need-returns-5
 returns-5 c =
     let a = c .before .before .before .before .before .before .before .args in
-    subst (Scans (now (a .s)) (readScalar (drop (a .at) (now (a .s))))) (sym (c .literal3 .ensures)) (scalar-false (now (a .s)) (a .at) (c .before .before .before .before .before .if1 .left) (c .before .word3 .result) (c .before .before .before .match .keys4) (c .before .word3 .ensures .1))
+    subst (Scans (now (a .s)) (readScalar (drop (a .at) (now (a .s))))) (sym (c .literal3 .ensures))
+    (scalar-false (now (a .s)) (a .at) (c .before .before .before .before .before .if1 .left) (c .before .word3 .result)
+    (c .before .before .before .match .keys4) (c .before .word3 .ensures .1))
 
 returns-6 : tie.Need-returns-6
 returns-6 c =

@@ -60,7 +60,8 @@ returns c =
 
 -- past a character of the length that `char_len` found
 passed : (c : tie.Else3 Inv-loop μ-loop)
-    → Passed (now (c .before .before .before .before .before .before .before .args .text)) (c .before .before .before .before .before .loop .at) (c .before .char-len .result)
+    → Passed (now (c .before .before .before .before .before .before .before .args .text)) (c .before .before .before .before .before .loop .at)
+    (c .before .char-len .result)
 passed c = char-at _ _ (omega arith) (c .before .char-len .result) (c .before .char-len .ensures) (c .if3 .left)
 
 add-at-2 : tie.Need-add-at-2 Inv-loop μ-loop

@@ -1,4 +1,5 @@
--- `manifest_names::conflict::conflicts_group` meets its contract. The loop's invariant: one of the aliases that are left stands elsewhere under another key where one
+-- `manifest_names::conflict::conflicts_group` meets its contract. The loop's invariant: one of the aliases that are left stands elsewhere under
+-- another key where one
 -- of the group's does. The measure is how much of the text is left. Assumes nothing.
 use borrow.Author.Needs.{needs}
 use Prim.Native.Nat.{ℕ, _-_}
@@ -11,9 +12,9 @@ use lib.ListN.{length}
 use Rattle.text_view.specs.Cursor.{GivesMember, NextMember}
 use Rattle.text_strings.proofs.Cursors.{inside-within}
 use Rattle.manifest_fields.specs.Accessors.{texts}
-use Rattle.manifest_names.specs.Contents.{Named, standsElsewhere, conflict}
-use Rattle.manifest_names.specs.Placed.{SortedContents}
-use Rattle.manifest_names.proofs.Any.{any-under}
+use Rattle.manifest_heads.specs.Contents.{Named, standsElsewhere, conflict}
+use Rattle.manifest_heads.specs.Placed.{SortedContents}
+use Rattle.manifest_heads.proofs.Any.{any-under}
 use Rattle.manifest_names.proofs.Walking.{InNamed, named-started, some-members, not-in-named, alias-list, key-inside, in-named, named-goes-on}
 use Rattle.manifest_names.proofs.conflict.conflicts_group.Statement.{statement}
 use Rattle.manifest_names.proofs.conflict.conflicts_group.Tie as tie
@@ -53,11 +54,13 @@ enum-known-key : tie.Need-enum-known-key Inv-loop μ-loop
 enum-known-key c = search needs
 
 -- what `next` gave: a member
-abbrev inv : (c : tie.After-known-told Inv-loop μ-loop) → let b = c .before .before .before .before in let a = b .before .before .before .before .before .before .before .args in
+abbrev inv : (c : tie.After-known-told Inv-loop μ-loop) → let b = c .before .before .before .before in
+    let a = b .before .before .before .before .before .before .before .args in
     InNamed (test (now (a .s)) (now (a .names)) (now (a .keys))) (now (a .t)) (a .at) (a .depth) (b .loop .left)
 inv c = c .before .before .before .before .loop .inv
 
-given : (c : tie.After-known-told Inv-loop μ-loop) → let b = c .before .before .before .before in let a = b .before .before .before .before .before .before .before .args in
+given : (c : tie.After-known-told Inv-loop μ-loop) → let b = c .before .before .before .before in
+    let a = b .before .before .before .before .before .before .before .args in
     let g = c .before .key .given .0 in
     NextMember (now (a .t)) (b .loop .left) (b .loop .inv .others) (g .0) (g .1 .0) (g .1 .1 .0)
 given c =
@@ -82,7 +85,8 @@ unfolding conflict
 returns-2 c =
     let n = c .before in
     let k = n .before in
-    λ xs fs m v. in-named _ _ _ _ _ (inv k) _ _ _ (given k) _ (λ i vs h. n .conflicts-list .ensures (i .0) vs (i .1) h ∙ any-under (test _ _ _ i) _ (texts vs)) (c .if1 .taken) (xs, m) fs v
+    λ xs fs m v. in-named _ _ _ _ _ (inv k) _ _ _ (given k) _ (λ i vs h. n .conflicts-list .ensures (i .0) vs (i .1) h
+    ∙ any-under (test _ _ _ i) _ (texts vs)) (c .if1 .taken) (xs, m) fs v
 
 loop-less : tie.Need-loop-less Inv-loop μ-loop
 loop-less c = let x = given (c .before .before) in omega (arith, x .later, x .within)
@@ -92,7 +96,8 @@ unfolding conflict
 loop-again c =
     let n = c .before in
     let k = n .before in
-    named-goes-on _ _ _ _ _ (inv k) _ _ _ (given k) _ (λ i vs h. n .conflicts-list .ensures (i .0) vs (i .1) h ∙ any-under (test _ _ _ i) _ (texts vs)) (c .if1 .left)
+    named-goes-on _ _ _ _ _ (inv k) _ _ _ (given k) _ (λ i vs h. n .conflicts-list .ensures (i .0) vs (i .1) h
+    ∙ any-under (test _ _ _ i) _ (texts vs)) (c .if1 .left)
 
 pub conflicts-group-spec : {M : Type 1} → statement M
 conflicts-group-spec =

@@ -1,4 +1,5 @@
--- `manifest_names::conflict::conflicts_list` meets its contract. The loop's invariant: one of the strings that are left stands elsewhere under another key where one of
+-- `manifest_names::conflict::conflicts_list` meets its contract. The loop's invariant: one of the strings that are left stands elsewhere under
+-- another key where one of
 -- the array's does. The measure is how much of the text is left. Assumes nothing.
 use borrow.Author.Needs.{needs}
 use Prim.Native.Nat.{ℕ, _-_}
@@ -14,9 +15,9 @@ use Rattle.text_content.specs.Value.{Values}
 use Rattle.text_strings.specs.InString.{contentFrom}
 use Rattle.manifest_fields.specs.Accessors.{texts}
 use Rattle.laws.specs.Any.{anyOf}
-use Rattle.manifest_names.specs.Contents.{Named, namedUnder, standsElsewhere, conflict}
-use Rattle.manifest_names.specs.Placed.{SortedContents}
-use Rattle.manifest_names.proofs.Any.{any-under}
+use Rattle.manifest_heads.specs.Contents.{Named, namedUnder, standsElsewhere, conflict}
+use Rattle.manifest_heads.specs.Placed.{SortedContents}
+use Rattle.manifest_heads.proofs.Any.{any-under}
 use Rattle.manifest_names.proofs.Walking.{InTexts, texts-started, some-elements, not-in-texts, text-inside, in-texts, texts-go-on}
 use Rattle.manifest_names.proofs.conflict.conflicts_list.Statement.{statement}
 use Rattle.manifest_names.proofs.conflict.conflicts_list.Tie as tie
@@ -60,11 +61,13 @@ enum-known-p : tie.Need-enum-known-p Inv-loop μ-loop
 enum-known-p c = search needs
 
 -- what `next` gave: an element
-abbrev inv : (c : tie.After-known-told Inv-loop μ-loop) → let b = c .before .before .before .before in let a = b .before .before .before .before .before .before .before .args in
+abbrev inv : (c : tie.After-known-told Inv-loop μ-loop) → let b = c .before .before .before .before in
+    let a = b .before .before .before .before .before .before .before .args in
     InTexts (test (now (a .s)) (now (a .names)) (now (a .keys)) (contentFrom (now (a .t)) (a .k))) (now (a .t)) (a .at) (a .depth) (b .loop .left)
 inv c = c .before .before .before .before .loop .inv
 
-given : (c : tie.After-known-told Inv-loop μ-loop) → let b = c .before .before .before .before in let a = b .before .before .before .before .before .before .before .args in
+given : (c : tie.After-known-told Inv-loop μ-loop) → let b = c .before .before .before .before in
+    let a = b .before .before .before .before .before .before .before .args in
     let g = c .before .p .given .0 in
     NextElement (now (a .t)) (b .loop .left) (b .loop .inv .others) (g .0) (g .1 .0)
 given c =

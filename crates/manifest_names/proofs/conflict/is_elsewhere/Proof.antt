@@ -4,7 +4,7 @@ use mathlib.Core.Bool.{not}
 use native.Mathlib.Omega.{arith}
 use denote.Ref.{now}
 use Rattle.text_strings.specs.InString.{contentFrom}
-use Rattle.manifest_names.specs.Searches.{Stands, Looks}
+use Rattle.manifest_heads.specs.Searches.{Stands, Looks}
 use Rattle.manifest_names.proofs.Elsewhere.{namesAlone, unnamed, contents-names, some-names, place-within, its-key, elsewhere}
 use borrow.Author.Needs.{needs}
 use Rattle.manifest_names.proofs.conflict.is_elsewhere.Statement.{statement}

@@ -1,5 +1,5 @@
 -- `manifest_names::keyed::collect_contents` meets its contract. The loop's invariant: the aliases of the members before the cursor were collected with
--- their keys, and there is room for 64 of each other member. The measure is how much of the text is left. Assumes nothing.
+-- their keys, and there is space for 64 of each other member. The measure is how much of the text is left. Assumes nothing.
 use borrow.Author.Needs.{needs}
 use Prim.Native.Nat.{_-_}
 use mathlib.Core.Path.{subst}
@@ -47,7 +47,8 @@ enum-known-key : tie.Need-enum-known-key Inv-loop μ-loop
 enum-known-key c = search needs
 
 -- what `next` gave: a member
-abbrev inv : (c : tie.After-known-told Inv-loop μ-loop) → let b = c .before .before .before .before in let a = b .before .before .before .before .before .args in
+abbrev inv : (c : tie.After-known-told Inv-loop μ-loop) → let b = c .before .before .before .before in
+    let a = b .before .before .before .before .before .args in
     WithKeys (now (a .s)) (a .at) (a .depth) (now (a .names)) (now (a .keys)) (b .loop .names) (b .loop .keys) (b .loop .left) (b .loop .n)
 inv c = c .before .before .before .before .loop .inv
 

@@ -7,7 +7,8 @@ use native.Mathlib.Omega.{arith}
 use denote.Ref.{now}
 use lib.ListN.{length}
 use Rattle.text_view.specs.Cursor.{GivesElement, NextElement}
-use Rattle.manifest_names.proofs.Keying.{UnderKey, under-array, under-started, under-left, under-finished, place-within, key-within, place-room, place-fits, under-goes-on}
+use Rattle.manifest_names.proofs.Keying.{UnderKey, under-array, under-started, under-left, under-finished, place-within, key-within, place-space}
+use Rattle.manifest_names.proofs.Keying.{place-fits, under-goes-on}
 use Rattle.manifest_names.proofs.keyed.collect_under.Statement.{statement}
 use Rattle.manifest_names.proofs.keyed.collect_under.Tie as tie
 
@@ -47,7 +48,8 @@ enum-known-p : tie.Need-enum-known-p Inv-loop μ-loop
 enum-known-p c = search needs
 
 -- what `next` gave: an element
-abbrev inv : (c : tie.After-known-told Inv-loop μ-loop) → let b = c .before .before .before .before in let a = b .before .before .before .before .before .args in
+abbrev inv : (c : tie.After-known-told Inv-loop μ-loop) → let b = c .before .before .before .before in
+    let a = b .before .before .before .before .before .args in
     UnderKey (now (a .s)) (a .at) (a .depth) (a .key) (now (a .names)) (a .n) (now (a .keys)) (b .loop .names) (b .loop .keys) (b .loop .left) (b .loop .i)
 inv c = c .before .before .before .before .loop .inv
 
@@ -77,10 +79,10 @@ cast-keys c =
     omega (arith, key-within _ _ _ _ _ _ _ _ _ _ _ (inv c) _ _ (given c), a .pre .list .short)
 
 mul-keys : tie.Need-mul-keys Inv-loop μ-loop
-mul-keys c = omega (arith, place-room _ _ _ _ _ _ _ _ _ _ _ (inv c) _ _ (given c), inv c .key-size)
+mul-keys c = omega (arith, place-space _ _ _ _ _ _ _ _ _ _ _ (inv c) _ _ (given c), inv c .key-size)
 
 slice-write-keys : tie.Need-slice-write-keys Inv-loop μ-loop
-slice-write-keys c = place-room _ _ _ _ _ _ _ _ _ _ _ (inv c) _ _ (given c)
+slice-write-keys c = place-space _ _ _ _ _ _ _ _ _ _ _ (inv c) _ _ (given c)
 
 add-i : tie.Need-add-i Inv-loop μ-loop
 add-i c = omega (arith, place-fits _ _ _ _ _ _ _ _ _ _ _ (inv c) _ _ (given c), inv c .size)

@@ -8,7 +8,7 @@ use Rattle.manifest_repeat.proofs.Groups.{group-at}
 use Rattle.manifest_names.proofs.Elsewhere.{once-settled}
 use Rattle.manifest_names.proofs.Founds.{found-grouped, its-object}
 use Rattle.manifest_names.proofs.Keying.{placed-keys, no-contents, contents-sorted}
-use Rattle.manifest_names.proofs.Searching.{sorted-front}
+use Rattle.manifest_heads.proofs.Searching.{sorted-front}
 use borrow.Author.Needs.{needs}
 use Rattle.manifest_names.proofs.keyed.sort_contents.Statement.{statement}
 use Rattle.manifest_names.proofs.keyed.sort_contents.Tie as tie
@@ -41,12 +41,17 @@ sort-keys-requires c κs =
     let g = a .pre .group in
     let w = f .collect-contents in (
       placed-keys
-          (w .ensures .1 _ (its-object _ _ _ (found-grouped g) _ (d .before .group .given .1) (g .value) (g .finds)) (once-settled _ (a .pre .once (g .value) (g .finds)))),
+          (w .ensures .1 _ (its-object _ _ _ (found-grouped g) _ (d .before .group .given .1) (g .value) (g .finds))
+          (once-settled _ (a .pre .once (g .value) (g .finds)))),
       omega (arith, w .ensures .0, w .kept .1 .1 .1 .0, length-take-le (w .result) (w .last .1 .1 .1 .0) (w .ensures .0), g .sorting),
     )
 
 returns : tie.Need-returns
-returns c = (omega arith, λ o f. no-contents _ _ _ (c .before .before .before .before .before .before .pre .long) (missing-members _ _ _ o f (c .enum-told .given .1)))
+returns c = (
+  omega arith,
+  λ o f. no-contents _ _ _ (c .before .before .before .before .before .before .pre .long)
+      (missing-members _ _ _ o f (c .enum-told .given .1)),
+)
 
 same-length : tie.Need-same-length
 same-length c = search needs

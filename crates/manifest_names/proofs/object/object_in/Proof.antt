@@ -66,7 +66,7 @@ returns-2 c =
     key-found _ _ _ _ _ _ (inv k) _ _ _ x _ (n .is-in-list .ensures (x .first) (x .here)) (c .if1 .taken)
 
 add-i : tie.Need-add-i Inv-loop μ-loop
-add-i c = let k = c .before .before in let x = given k in omega (arith, x .later, x .within, inv k .room)
+add-i c = let k = c .before .before in let x = given k in omega (arith, x .later, x .within, inv k .space)
 
 loop-less : tie.Need-loop-less Inv-loop μ-loop
 loop-less c = let x = given (c .before .before) in omega (arith, x .later, x .within)

@@ -10,9 +10,9 @@ use denote.Ref.{now}
 use lib.ListN.{length}
 use Rattle.text_view.specs.Cursor.{GivesMember, NextMember}
 use Rattle.reference.specs.Matches.{isOneOf}
-use Rattle.manifest_names.specs.Contents.{Named, shareName}
-use Rattle.manifest_names.specs.Placed.{SortedNames}
-use Rattle.manifest_names.proofs.Any.{any-name}
+use Rattle.manifest_heads.specs.Contents.{Named, shareName}
+use Rattle.manifest_heads.specs.Placed.{SortedNames}
+use Rattle.manifest_heads.proofs.Any.{any-name}
 use Rattle.manifest_names.proofs.Walking.{InNamed, named-started, some-members, not-in-named, alias-list, in-named, named-goes-on}
 use Rattle.manifest_names.proofs.shared.shares_group.Statement.{statement}
 use Rattle.manifest_names.proofs.shared.shares_group.Tie as tie
@@ -46,17 +46,20 @@ unfolding shareName
 returns c =
     let d = c .before .before in
     let p = d .before .loop .inv in
-    λ cs fs m v. not-in-named _ _ _ _ _ p (rw (c .enum-told .given .1) at (d .next .ensures (p .others) (p .here))) (cs, m) fs v ∙ any-name (λ (n : List ℕ). isOneOf n cs) fs
+    λ cs fs m v. not-in-named _ _ _ _ _ p (rw (c .enum-told .given .1) at (d .next .ensures (p .others) (p .here))) (cs, m) fs v
+    ∙ any-name (λ (n : List ℕ). isOneOf n cs) fs
 
 enum-known-value : tie.Need-enum-known-value Inv-loop μ-loop
 enum-known-value c = search needs
 
 -- what `next` gave: a member
-abbrev inv : (c : tie.After-known-told Inv-loop μ-loop) → let b = c .before .before .before .before in let a = b .before .before .before .before .before .before .args in
+abbrev inv : (c : tie.After-known-told Inv-loop μ-loop) → let b = c .before .before .before .before in
+    let a = b .before .before .before .before .before .before .args in
     InNamed (test (now (a .s)) (now (a .names))) (now (a .t)) (a .at) (a .depth) (b .loop .left)
 inv c = c .before .before .before .before .loop .inv
 
-given : (c : tie.After-known-told Inv-loop μ-loop) → let b = c .before .before .before .before in let a = b .before .before .before .before .before .before .args in
+given : (c : tie.After-known-told Inv-loop μ-loop) → let b = c .before .before .before .before in
+    let a = b .before .before .before .before .before .before .args in
     let g = c .before .value .given .0 in
     NextMember (now (a .t)) (b .loop .left) (b .loop .inv .others) (g .0) (g .1 .0) (g .1 .1 .0)
 given c =

@@ -11,8 +11,8 @@ use lib.ListN.{length}
 use Rattle.text_strings.proofs.Cursors.{inside-within}
 use Rattle.text_view.specs.Cursor.{GivesElement, NextElement}
 use Rattle.reference.specs.Matches.{isOneOf}
-use Rattle.manifest_names.specs.Contents.{shareName}
-use Rattle.manifest_names.specs.Placed.{SortedNames}
+use Rattle.manifest_heads.specs.Contents.{shareName}
+use Rattle.manifest_heads.specs.Placed.{SortedNames}
 use Rattle.manifest_names.proofs.Walking.{InTexts, texts-started, some-elements, not-in-texts, text-inside, in-texts, texts-go-on}
 use Rattle.manifest_names.proofs.shared.shares_list.Statement.{statement}
 use Rattle.manifest_names.proofs.shared.shares_list.Tie as tie
@@ -52,11 +52,13 @@ enum-known-p : tie.Need-enum-known-p Inv-loop μ-loop
 enum-known-p c = search needs
 
 -- what `next` gave: an element
-abbrev inv : (c : tie.After-known-told Inv-loop μ-loop) → let b = c .before .before .before .before in let a = b .before .before .before .before .before .before .args in
+abbrev inv : (c : tie.After-known-told Inv-loop μ-loop) → let b = c .before .before .before .before in
+    let a = b .before .before .before .before .before .before .args in
     InTexts (test (now (a .s)) (now (a .names))) (now (a .t)) (a .at) (a .depth) (b .loop .left)
 inv c = c .before .before .before .before .loop .inv
 
-given : (c : tie.After-known-told Inv-loop μ-loop) → let b = c .before .before .before .before in let a = b .before .before .before .before .before .before .args in
+given : (c : tie.After-known-told Inv-loop μ-loop) → let b = c .before .before .before .before in
+    let a = b .before .before .before .before .before .before .args in
     let g = c .before .p .given .0 in
     NextElement (now (a .t)) (b .loop .left) (b .loop .inv .others) (g .0) (g .1 .0)
 given c =

@@ -39,7 +39,8 @@ returns-3 c =
     let g = f .before .before in
     let d = g .before in
     let e = d .before .before in
-    sym (named-third _ (sym (e .before .is-plain .ensures) ∙ e .if1 .left) (sym (d .is-plain2 .ensures) ∙ g .if2 .left) (sym (f .is-plain3 .ensures) ∙ c .if3 .taken))
+    sym (named-third _ (sym (e .before .is-plain .ensures) ∙ e .if1 .left) (sym (d .is-plain2 .ensures) ∙ g .if2 .left) (sym (f .is-plain3 .ensures)
+    ∙ c .if3 .taken))
 
 returns-4 : tie.Need-returns-4
 returns-4 c =
@@ -47,7 +48,8 @@ returns-4 c =
     let g = f .before .before in
     let d = g .before in
     let e = d .before .before in
-    sym (named-none _ (sym (e .before .is-plain .ensures) ∙ e .if1 .left) (sym (d .is-plain2 .ensures) ∙ g .if2 .left) (sym (f .is-plain3 .ensures) ∙ c .if3 .left))
+    sym (named-none _ (sym (e .before .is-plain .ensures) ∙ e .if1 .left) (sym (d .is-plain2 .ensures) ∙ g .if2 .left) (sym (f .is-plain3 .ensures)
+    ∙ c .if3 .left))
 
 pub named-spec : {M : Type 1} → statement M
 named-spec =

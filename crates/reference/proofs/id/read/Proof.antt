@@ -29,7 +29,8 @@ returns-3 c =
     let z = c .before .before in
     let y = z .before in
     let x = y .before .before in
-    id-four _ _ _ _ _ (plain-past _ _ (x .before .read-plain .ensures .0) (x .if1 .left) _ (y .before .read-plain2 .ensures .0) (y .if2 .left) _ (z .read-plain3 .ensures .0) (not-true _ (c .if3 .taken)))
+    id-four _ _ _ _ _ (plain-past _ _ (x .before .read-plain .ensures .0) (x .if1 .left) _ (y .before .read-plain2 .ensures .0) (y .if2 .left) _
+    (z .read-plain3 .ensures .0) (not-true _ (c .if3 .taken)))
 
 named-requires : tie.Need-named-requires
 named-requires c κs = search needs

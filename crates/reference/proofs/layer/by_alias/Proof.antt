@@ -3,8 +3,9 @@
 use mathlib.Core.Path.{ap, sym, _∙_}
 use borrow.Author.Tests.{not-true, not-false}
 use Rattle.reference_digests.proofs.Forms.{digest-counted}
-use Rattle.reference.specs.Aliases.{isAlias}
-use Rattle.reference.proofs.Steps.{whole, by-no-word, by-unknown, by-known, alias-good, alias-no-signer, alias-no-name}
+use Rattle.reference_aliases.specs.Aliases.{isAlias}
+use Rattle.reference_aliases.proofs.Named.{whole}
+use Rattle.reference.proofs.Steps.{by-no-word, by-unknown, by-known, alias-good, alias-no-signer, alias-no-name}
 use borrow.Author.Needs.{needs}
 use Rattle.reference.proofs.layer.by_alias.Statement.{statement}
 use Rattle.reference.proofs.layer.by_alias.Tie as tie

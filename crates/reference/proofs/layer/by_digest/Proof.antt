@@ -7,7 +7,8 @@ use Rattle.reference_digests.specs.Digests.{isDigest}
 use Rattle.reference_digests.specs.declared.algorithm.Known.{Known}
 use Rattle.reference_digests.proofs.Forms.{digest-counted}
 use Rattle.reference.specs.References.{digestLayer}
-use Rattle.reference.proofs.Steps.{whole, layer-by-digest, digest-good, digest-bad, digest-unknown}
+use Rattle.reference_aliases.proofs.Named.{whole}
+use Rattle.reference.proofs.Steps.{layer-by-digest, digest-good, digest-bad, digest-unknown}
 use borrow.Author.Needs.{needs}
 use Rattle.reference.proofs.layer.by_digest.Statement.{statement}
 use Rattle.reference.proofs.layer.by_digest.Tie as tie

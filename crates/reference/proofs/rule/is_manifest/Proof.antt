@@ -3,7 +3,7 @@
 use mathlib.Core.Path.{_∙_}
 use Rattle.reference_digests.proofs.Forms.{digest-counted}
 use Rattle.reference.specs.References.{isManifest}
-use Rattle.reference.proofs.Steps.{or-taken, or-left}
+use Rattle.reference_aliases.proofs.Named.{or-taken, or-left}
 use borrow.Author.Needs.{needs}
 use Rattle.reference.proofs.rule.is_manifest.Statement.{statement}
 use Rattle.reference.proofs.rule.is_manifest.Tie as tie
@@ -39,7 +39,8 @@ returns-3 c =
     let e = f .before .before in
     let a = e .before .before .before .before in
     or-left _ _ _ _ (e .before .is .ensures) (e .if1 .left)
-    (or-left _ _ _ _ (f .before .is-digest .ensures ∙ digest-counted (a .args .a) _ (a .args .p) (a .pre .1 .counts)) (f .if2 .left) (c .is-alias-part .ensures))
+    (or-left _ _ _ _ (f .before .is-digest .ensures ∙ digest-counted (a .args .a) _ (a .args .p) (a .pre .1 .counts)) (f .if2 .left)
+    (c .is-alias-part .ensures))
 
 pub is-manifest-spec : {M : Type 1} → statement M
 is-manifest-spec =

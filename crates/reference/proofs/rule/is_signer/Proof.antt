@@ -3,7 +3,7 @@
 use mathlib.Core.Path.{_∙_}
 use Rattle.reference_digests.proofs.Forms.{digest-counted}
 use Rattle.reference.specs.References.{isSigner}
-use Rattle.reference.proofs.Steps.{or-taken, or-left}
+use Rattle.reference_aliases.proofs.Named.{or-taken, or-left}
 use borrow.Author.Needs.{needs}
 use Rattle.reference.proofs.rule.is_signer.Statement.{statement}
 use Rattle.reference.proofs.rule.is_signer.Tie as tie

@@ -6,9 +6,10 @@ use Prim.Native.Nat.{ℕ}
 use Rattle.laws.specs.Order.{same}
 use Rattle.reference_digests.specs.Digests.{isDigest, digestOf}
 use Rattle.reference_digests.proofs.Forms.{digest-counted}
-use Rattle.reference.specs.Aliases.{star}
+use Rattle.reference_aliases.specs.Aliases.{star}
 use Rattle.reference.specs.References.{manifest}
-use Rattle.reference.proofs.Steps.{whole, manifest-any, manifest-one, manifest-alias}
+use Rattle.reference_aliases.proofs.Named.{whole}
+use Rattle.reference.proofs.Steps.{manifest-any, manifest-one, manifest-alias}
 use borrow.Author.Needs.{needs}
 use Rattle.reference.proofs.rule.manifest_of.Statement.{statement}
 use Rattle.reference.proofs.rule.manifest_of.Tie as tie

@@ -53,8 +53,10 @@ under-requires c κs =
     let e = c .before .before .before .before in
     let z = e .before .before in
     let y = z .before in
-    let x = y .before .before in
-    (record { here = x .before .read .ensures .inside; first = y .before .read2 .ensures; more = y .if2 .left; second = z .read3 .ensures }, not-false _ (e .if3 .left))
+    let x = y .before .before in (
+      record { here = x .before .read .ensures .inside; first = y .before .read2 .ensures; more = y .if2 .left; second = z .read3 .ensures },
+      not-false _ (e .if3 .left),
+    )
 
 returns-4 : tie.Need-returns-4
 returns-4 c =

@@ -2,7 +2,8 @@
 -- Assumes nothing.
 use mathlib.Core.Path.{ap, sym, _∙_}
 use Rattle.reference.specs.References.{isManifest}
-use Rattle.reference.proofs.Steps.{whole, rule-no-signer, rule-no-manifest, rule-accepts}
+use Rattle.reference_aliases.proofs.Named.{whole}
+use Rattle.reference.proofs.Steps.{rule-no-signer, rule-no-manifest, rule-accepts}
 use borrow.Author.Needs.{needs}
 use borrow.Author.Tests.{not-true, not-false}
 use Rattle.reference.proofs.rule.under.Statement.{statement}

@@ -60,7 +60,8 @@ byte-of-requires c κs =
     let i = l .inv .1 in
     let n = c .before .before .next in
     let h = c .before .before .before .loop-test .taken in
-    let q = next-bytes _ (i .0) (n .result) (c .next2 .result) (n .ensures .0 (i .0) (i .1)) (c .next2 .ensures .0) (some-left _ (i .0) _ (l .k) _ _ (i .2) h) in
+    let q = next-bytes _ (i .0) (n .result) (c .next2 .result) (n .ensures .0 (i .0) (i .1)) (c .next2 .ensures .0) (some-left _ (i .0) _ (l .k) _ _ (i .2) h)
+    in
     both-digits _ (i .0) _ (l .k) _ _ (i .2) h _ _ (q .0) (q .1)
 
 slice-write-out : tie.Need-slice-write-out Inv-loop μ-loop

@@ -91,8 +91,12 @@ loop-again c =
     let l = c .before .before .before .before .loop in
     let h = c .before .before .before .loop-test .taken in
     let a = c .before .before .before .before .before .before .before .before .args in
-    let w = two-within (now (a .s)) (l .j) (some-left _ _ _ (l .k) _ _ (l .inv .2) h) in
-    (l .inv .0, omega arith, one-more _ _ _ (l .k) _ _ (l .inv .2) h _ _ _ (next-two (now (a .s)) (l .j) w) _ (c .byte-of .ensures) (omega (arith, h, l .inv .0)))
+    let w = two-within (now (a .s)) (l .j) (some-left _ _ _ (l .k) _ _ (l .inv .2) h) in (
+      l .inv .0,
+      omega arith,
+      one-more _ _ _ (l .k) _ _ (l .inv .2) h _ _ _ (next-two (now (a .s)) (l .j) w) _ (c .byte-of .ensures)
+          (omega (arith, h, l .inv .0)),
+    )
 
 same-length : tie.Need-same-length Inv-loop μ-loop
 same-length c =

@@ -31,7 +31,8 @@ returns c =
     let n = c .before .before in
     let l = n .before .before .loop in
     λ w d p e. let q = l .inv .1 d p in
-    too-short w _ _ (l .k) (q .2 w e) (n .before .loop-test .taken) (given-end _ _ (n .next .result) (not-true _ (c .if1 .taken)) (n .next .ensures .0 (q .0) (q .1)))
+    too-short w _ _ (l .k) (q .2 w e) (n .before .loop-test .taken)
+    (given-end _ _ (n .next .result) (not-true _ (c .if1 .taken)) (n .next .ensures .0 (q .0) (q .1)))
 
 shared-slice-read-if2 : tie.Need-shared-slice-read-if2 Inv-loop μ-loop
 shared-slice-read-if2 c = c .before .before .before .before .loop-test .taken

@@ -6,8 +6,8 @@ use native.Mathlib.Omega.{arith}
 use denote.Ref.{now}
 use lib.ListN.{take, drop}
 use Rattle.text_json.specs.Bytes.{between}
-use Rattle.text_json.specs.Measure.{every}
-use Rattle.text_json.proofs.Plain.{every-next}
+use Rattle.text_chars.specs.Measure.{every}
+use Rattle.text_chars.proofs.Plain.{every-next}
 use Rattle.reference_parts.specs.Hex.{isLowerHex}
 use Rattle.reference_parts.proofs.part.hex16.Statement.{statement}
 use Rattle.reference_parts.proofs.part.hex16.Tie as tie

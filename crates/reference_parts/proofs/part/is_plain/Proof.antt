@@ -19,7 +19,14 @@ returns : tie.Need-returns Inv-loop μ-loop
 returns c = other-length _ _ (λ e. c .if1 .taken (c .before .pre .1 ∙ e))
 
 loop-holds : tie.Need-loop-holds Inv-loop μ-loop
-loop-holds c = (omega (arith, first-shorter (drop (c .before .args .i) (c .before .args .s .now)), length-drop (c .before .args .i) (c .before .args .s .now)), refl)
+loop-holds c = (
+  omega (
+    arith,
+    first-shorter (drop (c .before .args .i) (c .before .args .s .now)),
+    length-drop (c .before .args .i) (c .before .args .s .now),
+  ),
+  refl,
+)
 
 add-if2 : tie.Need-add-if2 Inv-loop μ-loop
 add-if2 c = omega arith
@@ -34,7 +41,8 @@ returns-2 : tie.Need-returns-2 Inv-loop μ-loop
 returns-2 c =
     let l = c .before .before .before .before in
     let a = l .before .before .args in
-    next-differs (drop (a .i) (a .s .now)) _ _ (l .loop .k) (l .loop .inv .1) (c .before .before .before .loop-test .taken) _ _ (next-plain (a .s .now) (a .i) (l .loop .k) (omega arith)) (c .if2 .taken)
+    next-differs (drop (a .i) (a .s .now)) _ _ (l .loop .k) (l .loop .inv .1) (c .before .before .before .loop-test .taken) _ _
+    (next-plain (a .s .now) (a .i) (l .loop .k) (omega arith)) (c .if2 .taken)
     ∙ as-begins _ _ (sym (l .before .if1 .left) ∙ l .before .before .pre .1)
 
 add-k : tie.Need-add-k Inv-loop μ-loop
@@ -48,7 +56,8 @@ loop-again c =
     let l = c .before .before .before .before in
     let a = l .before .before .args in (
       l .loop .inv .0,
-      next-same (drop (a .i) (a .s .now)) _ _ (l .loop .k) (l .loop .inv .1) (c .before .before .before .loop-test .taken) _ _ (next-plain (a .s .now) (a .i) (l .loop .k) (omega arith)) (c .if2 .left),
+      next-same (drop (a .i) (a .s .now)) _ _ (l .loop .k) (l .loop .inv .1) (c .before .before .before .loop-test .taken) _ _
+          (next-plain (a .s .now) (a .i) (l .loop .k) (omega arith)) (c .if2 .left),
     )
 
 returns-3 : tie.Need-returns-3 Inv-loop μ-loop

@@ -59,7 +59,8 @@ loop-again c =
     let x = c .before .before .before .before in
     let l = x .before .before .before in (
       x .one-char .ensures .inside,
-      over-char _ (l .before .before .before .args .i) (l .loop .k) _ _ (l .loop .inv .1) _ (x .one-char .ensures) (c .before .before .if2 .left) _ (c .is-lower-hex .ensures),
+      over-char _ (l .before .before .before .args .i) (l .loop .k) _ _ (l .loop .inv .1) _ (x .one-char .ensures) (c .before .before .if2 .left) _
+          (c .is-lower-hex .ensures),
     )
 
 pub read-spec : {M : Type 1} → statement M

@@ -49,8 +49,11 @@ loop-less c = omega arith
 loop-again : tie.Need-loop-again Inv-loop μ-loop
 loop-again c =
     let l = c .before .before .before .before in
-    let s = l .before .before .args .s .now in
-    (omega arith, goes-on-byte _ _ _ _ (l .loop .inv .1) _ _ (drop-next s (l .loop .k) (c .before .before .before .loop-test .taken)) (c .before .if1 .left) _ (c .is-lower-hex .ensures))
+    let s = l .before .before .args .s .now in (
+      omega arith,
+      goes-on-byte _ _ _ _ (l .loop .inv .1) _ _ (drop-next s (l .loop .k) (c .before .before .before .loop-test .taken)) (c .before .if1 .left) _
+          (c .is-lower-hex .ensures),
+    )
 
 returns-2 : tie.Need-returns-2 Inv-loop μ-loop
 returns-2 c =

@@ -31,7 +31,11 @@ returns c =
     let l = t .before .before in
     let a = l .before .before .before in
     not-filled (now (a .args .s)) (c .broken .result) (c .broken .ensures)
-    (too-many (now (a .args .s)) (l .loop .records) (l .loop .count) (l .loop .i) (l .loop .inv) (t .before .loop-test .taken) (omega (arith, t .if1 .taken, l .loop .inv .few)))
+    (too-many (now (a .args .s)) (l .loop .records) (l .loop .count) (l .loop .i) (l .loop .inv) (t .before .loop-test .taken) (omega (
+      arith,
+      t .if1 .taken,
+      l .loop .inv .few,
+    )))
 
 read-requires : tie.Need-read-requires Inv-loop μ-loop
 read-requires c κs = search needs
@@ -49,7 +53,11 @@ returns-2 c =
     let l = e .before .before in
     let a = l .before .before .before in
     not-filled (now (a .args .s)) (c .broken2 .result) (c .broken2 .ensures)
-    (no-more (now (a .args .s)) (l .loop .records) (l .loop .count) (l .loop .i) (l .loop .inv) (e .before .loop-test .taken) (omega (arith, e .if1 .left, l .loop .inv .few))
+    (no-more (now (a .args .s)) (l .loop .records) (l .loop .count) (l .loop .i) (l .loop .inv) (e .before .loop-test .taken) (omega (
+      arith,
+      e .if1 .left,
+      l .loop .inv .few,
+    ))
     (rw (c .before .enum-told .given .1) at (r .read .ensures)))
 
 enum-known-r : tie.Need-enum-known-r Inv-loop μ-loop

@@ -1,7 +1,7 @@
 -- `text_json::bytes::is_plain` meets its contract: its tests are those of the definition.
 -- Assumes nothing.
 use mathlib.Core.Path.{refl}
-use Rattle.text_json.specs.Measure.{isPlain}
+use Rattle.text_json.specs.Bytes.{isPlain}
 use Rattle.text_json.proofs.bytes.is_plain.Statement.{statement}
 use Rattle.text_json.proofs.bytes.is_plain.Tie as tie
 

@@ -10,14 +10,16 @@ returns : tie.Need-returns
 returns c =
     let a = c .before .before .before in
     let p = a .pre in
-    heads-less _ _ _ _ (λ k. omega (arith, c .before .before .shared-slice-known .given k)) (λ k. omega (arith, c .before .shared-slice-known2 .given k)) (p .0) (p .1)
+    heads-less _ _ _ _ (λ k. omega (arith, c .before .before .shared-slice-known .given k)) (λ k. omega (arith, c .before .shared-slice-known2 .given k))
+    (p .0) (p .1)
     (omega (arith, c .if1 .taken, p .2, p .3))
 
 returns-2 : tie.Need-returns-2
 returns-2 c =
     let a = c .before .before .before .before in
     let p = a .pre in
-    heads-greater _ _ _ _ (λ k. omega (arith, c .before .before .before .shared-slice-known .given k)) (λ k. omega (arith, c .before .before .shared-slice-known2 .given k)) (p .0) (p .1)
+    heads-greater _ _ _ _ (λ k. omega (arith, c .before .before .before .shared-slice-known .given k))
+    (λ k. omega (arith, c .before .before .shared-slice-known2 .given k)) (p .0) (p .1)
     (omega (arith, c .if2 .taken, p .2, p .3))
 
 compare-requires : tie.Need-compare-requires

@@ -64,7 +64,8 @@ loop-again c =
     let l = t .before .loop in (
       l .inv .0,
       omega (arith, l .inv .1),
-      subst (λ (g : ℕ). g < headBound (l .left - 1)) (add-zero (l .h * 256)) (bound-more (l .left) (l .h) 0 (t .loop-test .taken) (l .inv .1) (l .inv .2) (omega arith)),
+      subst (λ (g : ℕ). g < headBound (l .left - 1)) (add-zero (l .h * 256))
+          (bound-more (l .left) (l .h) 0 (t .loop-test .taken) (l .inv .1) (l .inv .2) (omega arith)),
       l .inv .3 ∙ over-end _ (l .at) (l .left) (l .h) (t .loop-test .taken) (l .inv .0) (c .if2 .taken),
     )
 

@@ -72,7 +72,8 @@ loop-again-2 c =
     let l = n .before .before .loop in (
       l .inv .0,
       omega (arith, l .inv .1),
-      subst (λ (g : ℕ). g < headBound (l .left - 1)) (add-zero (l .h * 256)) (bound-more (l .left) (l .h) 0 (n .before .loop-test .taken) (l .inv .1) (l .inv .2) (omega arith)),
+      subst (λ (g : ℕ). g < headBound (l .left - 1)) (add-zero (l .h * 256))
+          (bound-more (l .left) (l .h) 0 (n .before .loop-test .taken) (l .inv .1) (l .inv .2) (omega arith)),
       cursor-end _ (n .next .result) _ _ (l .left) (l .h) (l .inv .3) (n .before .loop-test .taken) (n .next .ensures .0) (c .if1 .left),
     )
 

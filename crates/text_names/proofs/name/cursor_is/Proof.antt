@@ -27,7 +27,8 @@ next-requires c κs = c .before .loop .inv .0
 returns : tie.Need-returns Inv-loop μ-loop
 returns c =
     let d = c .before .before in
-    cursor-ends _ (d .next .result) _ _ (d .before .before .loop .k) (d .before .before .loop .inv .2) (d .next .ensures .0) (d .before .loop-test .taken) (not-true _ (c .if1 .taken))
+    cursor-ends _ (d .next .result) _ _ (d .before .before .loop .k) (d .before .before .loop .inv .2) (d .next .ensures .0) (d .before .loop-test .taken)
+    (not-true _ (c .if1 .taken))
 
 shared-slice-read-if2 : tie.Need-shared-slice-read-if2 Inv-loop μ-loop
 shared-slice-read-if2 c = search needs
@@ -35,7 +36,8 @@ shared-slice-read-if2 c = search needs
 returns-2 : tie.Need-returns-2 Inv-loop μ-loop
 returns-2 c =
     let d = c .before .before .before .before .before in
-    cursor-differs _ (d .next .result) _ _ (d .before .before .loop .k) (d .before .before .loop .inv .2) (d .next .ensures .0) (d .before .loop-test .taken) (not-false _ (c .before .before .before .if1 .left)) (c .if2 .taken)
+    cursor-differs _ (d .next .result) _ _ (d .before .before .loop .k) (d .before .before .loop .inv .2) (d .next .ensures .0) (d .before .loop-test .taken)
+    (not-false _ (c .before .before .before .if1 .left)) (c .if2 .taken)
 
 add-k : tie.Need-add-k Inv-loop μ-loop
 add-k c = omega arith

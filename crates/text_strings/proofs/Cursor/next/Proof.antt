@@ -32,14 +32,21 @@ from-escape-requires : tie.Need-from-escape-requires
 from-escape-requires c κs = search needs
 
 returns-3 : tie.Need-returns-3
-returns-3 c = (λ x l. gives-escape _ _ (c .before .before .before .before .before .if1 .left) x _ _ _ l (c .before .read-escape .ensures) (c .from-escape .ensures), λ _. escape-lighter (now (c .before .before .before .before .before .before .before .before .args .s)) (c .before .before .before .before .before .before .before .before .args .self) _ _ _ (c .before .read-escape .ensures) (c .from-escape .ensures))
+returns-3 c = (
+  λ x l. gives-escape _ _ (c .before .before .before .before .before .if1 .left) x _ _ _ l (c .before .read-escape .ensures)
+      (c .from-escape .ensures),
+  λ _. escape-lighter (now (c .before .before .before .before .before .before .before .before .args .s))
+      (c .before .before .before .before .before .before .before .before .args .self) _ _ _ (c .before .read-escape .ensures) (c .from-escape .ensures),
+)
 
 add-t20 : tie.Need-add-t20
 add-t20 c = omega (arith, byte-within _ _ (c .before .before .before .if1 .left) _ (c .before .before .before .before .before .before .pre .left))
 
 returns-4 : tie.Need-returns-4
-returns-4 c =
-    (λ x l. gives-plain _ _ (c .before .before .before .if1 .left) x l (c .before .if2 .left) (c .if3 .left), λ _. omega (arith, byte-within _ _ (c .before .before .before .if1 .left) _ (c .before .before .before .before .before .before .pre .left)))
+returns-4 c = (
+  λ x l. gives-plain _ _ (c .before .before .before .if1 .left) x l (c .before .if2 .left) (c .if3 .left),
+  λ _. omega (arith, byte-within _ _ (c .before .before .before .if1 .left) _ (c .before .before .before .before .before .before .pre .left)),
+)
 
 pub next-spec : {M : Type 1} → statement M
 next-spec =

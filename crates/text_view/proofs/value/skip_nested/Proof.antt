@@ -3,7 +3,8 @@
 use Prim.Native.Nat.{_-_}
 use native.Mathlib.Omega.{arith}
 use lib.ListN.{length}
-use Rattle.text_view.proofs.Counting.{Counted, counted-start, counted-within, counted-inside, counted-string, counted-open, open-fits, counted-end, counted-other, counted-done}
+use Rattle.text_view.proofs.Counting.{Counted, counted-start, counted-within, counted-inside, counted-string, counted-open, open-fits, counted-end}
+use Rattle.text_view.proofs.Counting.{counted-other, counted-done}
 use Rattle.text_view.proofs.value.skip_nested.Statement.{statement}
 use Rattle.text_view.proofs.value.skip_nested.Tie as tie
 

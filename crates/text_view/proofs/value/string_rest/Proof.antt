@@ -21,7 +21,8 @@ string-tail-requires c κs =
 
 returns : tie.Need-returns
 returns c =
-    reaches-end _ _ _ (reaches-run _ _ _ (reaches-start _ _ (c .before .before .before .before .pre)) 8 (sym (c .before .before .eight-left .ensures) ∙ c .before .if1 .taken)) _
+    reaches-end _ _ _ (reaches-run _ _ _ (reaches-start _ _ (c .before .before .before .before .pre)) 8 (sym (c .before .before .eight-left .ensures)
+    ∙ c .before .if1 .taken)) _
     (c .string-tail .ensures)
 
 string-tail-requires-2 : tie.Need-string-tail-requires-2

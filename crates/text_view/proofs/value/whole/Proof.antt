@@ -7,7 +7,7 @@ use denote.Ref.{now}
 use lib.Dec.{eqb}
 use lib.ListN.{getD}
 use Rattle.text_json.specs.Content.{decimal}
-use Rattle.text_json.proofs.Numerals.{signs-most}
+use Rattle.text_numbers.proofs.Numerals.{signs-most}
 use Rattle.text_view.proofs.Values.{within}
 use Rattle.text_view.proofs.Numbers.{number-parts, int-value, no-int}
 use Rattle.text_view.proofs.value.whole.Statement.{statement}

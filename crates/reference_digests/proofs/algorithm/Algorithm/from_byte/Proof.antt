@@ -19,7 +19,12 @@ returns-3 c = rw (c .match .keys3)
 
 returns-4 : tie.Need-returns-4
 unfolding numbered
-returns-4 c = let b = c .before .args .b in simp (numbered, ne-eqb b 1 (c .match .rest .0 .0 .1), ne-eqb b 2 (c .match .rest .0 .1), ne-eqb b 3 (c .match .rest .1))
+returns-4 c = let b = c .before .args .b in simp (
+  numbered,
+  ne-eqb b 1 (c .match .rest .0 .0 .1),
+  ne-eqb b 2 (c .match .rest .0 .1),
+  ne-eqb b 3 (c .match .rest .1),
+)
 
 pub from-byte-spec : {M : Type 1} → statement M
 from-byte-spec = tie.close (tie.spec returns returns-2 returns-3 returns-4)

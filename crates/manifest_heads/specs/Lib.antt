@@ -1,0 +1,4 @@
+pub mod Contents
+pub mod Placed
+pub mod Searches
+pub mod Heads

@@ -1,0 +1,59 @@
+-- `text_json::string::none_is` meets its contract. The loop's invariant: `all` is the test of the bytes passed. The measure is how many are left.
+-- Assumes nothing.
+use Prim.Native.Nat.{_-_, _≤_}
+use mathlib.Core.Path.{_≡_, refl}
+use native.Mathlib.Omega.{arith}
+use denote.Ref.{now}
+use Rattle.text_chars.specs.Measure.{every, isNot}
+use lib.ListN.{take, drop}
+use Rattle.text_chars.proofs.Plain.{every-next}
+use Rattle.text_chars.proofs.none_is.Statement.{statement}
+use Rattle.text_chars.proofs.none_is.Tie as tie
+
+abbrev Inv-loop : tie.InvT-loop
+Inv-loop s at m all₀ n₀ all n = (n ≤ 16) × (all ≡ every (isNot m) (take n (drop at s)))
+
+abbrev μ-loop : tie.MeasureT-loop
+μ-loop s at m all₀ n₀ all n = 16 - n
+
+loop-holds : tie.Need-loop-holds Inv-loop μ-loop
+unfolding every
+loop-holds c = (omega arith, refl)
+
+add-all : tie.Need-add-all Inv-loop μ-loop
+add-all c = omega arith
+
+shared-slice-read-all : tie.Need-shared-slice-read-all Inv-loop μ-loop
+shared-slice-read-all c = omega arith
+
+add-n : tie.Need-add-n Inv-loop μ-loop
+add-n c = omega arith
+
+loop-less : tie.Need-loop-less Inv-loop μ-loop
+loop-less c = omega arith
+
+loop-again : tie.Need-loop-again Inv-loop μ-loop
+unfolding isNot
+loop-again c =
+    let l = c .before .before in
+    let a = l .before .args in
+    (omega arith, every-next (isNot (a .m)) (now (a .s)) (a .at) (l .loop .n) (l .loop .all) (omega arith) (l .loop .inv .1))
+
+returns : tie.Need-returns Inv-loop μ-loop
+returns c =
+    let l = c .before .loop in
+    let o : l .n ≡ 16 = omega arith in rw o at (l .inv .1)
+
+pub none-is-spec : {M : Type 1} → statement M
+none-is-spec =
+    tie.close
+    (tie.spec
+    Inv-loop
+    μ-loop
+    loop-holds
+    add-all
+    shared-slice-read-all
+    add-n
+    loop-less
+    loop-again
+    returns)

@@ -1,0 +1,70 @@
+-- `text_json::number::frac` meets its contract: the byte there says whether there is a fraction, and digits must follow its point.
+-- Assumes nothing.
+use Prim.Native.Nat.{ℕ, _+_}
+use mathlib.Core.Path.{_≡_}
+use mathlib.Core.List.{List}
+use mathlib.Core.Bool.{false}
+use native.Mathlib.Omega.{arith}
+use borrow.Author.Needs.{needs}
+use denote.Ref.{now}
+use lib.ListN.{drop}
+use Rattle.text_json.specs.Read.{found, andThen, readSomeDigits, readFrac}
+use Rattle.text_numbers.proofs.NumberSteps.{frac-end, frac-more, frac-stop}
+use Rattle.text_numbers.proofs.Numerals.{part-found, part-stuck}
+use Rattle.text_numbers.proofs.frac.Statement.{statement}
+use Rattle.text_numbers.proofs.frac.Tie as tie
+
+abbrev text : tie.Else2 → List ℕ
+text c = now (c .before .before .before .before .args .s)
+
+abbrev place : tie.Else2 → ℕ
+place c = c .before .before .before .before .args .at
+
+here : (c : tie.Else2) → readFrac (drop (place c) (text c)) ≡ andThen (readSomeDigits (drop (place c + 1) (text c))) (λ _ r. found false r)
+here c = frac-more (text c) (place c) (c .before .before .if1 .left) (c .if2 .left)
+
+returns : tie.Need-returns
+returns c = record { past = omega arith; inside = c .before .before .pre; read = frac-end _ _ (c .if1 .taken) }
+
+shared-slice-read-if2 : tie.Need-shared-slice-read-if2
+shared-slice-read-if2 c = search needs
+
+returns-2 : tie.Need-returns-2
+returns-2 c =
+    record { past = omega arith; inside = omega arith; read = frac-stop _ _ (c .before .before .if1 .left) (c .if2 .taken) }
+
+add-some-digits : tie.Need-add-some-digits
+add-some-digits c = search needs
+
+some-digits-requires : tie.Need-some-digits-requires
+some-digits-requires c κs = search needs
+
+enum-known-e : tie.Need-enum-known-e
+enum-known-e c = search needs
+
+enum-known-e-2 : tie.Need-enum-known-e-2
+enum-known-e-2 c = search needs
+
+returns-3 : tie.Need-returns-3
+returns-3 c =
+    let got = rw (c .before .e .given .1) at (c .before .before .before .some-digits .ensures) in
+    part-found _ _ _ _ _ (here (c .before .before .before .before)) got
+
+returns-4 : tie.Need-returns-4
+returns-4 c =
+    let got = rw (c .before .e2 .given .1) at (c .before .before .before .some-digits .ensures) in
+    part-stuck _ _ _ _ _ (here (c .before .before .before .before)) got
+
+pub frac-spec : {M : Type 1} → statement M
+frac-spec =
+    tie.close
+    (tie.spec
+    returns
+    shared-slice-read-if2
+    returns-2
+    add-some-digits
+    some-digits-requires
+    enum-known-e
+    enum-known-e-2
+    returns-3
+    returns-4)
