@@ -1,9 +1,10 @@
 -- Laws of `anyOf` and `anyPair`. Assumes nothing.
 use mathlib.Core.Path.{_≡_, refl, sym, ap, _∙_}
-use mathlib.Core.List.{List, [], _∷_, _++_, map, List·Permᴰ as Permutation, List·Permᴰ·nil, List·Permᴰ·cons, List·Permᴰ·swap, List·Permᴰ·trans}
-use mathlib.Core.Bool.{Bool, true, false, _&&_, _||_, or-assoc}
+use mathlib.Core.List.{List, [], _∷_, _++_, map, List·Memᴰ as In, List·Memᴰ·head, List·Memᴰ·tail}
+use mathlib.Core.List.{List·Permᴰ as Permutation, List·Permᴰ·nil, List·Permᴰ·cons, List·Permᴰ·swap, List·Permᴰ·trans}
+use mathlib.Core.Bool.{Bool, true, false, _&&_, _||_, or-true, or-assoc}
 use Rattle.laws.specs.Any.{anyOf}
-use Rattle.laws.proofs.Order.{false-true}
+use Rattle.laws.proofs.Order.{by-test, false-true}
 
 -- Where a disjunction is false, both of its parts are.
 pub or-none : (a b : Bool) → (a || b) ≡ false → (a ≡ false) × (b ≡ false)
@@ -26,6 +27,19 @@ module _ {A : Type 0} (p : A → Bool) where
     pub any-second : anyOf p xs ≡ false → anyOf p (xs ++ ys) ≡ anyOf p ys
     any-second e = any-both xs ys ∙ rw e
 
+module _ {A : Type 0} (p : A → Bool) where
+  -- Where no element passes a test, an element does not.
+  pub none-passes : {xs : List A} {a : A} → anyOf p xs ≡ false → In a xs → p a ≡ false
+  unfolding anyOf
+  none-passes e (List·Memᴰ·head {x = x} {xs = xs} q) = ap p q ∙ or-none (p x) (anyOf p xs) e .0
+  none-passes e (List·Memᴰ·tail {x = x} {xs = xs} m) = none-passes (or-none (p x) (anyOf p xs) e .1) m
+
+  -- Where each element does not pass a test, none does.
+  pub passed-by-none : (xs : List A) → ((a : A) → In a xs → p a ≡ false) → anyOf p xs ≡ false
+  unfolding anyOf
+  passed-by-none [] h = refl
+  passed-by-none (x ∷ xs) h = λ i. h x (List·Memᴰ·head refl) i || passed-by-none xs (λ a m. h a (List·Memᴰ·tail m)) i
+
 -- A test of what a list is mapped to is a test of the list.
 pub any-map : {A B : Type 0} (f : A → B) (p : B → Bool) (xs : List A) → anyOf p (map f xs) ≡ anyOf (λ (x : A). p (f x)) xs
 unfolding anyOf
@@ -38,18 +52,15 @@ unfolding anyOf
 any-pointwise p q e [] = refl
 any-pointwise p q e (x ∷ xs) = λ i. e x i || any-pointwise p q e xs i
 
-or-crossed : (a b c d : Bool) → ((a || b) || (c || d)) ≡ ((a || c) || (b || d))
-or-crossed true b c d = refl
-or-crossed false true true d = refl
-or-crossed false true false d = refl
-or-crossed false false true d = refl
-or-crossed false false false d = refl
-
 -- The first two of three tests may be asked in either order.
 pub or-exchanged : (a b c : Bool) → (a || (b || c)) ≡ (b || (a || c))
 or-exchanged true true c = refl
 or-exchanged true false c = refl
 or-exchanged false b c = refl
+
+-- The second and the third of four tests may change places.
+pub or-crossed : (a b c d : Bool) → ((a || b) || (c || d)) ≡ ((a || c) || (b || d))
+or-crossed a b c d = or-assoc a b (c || d) ∙ ap (λ (r : Bool). a || r) (or-exchanged b c d) ∙ sym (or-assoc a c (b || d))
 
 module _ {A : Type 0} where
   -- No element passes a test that nothing passes.
@@ -68,6 +79,21 @@ module _ {A : Type 0} where
   unfolding anyOf
   any-or p q [] = refl
   any-or p q (x ∷ xs) = ap (λ (b : Bool). (p x || q x) || b) (any-or p q xs) ∙ or-crossed (p x) (q x) (anyOf p xs) (anyOf q xs)
+
+  -- A test that an element of the list passes is passed by some element.
+  pub in-any : (p : A → Bool) {xs : List A} {a : A} → In a xs → p a ≡ true → anyOf p xs ≡ true
+  unfolding anyOf
+  in-any p (List·Memᴰ·head {x = x} {xs = xs} e) h = ap (λ (b : Bool). b || anyOf p xs) (ap p (sym e) ∙ h)
+  in-any p (List·Memᴰ·tail {x = x} m) h = ap (λ (b : Bool). p x || b) (in-any p m h) ∙ or-true (p x)
+
+  -- A test that some element passes is passed by an element of the list.
+  pub any-in : (p : A → Bool) (xs : List A) → anyOf p xs ≡ true → (a : A) × In a xs × (p a ≡ true)
+  unfolding anyOf
+  any-in p [] e = false-true e
+  any-in p (x ∷ xs) e = by-test (p x) (λ f. (x, List·Memᴰ·head refl, f)) (λ f. further (any-in p xs (rw (f, anyOf) at e)))
+    where
+      further : (a : A) × In a xs × (p a ≡ true) → (a : A) × In a (x ∷ xs) × (p a ≡ true)
+      further w = (w .0, List·Memᴰ·tail (w .1), w .2)
 
   -- A list in another order has an element that passes exactly if the list has.
   pub any-permuted : (p : A → Bool) {xs ys : List A} → Permutation xs ys → anyOf p xs ≡ anyOf p ys

@@ -1,5 +1,9 @@
 pub mod Any
+pub mod Inserting
+pub mod Lists
 pub mod Order
+pub mod Pairs
 pub mod Permutations
 pub mod Sort
 pub mod Rising
+pub mod Writing

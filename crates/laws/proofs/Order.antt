@@ -5,6 +5,7 @@ use mathlib.Core.List.{List, [], _∷_}
 use mathlib.Core.Bool.{Bool, true, false}
 use native.Mathlib.Omega.{arith}
 use lib.Dec.{ltb, eqb}
+use lib.ListN.{length}
 use borrow.Author.Tests.{ltb-true, ltb-false, eqb-true, eqb-false, lt-ltb, le-ltb, eq-eqb, ne-eqb}
 use Rattle.laws.specs.Order.{leq, same}
 
@@ -117,6 +118,10 @@ same-eq (x ∷ xs) (y ∷ ys) e = by-test (eqb x y) (yes′ (same-eq xs ys)) no�
 -- Lists that `same` says are not equal are not equal.
 pub same-ne : (xs ys : List ℕ) → same xs ys ≡ false → xs ≡ ys → ⊥
 same-ne xs ys e q = false-true (sym e ∙ ap (same xs) (sym q) ∙ same-refl xs)
+
+-- Lists of two lengths differ.
+pub other-length : (xs ys : List ℕ) → (length xs ≡ length ys → ⊥) → same xs ys ≡ false
+other-length xs ys n = by-test (same xs ys) (λ e. absurd (n (ap length (same-eq xs ys e)))) (λ e. e)
 
 -- Equality of two lists goes both ways.
 pub same-sym : (xs ys : List ℕ) → same xs ys ≡ same ys xs

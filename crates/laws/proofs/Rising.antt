@@ -1,10 +1,10 @@
 -- Lists in which no element comes after the next one. Sorting gives such a list, and leaves one as it is.
-use Prim.Native.Nat.{_≤_}
+use Prim.Native.Nat.{ℕ, zero, suc, _<_, _≤_}
 use mathlib.Core.Path.{_≡_, refl, ap, _∙_}
 use mathlib.Core.List.{List, [], _∷_}
 use mathlib.Core.Bool.{Bool, true, false}
 use native.Mathlib.Omega.{arith}
-use lib.ListN.{length}
+use lib.ListN.{length, getD}
 use Rattle.laws.specs.Sort.{insert, sort, Orders}
 use Rattle.laws.proofs.Order.{by-test}
 use Rattle.laws.proofs.Sort.{insert-before, insert-after}
@@ -54,3 +54,18 @@ module _ {A : Type 0} (le : A → A → Bool) where
     unfolding sort
     sort-rising [] = rising-none
     sort-rising (x ∷ xs) = insert-rising x (sort-rising xs)
+
+    module _ (d : A) where
+      first-least : {x : A} {xs : List A} → Rising le (x ∷ xs) → (j : ℕ) → j < length (x ∷ xs) → le x (getD (x ∷ xs) j d) ≡ true
+      first-least {x} r zero h = by-test (le x x) (λ e. e) (o .total x x)
+      first-least rising-one (suc j) h = absurd (omega arith)
+      first-least {x} (rising-more {y = y} {ys = ys} e r) (suc j) h = o .trans x y (getD (y ∷ ys) j d) e (first-least r j (omega arith))
+
+      -- The element at an earlier place does not come after the one at a later place.
+      pub rising-at : {xs : List A} → Rising le xs → (i j : ℕ) → i ≤ j → j < length xs → le (getD xs i d) (getD xs j d) ≡ true
+      rising-at rising-none i j l h = absurd (omega arith)
+      rising-at rising-one zero j l h = first-least rising-one j h
+      rising-at rising-one (suc i) j l h = absurd (omega arith)
+      rising-at (rising-more e r) zero j l h = first-least (rising-more e r) j h
+      rising-at (rising-more e r) (suc i) zero l h = absurd (omega arith)
+      rising-at (rising-more e r) (suc i) (suc j) l h = rising-at r i j (omega arith) (omega arith)

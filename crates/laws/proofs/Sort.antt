@@ -1,5 +1,4 @@
 -- Laws of sorting. `sort-append` is what a merge sort rests on: the sorted halves merged are the whole sorted.
-use Prim.Native.Nat.{ℕ}
 use mathlib.Core.Path.{_≡_, refl, sym, ap, _∙_}
 use mathlib.Core.List.{List, [], _∷_, _++_}
 use mathlib.Core.Bool.{Bool, true, false}

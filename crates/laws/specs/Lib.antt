@@ -1,3 +1,4 @@
 pub mod Any
 pub mod Order
 pub mod Sort
+pub mod Writes

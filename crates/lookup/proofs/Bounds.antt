@@ -14,9 +14,9 @@ use Rattle.lookup_outcome.specs.declared.Failure.{Failure}
 use Rattle.lookup.specs.Resolve.{resolveQuestions, resolveNumber, heldOutcome, resolveValue}
 use Rattle.lookup_image.specs.Layers.{layersAt, outcomeIn}
 use Rattle.lookup_answer.specs.Answers.{outputOf, valueAfter}
-use Rattle.lookup.specs.Found.{AllMeet, FirstFails, Asked}
+use Rattle.lookup.specs.Resolved.{AllMeet, FirstFails, Asked}
 use Rattle.lookup_answer.proofs.Answering.{layers-number-small}
-use Rattle.lookup.proofs.Found.{resolved-exactly, fails-exactly, met-length, failing-within}
+use Rattle.lookup.proofs.Resolved.{resolved-exactly, fails-exactly, met-length, failing-within}
 use Rattle.lookup_image.proofs.Layers.{layers-at-few, list-short}
 use Rattle.lookup.proofs.Telling.{asked-sound, met-sized, zero-exactly, failure-exactly}
 

@@ -1,4 +1,4 @@
-pub mod Found
+pub mod Resolved
 pub mod Numbers
 pub mod Telling
 pub mod Bounds

@@ -24,9 +24,9 @@ use Rattle.lookup_outcome.specs.declared.Failure.the-variants.{Undefined, Endle
 use Rattle.lookup.specs.Resolve.{resolveQuestions, resolveNumber, heldOutcome, resolveValue, resolveBytes}
 use Rattle.lookup_image.specs.Layers.{layersAt, presentIn, outcomeIn}
 use Rattle.lookup_answer.specs.Answers.{outputOf, layerQuestions, valueAfter, bytesAfter}
-use Rattle.lookup.specs.Found.{AllMeet, FirstFails, Asked, Resolved, Unresolved}
+use Rattle.lookup.specs.Resolved.{AllMeet, FirstFails, Asked, Resolved, Unresolved}
 use Rattle.lookup_answer.proofs.Answering.{failure-bounds, refused-bytes, fails-number, no-space, enough-space}
-use Rattle.lookup.proofs.Found.{resolved-exactly, fails-exactly, met-present}
+use Rattle.lookup.proofs.Resolved.{resolved-exactly, fails-exactly, met-present}
 use Rattle.lookup_image.proofs.Layers.{all-sized}
 
 -- a question that does not give its number is passed over

@@ -1,2 +1,2 @@
 pub mod Resolve
-pub mod Found
+pub mod Resolved

@@ -1,5 +1,6 @@
 // Resolve: the layers of one image of a store as digests, each found by following aliases through the store's images.
 use answer::Answer;
+use lookup_image::MOST_REFERENCES;
 use manifest::MOST_NAMES;
 use reference::ImageIndex;
 use store_open::Opened;
@@ -53,8 +54,8 @@ pub fn resolve(
         return answer::refused(out, 11);
     }
     let b = &store[..used];
-    let mut at = [0usize; 4160];
-    let mut order = [0u16; 4160];
+    let mut at = [0usize; MOST_REFERENCES];
+    let mut order = [0u16; MOST_REFERENCES];
     let mut names = [0u16; MOST_NAMES];
     let mut keys = [0u16; MOST_BYTES];
     let opened = open_store(b, &mut at, &mut order, &mut names, &mut keys);

@@ -1,5 +1,6 @@
 // The layers of one image of an opened store: all references of the store are placed and linked, and those of the image followed.
 use answer::Answer;
+use manifest::MOST_ENTRIES;
 use manifest::Places;
 use reference::ImageIndex;
 use store_record::MOST_IMAGES;
@@ -16,6 +17,9 @@ ghost use Rattle.lookup_links.specs.Links.{Links};
 ghost use Rattle.lookup_image.specs.Layers.{outcomeIn, presentIn};
 ghost use Rattle.lookup_answer.specs.Answers.{layerQuestions, Resolves};
 ghost use Rattle.lookup_image.specs.Lent.{Resolvable, Linkable};
+
+// The most references that a store and the layers of one of its images have.
+pub const MOST_REFERENCES: usize = MOST_IMAGES * MOST_ENTRIES + MOST_ENTRIES;
 
 // The layers of an image of an opened store, as digests, at the start of `out`. The arrays lent are room for the names of aliases.
 pub fn resolve_in(
@@ -35,8 +39,8 @@ pub fn resolve_in(
         (lowest (layerQuestions (outcomeIn (imagesIn (now (b .entry)) v) (i .0) (presentIn (layersIn (now (present .entry))))) (length (now (out .entry)))))
         (outcomeIn (imagesIn (now (b .entry)) v) (i .0) (presentIn (layersIn (now (present .entry))))) (now (out .entry)) r (now (out .exit)) ⌝ }
 {
-    let mut keys = [0usize; 4160];
-    let mut next = [0u16; 4160];
+    let mut keys = [0usize; MOST_REFERENCES];
+    let mut next = [0u16; MOST_REFERENCES];
     let mut counts = [0u16; MOST_IMAGES];
     let n = lookup_table::place_refs(b, v, places, i, &mut keys, &mut counts);
     let total = n.total;

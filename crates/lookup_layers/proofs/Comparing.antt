@@ -2,17 +2,13 @@
 use Prim.Native.Nat.{ℕ, suc, _+_, _≤_, _<_}
 use mathlib.Core.Path.{_≡_, sym, ap, _∙_}
 use mathlib.Core.List.{List, _∷_}
-use mathlib.Core.Bool.{Bool, false, _&&_, and-true, and-assoc}
+use mathlib.Core.Bool.{Bool, _&&_, and-true, and-assoc}
 use native.Mathlib.Numerals.{add-one}
 use lib.Dec.{eqb}
 use lib.ListN.{length, drop, getD, drop-of-length-le}
 use lib.Seq.{drop-cons}
 use Rattle.laws.specs.Order.{same}
-use Rattle.laws.proofs.Order.{by-test, same-eq}
-
--- Lists of two lengths differ.
-pub other-length : (a b : List ℕ) → (length a ≡ length b → ⊥) → same a b ≡ false
-other-length a b n = by-test (same a b) (λ e. absurd (n (ap length (same-eq a b e)))) (λ e. e)
+use Rattle.laws.proofs.Order.{by-test}
 
 same-first : (x y : ℕ) (xs ys : List ℕ) → same (x ∷ xs) (y ∷ ys) ≡ (eqb x y && same xs ys)
 unfolding same

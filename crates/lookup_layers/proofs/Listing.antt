@@ -2,16 +2,15 @@
 use Prim.Native.Nat.{ℕ, zero, suc, _≤_, _<_}
 use mathlib.Core.Path.{_≡_, refl, sym, ap, _∙_}
 use mathlib.Core.Logic.{_↔_}
-use mathlib.Core.Bool.{Bool, true, _||_, or-true}
-use mathlib.Core.List.{List, [], _∷_, _++_, append-assoc, List·Memᴰ as In, List·Memᴰ·head, List·Memᴰ·tail}
+use mathlib.Core.Bool.{true, _||_}
+use mathlib.Core.List.{List, [], _∷_, _++_, append-assoc, List·Memᴰ as In}
 use mathlib.Core.Option.{Option, none, some}
 use native.Mathlib.Omega.{arith}
 use lib.Dec.{eqb}
 use lib.ListN.{length}
 use borrow.Author.Tests.{eqb-true, eq-eqb}
-use Rattle.laws.specs.Any.{anyOf}
 use Rattle.laws.specs.Order.{same}
-use Rattle.laws.proofs.Any.{any-both}
+use Rattle.laws.proofs.Any.{any-both, in-any, any-in}
 use Rattle.laws.proofs.Order.{by-test, false-true, same-eq, same-refl}
 use Rattle.reference_digests.specs.Algorithms.{byteOf}
 use Rattle.reference_digests.proofs.Digests.{byte-same}
@@ -161,18 +160,10 @@ pub layer-same : (d : LayerDigest) → sameLayer d d ≡ true
 unfolding sameLayer
 layer-same d = rw (eq-eqb (byteOf (d .algorithm)) (byteOf (d .algorithm)) refl) (same-refl (d .bytes))
 
-listed-in : (d : LayerDigest) (ds : List LayerDigest) → isListed d ds ≡ true → In d ds
-unfolding isListed anyOf
-listed-in d [] e = false-true e
-listed-in d (x ∷ ds) e =
-    by-test (sameLayer d x) (λ q. List·Memᴰ·head (same-layer d x q)) (λ q. List·Memᴰ·tail (listed-in d ds (rw (q, anyOf) at e)))
-
-in-listed : (d : LayerDigest) {ds : List LayerDigest} → In d ds → isListed d ds ≡ true
-unfolding isListed anyOf
-in-listed d (List·Memᴰ·head {x = x} {xs = xs} e) =
-    ap (λ (b : Bool). b || anyOf (sameLayer d) xs) (ap (sameLayer d) (sym e) ∙ layer-same d)
-in-listed d (List·Memᴰ·tail {x = x} m) = ap (λ (b : Bool). sameLayer d x || b) (in-listed d m) ∙ or-true (sameLayer d x)
-
 -- A layer is listed exactly if a layer with its algorithm and its digest stands in the list.
 pub listed : (d : LayerDigest) (ds : List LayerDigest) → (isListed d ds ≡ true) ↔ In d ds
-listed d ds = (listed-in d ds, in-listed d)
+unfolding isListed
+listed d ds = (λ e. listed-in (any-in (sameLayer d) ds e), λ m. in-any (sameLayer d) m (layer-same d))
+  where
+    listed-in : (x : LayerDigest) × In x ds × (sameLayer d x ≡ true) → In d ds
+    listed-in p = rw (same-layer d (p .0) (p .2)) (p .1)

@@ -12,7 +12,7 @@ use Rattle.laws.specs.Order.{same}
 use Rattle.laws.proofs.Order.{same-sym}
 use Rattle.reference_digests.specs.Algorithms.{digestBytes, byteOf}
 use Rattle.reference_digests.specs.declared.algorithm.Algorithm.{Algorithm}
-use Rattle.lookup_layers.specs.Layers.{LayerDigest, entry, no-entry, firstOf, andThen, layersIn, isGiven, isList, sameLayer, isListed}
+use Rattle.lookup_layers.specs.Layers.{LayerDigest, no-entry, firstOf, andThen, layersIn, isGiven, isList, sameLayer, isListed}
 use Rattle.lookup_layers.specs.Reading.{EntryAt, SomeList}
 use Rattle.lookup_layers.proofs.Listing.{layers-end, layers-entry, layers-none}
 

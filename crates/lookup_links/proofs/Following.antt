@@ -11,7 +11,7 @@ use Rattle.reference.specs.References.{Layer, layer-digest, layer-alias, no-lay
 use Rattle.store_record.specs.Image.{Image}
 use Rattle.store_keys.specs.Keys.{Key, LayerKey}
 use Rattle.store_keys.specs.Clash.{anyClash}
-use Rattle.lookup_paths.specs.Follow.{keysIn, objectIn, objectOf, met, undefined, endless, follow, objectCount, endOf}
+use Rattle.lookup_paths.specs.Follow.{keysIn, objectIn, objectOf, undefined, endless, follow, objectCount, endOf}
 use Rattle.lookup_paths.proofs.Objects.{key-defines, object-exactly}
 use Rattle.lookup_paths.proofs.Steps.{digest-met, bad-undefined, follow-on, follow-none, alias-endless, end-on}
 use Rattle.lookup_links.specs.Links.{digestMark, undefinedMark, badMark, LinkedTo, AliasLink, undefined as not-defined, linked, Link, Links}

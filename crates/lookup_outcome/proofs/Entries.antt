@@ -15,7 +15,8 @@ use Rattle.reference.specs.References.{Layer, layer-digest, layer-alias, no-lay
 use Rattle.reference.specs.declared.layer.Layer.the-variants.{Alias as ReadAlias, Bad}
 use Rattle.manifest.specs.Opened.{Denotes}
 use Rattle.manifest_objects.specs.Objects.{StandsAt}
-use Rattle.store_write.proofs.Writing.{Writes, nothing-written, byte-written, lent-length, part-written}
+use Rattle.laws.specs.Writes.{Writes}
+use Rattle.laws.proofs.Writing.{nothing-written, byte-written, lent-length, part-written}
 use Rattle.lookup_layers.specs.Layers.{LayerDigest, entryOf, isListed}
 use Rattle.lookup_outcome.specs.Resolving.{DigestStands, sizeIf}
 use Rattle.lookup_outcome.proofs.Meeting.{one-algorithm, one-digest}

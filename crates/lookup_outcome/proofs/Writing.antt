@@ -11,7 +11,8 @@ use Rattle.reference.specs.References.{Layer}
 use Rattle.reference_digests.specs.declared.algorithm.Algorithm.the-variants.{Sha224}
 use Rattle.manifest_objects.specs.Objects.{AllStand}
 use Rattle.manifest_objects.proofs.Standing.{stand-length, stand-same}
-use Rattle.store_write.proofs.Writing.{Writes, nothing-written, lent-length, part-written}
+use Rattle.laws.specs.Writes.{Writes}
+use Rattle.laws.proofs.Writing.{nothing-written, lent-length, part-written}
 use Rattle.lookup_layers.specs.Layers.{LayerDigest, entryOf, listOf}
 use Rattle.lookup_layers.proofs.Listing.{list-both}
 use Rattle.lookup_outcome.specs.Resolving.{DigestStands, AllMet, EntryFits, Writable}

@@ -14,7 +14,7 @@ use Rattle.lookup_paths.specs.Follow.{keysIn, objectCount}
 use Rattle.lookup_links.specs.Links.{Links}
 use Rattle.lookup_outcome.specs.Outcome.{Fate, found, lost, Outcome as LayersOutcome, resolved, fails}
 use Rattle.lookup_outcome.specs.declared.Fate.{Fate as FoundFate}
-use Rattle.lookup_outcome.specs.declared.Fate.the-variants.{Found, Fails as FateFails}
+use Rattle.lookup_outcome.specs.declared.Fate.the-variants.{Present, Fails as FateFails}
 use Rattle.lookup_outcome.specs.declared.Outcome.{Outcome}
 use Rattle.lookup_outcome.specs.declared.Outcome.the-variants.{All, Fails}
 
@@ -74,7 +74,7 @@ pub record FoundAt (refs : List Layer) (f : Fate) (o n : ℕ) : Type 0 where
 
 -- a layer that comes out so is answered so
 abbrev pub Answers : List Layer → Fate → FoundFate → Type 0
-Answers refs f (Found o n) = FoundAt refs f o n
+Answers refs f (Present o n) = FoundAt refs f o n
 Answers refs f (FateFails e) = f ≡ lost e
 
 -- all layers were found: their digests are the references with the numbers at the start of `numbers`, and the list of them has n bytes

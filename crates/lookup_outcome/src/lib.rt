@@ -41,7 +41,7 @@ impl Failure {
 
 // How one layer comes out: the number of its digest among the references and the bytes of its entry, or why it fails.
 enum Fate {
-    Found { number: usize, size: usize },
+    Present { number: usize, size: usize },
     Fails(Failure),
 }
 
@@ -91,7 +91,7 @@ fn fate_of(b: &[u8], keys: &[usize], next: &[u16], objects: usize, e: usize, pre
             if size == 0 {
                 return Fate::Fails(Failure::Absent);
             }
-            Fate::Found { number, size }
+            Fate::Present { number, size }
         }
     }
 }
@@ -122,7 +122,7 @@ pub fn check_all(
                 failing = e;
                 why = f;
             }
-            Fate::Found { number, size } => {
+            Fate::Present { number, size } => {
                 numbers[e - objects] = number as u16;
                 length += size;
             }

@@ -9,14 +9,14 @@ use mathlib.Core.List.{List·Memᴰ·append-cases, Memᴰ·append-left, Memᴰ·
 use borrow.Author.Tests.{eq-eqb}
 use Rattle.laws.specs.Any.{anyOf, anyPair}
 use Rattle.laws.specs.Order.{same}
-use Rattle.laws.proofs.Any.{or-none}
+use Rattle.laws.proofs.Any.{or-none, none-passes, passed-by-none}
 use Rattle.laws.proofs.Order.{same-refl}
 use Rattle.reference_digests.specs.Algorithms.{byteOf}
 use Rattle.reference_digests.specs.declared.algorithm.Algorithm.{Algorithm}
 use Rattle.reference.specs.References.{Layer, layer-alias, layerText, Id, image-id, no-id}
 use Rattle.manifest.specs.Manifest.{Alias, contents}
 use Rattle.manifest.specs.Names.{differ, conflict}
-use Rattle.manifest_objects.proofs.Agreement.{none-passes, passed-by-none, one-object, agreed}
+use Rattle.manifest_objects.proofs.Agreement.{one-object, agreed}
 use Rattle.store_record.specs.Image.{Image}
 use Rattle.store_keys.specs.Keys.{Key, LayerKey, imageKeys, layerKeysUnder, layerKeysOf, layerKeys}
 use Rattle.store_keys.specs.Clash.{sameKey, disagree, clash, anyClash}

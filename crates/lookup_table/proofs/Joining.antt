@@ -16,7 +16,7 @@ use Rattle.lookup_paths.specs.Follow.{keysIn, objectsOf}
 use Rattle.lookup_links.specs.Links.{Links}
 use Rattle.lookup_index.specs.Table.{Table}
 use Rattle.lookup_table.specs.Linking.{ObjectsFrom, LinkableImage, LinkableStore}
-use Rattle.lookup_index.proofs.Standing.{stand-length}
+use Rattle.manifest_objects.proofs.Standing.{stand-length}
 use Rattle.lookup_table.proofs.Walking.{objects-next, keys-after, image-objects, all-images}
 
 -- the keys of the first j images are linked, and the next image's objects have the numbers from `first` on

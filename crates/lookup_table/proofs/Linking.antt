@@ -28,7 +28,7 @@ use Rattle.lookup_paths.proofs.Objects.{none-some}
 use Rattle.lookup_links.specs.Links.{AliasLink, undefined, linked, Link, Links}
 use Rattle.lookup_index.specs.Table.{isAlias, NamedAt, Table}
 use Rattle.lookup_table.specs.Linking.{layerKey, linkTo, Relinked}
-use Rattle.lookup_index.proofs.Standing.{stand-length}
+use Rattle.manifest_objects.proofs.Standing.{stand-length}
 
 -- At first nothing is linked.
 pub relinked-none : (a : Algorithm) (s : List ℕ) (refs : List Layer) (o : ℕ) (before : List ℕ) → Relinked a s refs o [] before before

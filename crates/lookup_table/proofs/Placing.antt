@@ -1,14 +1,15 @@
 -- The positions of the references, image after image. Assumes nothing.
 use Prim.Native.Nat.{ℕ, _+_, _-_, _*_, _<_, _≤_}
-use mathlib.Core.Path.{_≡_, refl, sym, ap, subst, _∙_}
-use mathlib.Core.List.{List, [], _++_, append-nil}
+use mathlib.Core.Path.{_≡_, refl, sym, subst, _∙_}
+use mathlib.Core.List.{List, _++_}
 use native.Mathlib.Omega.{arith}
 use lib.Dec.{eqb}
-use lib.ListN.{length, take, drop, getD, set, length-set, length-append, length-drop, drop-of-length-le}
-use lib.Seq.{length-take-le, take-append-add, getD-set-same, getD-set-other}
+use lib.ListN.{length, take, getD, set, length-set}
+use lib.Seq.{getD-set-same, getD-set-other}
 use borrow.Author.Tests.{eqb-true, eqb-false}
 use borrow.Rule.Slice.PartMut.{putMid}
 use Rattle.laws.proofs.Order.{by-test}
+use Rattle.laws.proofs.Writing.{back-start, back-size}
 use Rattle.reference.specs.References.{Layer}
 use Rattle.manifest.specs.Names.{objects}
 use Rattle.manifest_objects.specs.Objects.{AllStand, none-stands}
@@ -17,30 +18,15 @@ use Rattle.store_record.specs.Reading.{between, imagesIn, noRecord}
 use Rattle.store_record.specs.declared.Survey.{Survey}
 use Rattle.lookup_paths.specs.Follow.{objectsOf}
 use Rattle.lookup_table.specs.Placed.{CountedTo}
-use Rattle.lookup_index.proofs.Standing.{stand-length}
+use Rattle.manifest_objects.proofs.Standing.{stand-length}
 use Rattle.lookup_table.proofs.Walking.{objects-next}
 
 -- the part of a list past place n is lent, and another comes back
 module _ (n : ℕ) (l part : List ℕ) (h : n ≤ length l) where
-  lent-back : putMid n (length l - n) l part ≡ take n l ++ part
-  lent-back = ap (λ (r : List ℕ). take n l ++ (part ++ r)) nothing-after ∙ ap (λ (r : List ℕ). take n l ++ r) (append-nil part)
-    where
-      nothing-after : drop (length l - n) (drop n l) ≡ []
-      nothing-after = drop-of-length-le (drop n l) {i = length l - n} (omega (arith, length-drop n l))
-
-  written : (m : ℕ) → take (n + m) (putMid n (length l - n) l part) ≡ take n l ++ take m part
-  written m =
-      let e : length (take n l) + m ≡ n + m = omega (arith, length-take-le n l h) in
-      ap (take (n + m)) lent-back ∙ ap (λ (k : ℕ). take k (take n l ++ part)) (sym e) ∙ take-append-add (take n l) part m
-
-  -- The list is as long as before.
-  pub back-size : length part ≡ length l - n → length (putMid n (length l - n) l part) ≡ length l
-  back-size e = ap length lent-back ∙ length-append (take n l) part ∙ omega (arith, length-take-le n l h)
-
   -- References that stand at the places lent stand after those before them.
   pub stand-behind : {b : List ℕ} {xs ys : List Layer} (m : ℕ) → AllStand b (take n l) xs → AllStand b (take m part) ys
       → AllStand b (take (n + m) (putMid n (length l - n) l part)) (xs ++ ys)
-  stand-behind {b} {xs} {ys} m p q = subst (λ (ks : List ℕ). AllStand b ks (xs ++ ys)) (sym (written m)) (stand-append p q)
+  stand-behind {b} {xs} {ys} m p q = subst (λ (ks : List ℕ). AllStand b ks (xs ++ ys)) (sym (back-start n l part h m)) (stand-append p q)
 
 -- the objects of the first i images are placed, which are n
 pub record PlacedTo (b : List ℕ) (v : Survey) (i n : ℕ) (before keys counts : List ℕ) : Type 0 where

@@ -9,4 +9,3 @@ pub mod Limits
 pub mod Opened
 pub mod Opening
 pub mod Questions
-pub mod Taken

@@ -30,7 +30,7 @@ pub fn sort_self(s: &[u8], p: Places, names: &mut [u16], spare: &mut [u16]) -> u
     ensures { λ r. ⌜ (r ≤ length (now (names .exit))) × SelfSorted (now (s .entry)) (take r (now (names .exit))) × (r ≡ length (selfNames (now (s .entry)))) ⌝ }
 {
     let own = p.own;
-    manifest_names::sorted::sort_names(s, own, names, spare)
+    manifest_repeat::sort_names(s, own, names, spare)
 }
 
 // Puts the heads of sorted names at the start of `heads`.

@@ -12,7 +12,7 @@ use Rattle.text_names.specs.Head.{headOf}
 use Rattle.text_strings.specs.InString.{Inside, contentFrom}
 use Rattle.text_keys.proofs.Keys.{keys-get}
 use Rattle.manifest_heads.specs.Placed.{SomeNames}
-use Rattle.manifest_heads.proofs.Searching.{sorted-keys}
+use Rattle.manifest_repeat.proofs.Sorting.{sorted-keys}
 
 -- The position after that of each sorted name stands in a string.
 pub name-inside : {s ks : List ℕ} → SomeNames s ks → (i : ℕ) → i < length ks → Inside s (getD ks i 0 + 1)

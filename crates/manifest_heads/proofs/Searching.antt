@@ -1,63 +1,29 @@
 -- Looking a name up among sorted ones by halves. Assumes nothing.
-use Prim.Native.Nat.{ℕ, zero, suc, _+_, _<_, _≤_}
+use Prim.Native.Nat.{ℕ, _+_, _<_, _≤_}
 use mathlib.Core.Path.{_≡_, refl, sym, ap, subst, _∙_}
-use mathlib.Core.List.{List, _∷_, _++_}
+use mathlib.Core.List.{List}
 use mathlib.Core.Bool.{true, false}
 use native.Mathlib.Omega.{arith}
 use borrow.Author.Tests.{ltb-true, ltb-false}
 use lib.Dec.{ltb}
-use lib.ListN.{length, take, drop, getD, length-append}
-use lib.Seq.{length-take-le, take-at}
+use lib.ListN.{length, getD}
 use Rattle.laws.specs.Order.{leq, same}
-use Rattle.laws.specs.Sort.{sort}
-use Rattle.laws.proofs.Order.{by-test, false-true, leq-refl, leq-antisym, same-refl, same-eq}
-use Rattle.laws.proofs.Rising.{Rising, rising-none, rising-one, rising-more, sort-rising}
+use Rattle.laws.proofs.Order.{by-test, false-true, leq-antisym, same-refl, same-eq}
+use Rattle.laws.proofs.Rising.{Rising, sort-rising, rising-at}
 use Rattle.text_strings.specs.InString.{InString, Inside, contentFrom, keyLe}
 use Rattle.text_order.specs.Compare.{order}
 use Rattle.text_order.specs.declared.Order.{Order}
 use Rattle.text_order.specs.declared.Order.the-variants.{Less, Equal, Greater}
 use Rattle.text_strings.proofs.Contents.{content-from, inside-content}
 use Rattle.text_order.proofs.Orders.{Ordered, is-less, is-equal, is-greater, ordered}
-use Rattle.text_keys.specs.Keys.{KeysAt}
-use Rattle.text_keys.proofs.Keys.{keys-get, keys-sort, keys-order}
+use Rattle.text_keys.proofs.Keys.{keys-get, keys-order}
 use Rattle.reference.specs.Matches.{isOneOf}
-use Rattle.manifest_repeat.specs.Names.{NamesAt, no-names, name-at}
-use Rattle.manifest_repeat.proofs.Repeating.{names-keys}
+use Rattle.manifest_repeat.specs.Names.{NamesAt, no-names, name-at, SortedNames}
+use Rattle.manifest_repeat.proofs.Sorting.{sorted-keys}
 use Rattle.laws.specs.Any.{anyOf}
-use Rattle.manifest_heads.specs.Placed.{Placed, no-place, placed, SortedNames, SomeNames}
+use Rattle.manifest_heads.specs.Placed.{Placed, no-place, placed, SomeNames}
 use Rattle.manifest_heads.specs.Searches.{Stands}
 use Rattle.manifest_heads.proofs.Any.{one-of-any, any-at, none-at, Reordered, sort-placed}
-
--- names in rising order, by their indices
-module _ (s : List ℕ) where
-  le-refl : (k : ℕ) → keyLe s k k ≡ true
-  unfolding keyLe
-  le-refl k = leq-refl (contentFrom s (k + 1))
-
-  first-least : {k : ℕ} {ks : List ℕ} → Rising (keyLe s) (k ∷ ks) → (j : ℕ) → j < length (k ∷ ks) → keyLe s k (getD (k ∷ ks) j 0) ≡ true
-  first-least {k} r zero h = le-refl k
-  first-least rising-one (suc j) h = absurd (omega arith)
-  first-least {k} (rising-more {y = l} {ys = ls} e r) (suc j) h = keys-order s .trans k l (getD (l ∷ ls) j 0) e (first-least r j (omega arith))
-
-  rising-at : {ks : List ℕ} → Rising (keyLe s) ks → (i j : ℕ) → i ≤ j → j < length ks → keyLe s (getD ks i 0) (getD ks j 0) ≡ true
-  rising-at rising-none i j l h = absurd (omega arith)
-  rising-at (rising-one {x = k}) zero j l h = first-least rising-one j h
-  rising-at (rising-one {x = k}) (suc i) j l h = absurd (omega arith)
-  rising-at (rising-more e r) zero j l h = first-least (rising-more e r) j h
-  rising-at (rising-more e r) (suc i) zero l h = absurd (omega arith)
-  rising-at (rising-more e r) (suc i) (suc j) l h = rising-at r i j (omega arith) (omega arith)
-
--- the first n of a list were sorted
-pub record SortedFront (s before : List ℕ) (n : ℕ) (after : List ℕ) : Type 0 where
-  pub within : n ≤ length after
-  pub sorted : take n after ≡ sort (keyLe s) (take n before)
-
--- The first `n` of a list sorted, followed by the rest of it, are the list with its first `n` sorted.
-pub sorted-front : (s before front : List ℕ) (n : ℕ) → n ≤ length before → length front ≡ length (take n before)
-    → front ≡ sort (keyLe s) (take n before) → SortedFront s before n (front ++ drop n before)
-sorted-front s before front n h l e =
-    let size : length front ≡ n = l ∙ length-take-le n before h in
-    record { within = omega (arith, length-append front (drop n before), size); sorted = take-at front (drop n before) n size ∙ e }
 
 -- Where strings with the contents `cs` stand at the positions `ks`, the contents are placed at these positions.
 pub names-placed : {s ks : List ℕ} {cs : List (List ℕ)} → NamesAt s ks cs → Placed (λ (k : ℕ) (c : List ℕ). InString s (k + 1) c) ks cs
@@ -66,16 +32,12 @@ names-placed (name-at p n) = placed p (names-placed n)
 
 -- what sorted names are: strings, in rising order, with the contents cs in some order
 module _ {s : List ℕ} {cs : List (List ℕ)} {ks : List ℕ} (n : SortedNames s cs ks) where
-  -- Each position of sorted names is the place of a string.
-  pub sorted-keys : KeysAt s ks
-  sorted-keys = rw (n .sorted) (keys-sort (names-keys (n .here)))
-
   sorted-rising : Rising (keyLe s) ks
   sorted-rising = rw (n .sorted) (sort-rising (keyLe s) (keys-order s) (n .places))
 
   sorted-order : (i j : ℕ) → i ≤ j → j < length ks → leq (contentFrom s (getD ks i 0 + 1)) (contentFrom s (getD ks j 0 + 1)) ≡ true
   unfolding keyLe
-  sorted-order i j l h = rising-at s sorted-rising i j l h
+  sorted-order i j l h = rising-at (keyLe s) (keys-order s) 0 sorted-rising i j l h
 
   sorted-names : Reordered (λ (k : ℕ) (c : List ℕ). InString s (k + 1) c) ks cs
   sorted-names = rw (n .sorted) (sort-placed (keyLe s) (names-placed (n .here)))

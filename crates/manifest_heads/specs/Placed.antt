@@ -6,19 +6,13 @@ use mathlib.Core.Bool.{false}
 use lib.ListN.{length, getD}
 use Rattle.laws.specs.Sort.{sort}
 use Rattle.text_strings.specs.InString.{InString, keyLe}
-use Rattle.manifest_repeat.specs.Names.{NamesAt}
+use Rattle.manifest_repeat.specs.Names.{SortedNames}
 use Rattle.manifest_heads.specs.Contents.{Named, conflict}
 
 -- at each position stands what the other list says
 pub data Placed {A : Type 0} (Here : ℕ → A → Type 0) : List ℕ → List A → Type 0 where
   no-place : Placed Here [] []
   placed : {k : ℕ} {ks : List ℕ} {x : A} {xs : List A} → Here k x → Placed Here ks xs → Placed Here (k ∷ ks) (x ∷ xs)
-
--- the positions ks are those of the names cs, sorted by content
-pub record SortedNames (s : List ℕ) (cs : List (List ℕ)) (ks : List ℕ) : Type 0 where
-  pub places : List ℕ
-  pub here : NamesAt s places cs
-  pub sorted : ks ≡ sort (keyLe s) places
 
 pub record SomeNames (s ks : List ℕ) : Type 0 where
   pub names : List (List ℕ)

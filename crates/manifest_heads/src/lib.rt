@@ -9,7 +9,8 @@ ghost use lib.ListN.{length};
 ghost use Rattle.text_strings.specs.InString.{Inside, contentFrom};
 ghost use Rattle.reference.specs.Matches.{isOneOf};
 ghost use Rattle.manifest_heads.specs.Heads.{HeadsOf};
-ghost use Rattle.manifest_heads.specs.Placed.{SortedNames, SomeNames};
+ghost use Rattle.manifest_repeat.specs.Names.{SortedNames};
+ghost use Rattle.manifest_heads.specs.Placed.{SomeNames};
 ghost use Rattle.manifest_heads.specs.Searches.{Looks};
 
 // The position of a name, or none.

@@ -1,16 +1,14 @@
 -- The images' own aliases in an index, by their numbers: what the crates above need of it. Assumes nothing.
 use Prim.Native.Nat.{ℕ, zero, suc, _+_, _-_, _≤_, _<_}
 use mathlib.Core.Path.{_≡_, refl, sym, ap, subst, _∙_}
-use mathlib.Core.List.{List, [], _∷_, List·Permᴰ as Permutation, List·Permᴰ·cons, List·Permᴰ·swap, List·Permᴰ·trans, Permᴰ·refl}
+use mathlib.Core.List.{List, [], List·Permᴰ as Permutation}
 use mathlib.Core.Bool.{Bool, true, _&&_}
 use native.Mathlib.Omega.{arith}
 use lib.ListN.{length, take, drop, getD, length-drop}
 use lib.Seq.{length-take-le, getD-take, getD-drop}
 use Rattle.laws.specs.Any.{anyOf}
 use Rattle.laws.specs.Order.{leq}
-use Rattle.laws.specs.Sort.{insert, sort}
-use Rattle.laws.proofs.Order.{by-test}
-use Rattle.laws.proofs.Sort.{insert-before, insert-after}
+use Rattle.laws.proofs.Inserting.{sort-permuted}
 use Rattle.text_strings.specs.InString.{InString}
 use Rattle.text_strings.proofs.Contents.{content-from}
 use Rattle.text_index.specs.Index.{entryText, entryLe}
@@ -24,23 +22,6 @@ use Rattle.manifest_index.specs.declared.Range.{Range}
 -- No names have an empty index.
 pub no-names : (b at : List ℕ) → NameIndex b at [] []
 no-names b at = record { index = no-index b at }
-
--- sorting changes nothing but the order
-insert-permuted : (le : ℕ → ℕ → Bool) (x : ℕ) (ys : List ℕ) → Permutation (x ∷ ys) (insert le x ys)
-unfolding insert
-insert-permuted le x [] = Permᴰ·refl (x ∷ [])
-insert-permuted le x (y ∷ ys) = go (insert-permuted le x ys)
-  where
-    go : Permutation (x ∷ ys) (insert le x ys) → Permutation (x ∷ y ∷ ys) (insert le x (y ∷ ys))
-    go ih =
-        by-test (le x y)
-        (λ e. rw (insert-before le x y ys e) (Permᴰ·refl (x ∷ y ∷ ys)))
-        (λ e. rw (insert-after le x y ys e) (List·Permᴰ·trans (List·Permᴰ·swap refl refl) (List·Permᴰ·cons refl ih)))
-
-sort-permuted : (le : ℕ → ℕ → Bool) (xs : List ℕ) → Permutation xs (sort le xs)
-unfolding sort
-sort-permuted le [] = Permᴰ·refl []
-sort-permuted le (x ∷ xs) = List·Permᴰ·trans (List·Permᴰ·cons refl (sort-permuted le xs)) (insert-permuted le x (sort le xs))
 
 module _ {b at es order : List ℕ} (x : NameIndex b at es order) where
   -- An index of given numbers is an index.

@@ -14,11 +14,11 @@ use Rattle.text_strings.proofs.Cursors.{inside-within}
 use Rattle.reference.specs.Matches.{isOneOf}
 use Rattle.manifest_fields.specs.Accessors.{texts, namesOf}
 use Rattle.manifest_values.specs.Values.{entries}
-use Rattle.manifest_repeat.specs.Names.{NamesAt, no-names, name-at}
+use Rattle.manifest_repeat.specs.Names.{NamesAt, no-names, name-at, SortedNames}
 use Rattle.manifest_repeat.specs.Repeated.{repeated}
 use Rattle.laws.specs.Any.{anyOf}
 use Rattle.manifest_heads.specs.Contents.{Named, namedUnder, namedIn, isElsewhere, standsElsewhere, conflict}
-use Rattle.manifest_heads.specs.Placed.{Placed, no-place, placed, KeyedAt, SortedNames, SomeNames, SortedContents, SomeContents}
+use Rattle.manifest_heads.specs.Placed.{Placed, no-place, placed, KeyedAt, SomeNames, SortedContents, SomeContents}
 use Rattle.manifest_heads.specs.Searches.{Stands}
 use Rattle.laws.proofs.Any.{any-both, or-none}
 use Rattle.manifest_heads.proofs.Any.{any-at, both-none, Reordered, sort-placed, placed-get}

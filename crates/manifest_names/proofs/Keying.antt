@@ -22,7 +22,7 @@ use Rattle.text_view.specs.declared.Members.{Members}
 use Rattle.text_keys.specs.Keys.{KeysAt, no-keys, key-at}
 use Rattle.manifest_fields.specs.Accessors.{texts}
 use Rattle.manifest_entries.specs.Entries.{allPass, count}
-use Rattle.manifest_fields.specs.Rules.{countFields, everyMember, namesPass}
+use Rattle.manifest_fields.specs.FieldTests.{countFields, everyMember, namesPass}
 use Rattle.manifest_entries.specs.declared.entry.Entry.the-variants.{Text}
 use Rattle.manifest_entries.proofs.Counting.{one-array}
 use Rattle.manifest_fields.proofs.Finding.{one-object}
@@ -32,8 +32,8 @@ use Rattle.manifest_names.specs.Keyed.{Keyable, AddsKeyed, KeyableGroup}
 use Rattle.manifest_heads.specs.Placed.{Placed, no-place, placed, KeyedAt, SortedContents}
 use Rattle.laws.proofs.Any.{or-none}
 use Rattle.manifest_names.proofs.Elsewhere.{under-key, none-elsewhere}
-use Rattle.manifest_names.proofs.Nexts.{NextString, next-string, NextAliases, next-aliases}
-use Rattle.manifest_heads.proofs.Searching.{SortedFront}
+use Rattle.manifest_names.proofs.Nexts.{NextString, next-string, NextAliases, next-aliases, next-collectable}
+use Rattle.manifest_repeat.proofs.Sorting.{SortedFront}
 
 placed-append : {A : Type 0} {Here : ℕ → A → Type 0} {ks ls : List ℕ} {xs ys : List A} → Placed Here ks xs → Placed Here ls ys
     → Placed Here (ks ++ ls) (xs ++ ys)
@@ -277,13 +277,7 @@ module _ (s : List ℕ) (at depth : ℕ) (before keys₀ : List ℕ) where
       pub keyable : Keyable s q (left .depth) k names n keys
       keyable =
           record {
-            list = record {
-              values = aliases .list .values;
-              here = aliases .list .here;
-              strings = aliases .list .strings;
-              space = omega (arith, aliases .few, aliases .counted, p .space, p .size, p .enough);
-              short = p .short;
-            };
+            list = next-collectable aliases names n (p .space) (omega (arith, p .size, p .enough)) (p .short);
             key = aliases .key;
             long = omega (arith, p .long, p .key-size);
           }

@@ -1,6 +1,8 @@
 -- The next string of an array of strings, and the next member of a group of aliases, as a cursor gives them. Assumes nothing.
-use Prim.Native.Nat.{ℕ, _+_, _≤_}
+use Prim.Native.Nat.{ℕ, _+_, _*_, _≤_}
 use mathlib.Core.Path.{_≡_, sym, ap, subst, _∙_}
+use native.Mathlib.Omega.{arith}
+use lib.ListN.{length}
 use mathlib.Core.List.{List, _∷_, _++_}
 use mathlib.Core.Bool.{Bool, true, false}
 use Rattle.text_content.specs.Value.{Values, Fields}
@@ -14,12 +16,14 @@ use Rattle.text_view.proofs.Strings.{string-value}
 use Rattle.manifest_fields.specs.Accessors.{texts}
 use Rattle.manifest_entries.specs.Entries.{allPass, count}
 use Rattle.manifest_values.specs.Values.{isArrayOf, entries}
-use Rattle.manifest_fields.specs.Rules.{countFields, everyMember, namesPass}
+use Rattle.manifest_fields.specs.FieldTests.{countFields, everyMember, namesPass}
 use Rattle.manifest_entries.specs.declared.entry.Entry.the-variants.{Text}
 use Rattle.manifest_fields.proofs.Ruling.{array-of, its-entries}
-use Rattle.manifest_repeat.proofs.Collecting.{is-text, texts-more, count-more as element-counted, pass-both as element-passes}
+use Rattle.manifest_entries.proofs.Entries.{is-text}
+use Rattle.manifest_repeat.proofs.Collecting.{texts-more, count-more as element-counted, pass-both as element-passes}
 use Rattle.manifest_repeat.proofs.Grouping.{few-entries, count-more as member-counted, pass-both as member-passes}
 use Rattle.manifest_heads.specs.Contents.{namedUnder, namedIn}
+use Rattle.manifest_repeat.specs.Names.{Collectable}
 use Rattle.manifest_names.specs.Groups.{AliasList}
 
 -- the first of the elements, a string, stands at position q, and the elements `more` come after it
@@ -69,4 +73,16 @@ next-aliases t left others a k q rest x =
       strings = both .1;
       few = few-entries (passed .values) (ap (isArrayOf Text) (sym (passed .is)) ∙ both .0);
       counted = ap countFields (x .split) ∙ member-counted (x .key) (x .first) (x .others);
+    }
+
+-- The strings of the next member can be collected behind the first n names, where there is space for 64 of each member that is left.
+pub next-collectable : {t : List ℕ} {others more : Fields} {k q depth : ℕ} → NextAliases t others more k q depth → (names : List ℕ) (n : ℕ)
+    → n + 64 * countFields others ≤ 4096 → 4096 ≤ length names → length t ≤ 65536 → Collectable t q depth names n
+next-collectable a names n few space short =
+    record {
+      values = a .list .values;
+      here = a .list .here;
+      strings = a .list .strings;
+      space = omega (arith, a .few, a .counted);
+      short = short;
     }

@@ -2,7 +2,7 @@
 -- one walk answers for everything that it stands for. Assumes nothing.
 use Prim.Native.Nat.{ℕ, _+_}
 use mathlib.Core.Path.{_≡_, sym, ap, _∙_}
-use mathlib.Core.List.{List}
+use mathlib.Core.List.{List, [], _∷_, _++_}
 use mathlib.Core.Bool.{Bool, true, false}
 use Rattle.text_content.specs.Value.{Values, no-values, Fields, no-fields, array, object}
 use Rattle.text_strings.specs.InString.{Inside, contentFrom}
@@ -12,7 +12,7 @@ use Rattle.text_view.specs.declared.Elements.{Elements}
 use Rattle.text_view.specs.declared.Members.{Members}
 use Rattle.manifest_fields.specs.Accessors.{texts}
 use Rattle.manifest_entries.specs.Entries.{allPass}
-use Rattle.manifest_fields.specs.Rules.{everyMember, namesPass}
+use Rattle.manifest_fields.specs.FieldTests.{everyMember, namesPass}
 use Rattle.manifest_entries.specs.declared.entry.Entry.the-variants.{Text}
 use Rattle.manifest_entries.proofs.Counting.{one-array}
 use Rattle.manifest_fields.proofs.Finding.{one-object}
@@ -20,8 +20,32 @@ use Rattle.laws.specs.Any.{anyOf}
 use Rattle.manifest_heads.specs.Contents.{Named, namedUnder, namedIn}
 use Rattle.manifest_names.specs.Groups.{AliasGroup, AliasList}
 use Rattle.laws.proofs.Any.{any-first, any-second}
-use Rattle.manifest_heads.proofs.Any.{any-under}
 use Rattle.manifest_names.proofs.Nexts.{NextString, next-string, NextAliases, next-aliases}
+
+-- what passes a test: one of the items of a whole, or of what is left of it
+module _ {I L A : Type 0} (g : I → A → Bool) (items : L → List A) (Whole : L → Type 0) where
+  abbrev Kept : L → Type 0
+  Kept others = (i : I) (xs : L) → Whole xs → anyOf (g i) (items xs) ≡ anyOf (g i) (items others)
+
+  all-kept : (o : L) → ((xs : L) → Whole xs → xs ≡ o) → Kept o
+  all-kept o e i xs w = ap (λ (ys : L). anyOf (g i) (items ys)) (e xs w)
+
+  none-passes : (o : L) → Kept o → items o ≡ [] → (i : I) (xs : L) → Whole xs → false ≡ anyOf (g i) (items xs)
+  unfolding anyOf
+  none-passes o k e i xs w = sym (k i xs w ∙ ap (anyOf (g i)) e)
+
+  -- what is left begins with the items `first`
+  module _ (o rest : L) (first : List A) (k : Kept o) (split : items o ≡ first ++ items rest) (r : Bool) (f : (i : I) → anyOf (g i) first ≡ r) where
+    first-passes : r ≡ true → (i : I) (xs : L) → Whole xs → true ≡ anyOf (g i) (items xs)
+    first-passes e i xs w = sym (k i xs w ∙ ap (anyOf (g i)) split ∙ any-first (g i) first (items rest) (f i ∙ e))
+
+    rest-kept : r ≡ false → Kept rest
+    rest-kept e i xs w = k i xs w ∙ ap (anyOf (g i)) split ∙ any-second (g i) first (items rest) (f i ∙ e)
+
+any-one : {A : Type 0} (p : A → Bool) (x : A) (r : Bool) → r ≡ p x → anyOf p (x ∷ []) ≡ r
+unfolding anyOf
+any-one p x true e = rw (← e)
+any-one p x false e = rw (← e)
 
 -- The elements `others` stand before the cursor, and one of their strings passes where one of the array's does.
 pub record InTexts {I : Type 0} (g : I → List ℕ → Bool) (t : List ℕ) (at depth : ℕ) (left : Elements) : Type 0 where
@@ -29,19 +53,15 @@ pub record InTexts {I : Type 0} (g : I → List ℕ → Bool) (t : List ℕ) (at
   pub here : ElementsLeft t left others
   pub first : Bool
   pub strings : allPass Text first others ≡ true
-  pub kept : (i : I) (vs : Values) → ValueAt t at depth (array vs) → anyOf (g i) (texts vs) ≡ anyOf (g i) (texts others)
+  pub kept : Kept g texts (λ (vs : Values). ValueAt t at depth (array vs)) others
 
 module _ {I : Type 0} (g : I → List ℕ → Bool) (t : List ℕ) (at depth : ℕ) where
   -- With all the array's elements left, one of their strings passes exactly where one of the array's does.
-  pub texts-started : (o : AliasList t at depth) (left : Elements) → ElementsLeft t left (o .values) → InTexts g t at depth left
+  pub texts-started : AliasList t at depth → (left : Elements) → ((vs : Values) → ValueAt t at depth (array vs) → ElementsLeft t left vs)
+      → InTexts g t at depth left
   texts-started o left l =
-      record {
-        others = o .values;
-        here = l;
-        first = true;
-        strings = o .strings;
-        kept = λ i vs v. ap (λ (ws : Values). anyOf (g i) (texts ws)) (one-array t at depth vs (o .values) v (o .here));
-      }
+      let k = all-kept g texts _ (o .values) (λ vs v. one-array t at depth vs (o .values) v (o .here)) in
+      record { others = o .values; here = l (o .values) (o .here); first = true; strings = o .strings; kept = k }
 
   module _ (left : Elements) (p : InTexts g t at depth left) where
     -- The cursor stands before a list of elements, which may be empty.
@@ -50,8 +70,8 @@ module _ {I : Type 0} (g : I → List ℕ → Bool) (t : List ℕ) (at depth : �
 
     -- no element is left
     pub not-in-texts : p .others ≡ no-values → (i : I) (vs : Values) → ValueAt t at depth (array vs) → false ≡ anyOf (g i) (texts vs)
-    unfolding anyOf texts
-    not-in-texts e i vs v = sym (p .kept i vs v ∙ ap (λ (ws : Values). anyOf (g i) (texts ws)) e)
+    unfolding texts
+    not-in-texts e = none-passes g texts _ (p .others) (p .kept) (ap texts e)
 
     -- the next element
     module _ (q : ℕ) (rest : Elements) (x : NextElement t left (p .others) q rest) where
@@ -63,40 +83,33 @@ module _ {I : Type 0} (g : I → List ℕ → Bool) (t : List ℕ) (at depth : �
       text-inside = text .inside
 
       module _ (r : Bool) (f : (i : I) → r ≡ g i (contentFrom t (q + 1))) where
+        text-tried : (i : I) → anyOf (g i) (contentFrom t (q + 1) ∷ []) ≡ r
+        text-tried i = any-one (g i) (contentFrom t (q + 1)) r (f i)
+
         -- If the next string passes the test, one of the array's strings passes it.
         pub in-texts : r ≡ true → (i : I) (vs : Values) → ValueAt t at depth (array vs) → true ≡ anyOf (g i) (texts vs)
-        unfolding anyOf
-        in-texts e i vs v = let h : g i (contentFrom t (q + 1)) ≡ true = sym (f i) ∙ e in sym (p .kept i vs v ∙ ap (anyOf (g i)) (text .split) ∙ rw h)
+        in-texts = first-passes g texts _ (p .others) (x .others) (contentFrom t (q + 1) ∷ []) (p .kept) (text .split) r text-tried
 
         -- If it does not, one of the strings after it passes exactly where one of the array's does.
         pub texts-go-on : r ≡ false → InTexts g t at depth rest
-        unfolding anyOf
         texts-go-on e =
-            record {
-              others = x .others;
-              here = x .left;
-              first = false;
-              strings = text .strings;
-              kept = λ i vs v. let h : g i (contentFrom t (q + 1)) ≡ false = sym (f i) ∙ e in p .kept i vs v ∙ ap (anyOf (g i)) (text .split) ∙ rw h;
-            }
+            let k = rest-kept g texts _ (p .others) (x .others) (contentFrom t (q + 1) ∷ []) (p .kept) (text .split) r text-tried e in
+            record { others = x .others; here = x .left; first = false; strings = text .strings; kept = k }
 
 -- The members `others` stand before the cursor, and one of their aliases passes where one of the group's does.
 pub record InNamed {I : Type 0} (g : I → Named → Bool) (t : List ℕ) (at depth : ℕ) (left : Members) : Type 0 where
   pub others : Fields
   pub here : MembersLeft t left others
   pub strings : everyMember namesPass others ≡ true
-  pub kept : (i : I) (fs : Fields) → ValueAt t at depth (object fs) → anyOf (g i) (namedIn fs) ≡ anyOf (g i) (namedIn others)
+  pub kept : Kept g namedIn (λ (fs : Fields). ValueAt t at depth (object fs)) others
 
 module _ {I : Type 0} (g : I → Named → Bool) (t : List ℕ) (at depth : ℕ) where
   -- With all the group's members left, one of their aliases passes exactly where one of the group's does.
-  pub named-started : (o : AliasGroup t at depth) (left : Members) → MembersLeft t left (o .fields) → InNamed g t at depth left
+  pub named-started : AliasGroup t at depth → (left : Members) → ((fs : Fields) → ValueAt t at depth (object fs) → MembersLeft t left fs)
+      → InNamed g t at depth left
   named-started o left l =
-      record {
-        others = o .fields;
-        here = l;
-        strings = o .strings;
-        kept = λ i fs v. ap (λ (gs : Fields). anyOf (g i) (namedIn gs)) (one-object t at depth fs (o .fields) v (o .here));
-      }
+      let k = all-kept g namedIn _ (o .fields) (λ fs v. one-object t at depth fs (o .fields) v (o .here)) in
+      record { others = o .fields; here = l (o .fields) (o .here); strings = o .strings; kept = k }
 
   module _ (left : Members) (p : InNamed g t at depth left) where
     -- The cursor stands before a list of members, which may be empty.
@@ -105,8 +118,8 @@ module _ {I : Type 0} (g : I → Named → Bool) (t : List ℕ) (at depth : ℕ)
 
     -- no member is left
     pub not-in-named : p .others ≡ no-fields → (i : I) (fs : Fields) → ValueAt t at depth (object fs) → false ≡ anyOf (g i) (namedIn fs)
-    unfolding anyOf namedIn
-    not-in-named e i fs v = sym (p .kept i fs v ∙ ap (λ (gs : Fields). anyOf (g i) (namedIn gs)) e)
+    unfolding namedIn
+    not-in-named e = none-passes g namedIn _ (p .others) (p .kept) (ap namedIn e)
 
     -- the next member
     module _ (k q : ℕ) (rest : Members) (x : NextMember t left (p .others) k q rest) where
@@ -125,20 +138,16 @@ module _ {I : Type 0} (g : I → Named → Bool) (t : List ℕ) (at depth : ℕ)
       its-named = namedUnder (contentFrom t (k + 1)) (texts (aliases .list .values))
 
       module _ (r : Bool) (f : (i : I) (vs : Values) → ValueAt t q (left .depth) (array vs)
-          → r ≡ anyOf (λ (n : List ℕ). g i (record { name = n; key = contentFrom t (k + 1) })) (texts vs)) where
+          → r ≡ anyOf (g i) (namedUnder (contentFrom t (k + 1)) (texts vs))) where
         tried : (i : I) → anyOf (g i) its-named ≡ r
-        tried i = any-under (g i) (contentFrom t (k + 1)) (texts (aliases .list .values)) ∙ sym (f i (aliases .list .values) (aliases .list .here))
+        tried i = sym (f i (aliases .list .values) (aliases .list .here))
 
         -- If one of the next member's aliases passes the test, one of the group's aliases passes it.
         pub in-named : r ≡ true → (i : I) (fs : Fields) → ValueAt t at depth (object fs) → true ≡ anyOf (g i) (namedIn fs)
-        in-named e i fs v = sym (p .kept i fs v ∙ ap (anyOf (g i)) (aliases .split) ∙ any-first (g i) its-named (namedIn (x .others)) (tried i ∙ e))
+        in-named = first-passes g namedIn _ (p .others) (x .others) its-named (p .kept) (aliases .split) r tried
 
         -- If none of them does, one of the aliases after them passes exactly where one of the group's does.
         pub named-goes-on : r ≡ false → InNamed g t at depth rest
         named-goes-on e =
-            record {
-              others = x .others;
-              here = x .left;
-              strings = aliases .strings;
-              kept = λ i fs v. p .kept i fs v ∙ ap (anyOf (g i)) (aliases .split) ∙ any-second (g i) its-named (namedIn (x .others)) (tried i ∙ e);
-            }
+            let k = rest-kept g namedIn _ (p .others) (x .others) its-named (p .kept) (aliases .split) r tried e in
+            record { others = x .others; here = x .left; strings = aliases .strings; kept = k }

@@ -8,7 +8,7 @@ use Rattle.text_content.specs.Value.{Value, Values, Fields, array, object}
 use Rattle.text_view.specs.Place.{ValueAt}
 use Rattle.manifest_entries.specs.Entries.{allPass}
 use Rattle.manifest_fields.specs.Members.{Finds}
-use Rattle.manifest_fields.specs.Rules.{everyMember, namesPass, isObjectOf}
+use Rattle.manifest_fields.specs.FieldTests.{everyMember, namesPass, isObjectOf}
 use Rattle.manifest_entries.specs.declared.entry.Entry.the-variants.{Text}
 use Rattle.manifest_fields.specs.declared.member.Found.{Found}
 

@@ -10,7 +10,7 @@ use Rattle.text_strings.specs.InString.{Inside}
 use Rattle.manifest_fields.specs.Accessors.{texts, namesOf}
 use Rattle.manifest_entries.specs.Entries.{count}
 use Rattle.manifest_fields.specs.Members.{Finds}
-use Rattle.manifest_fields.specs.Rules.{foundMembers}
+use Rattle.manifest_fields.specs.FieldTests.{foundMembers}
 use Rattle.manifest_fields.specs.declared.member.Found.{Found}
 use Rattle.manifest_repeat.specs.Names.{Collectable, GroupAt, GroupFound}
 use Rattle.manifest_repeat.specs.Repeated.{repeated}

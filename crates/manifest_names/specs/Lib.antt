@@ -1,3 +1,4 @@
+pub mod Asked
 pub mod Groups
 pub mod Keyed
 pub mod Objects

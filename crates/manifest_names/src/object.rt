@@ -9,7 +9,7 @@ ghost use Rattle.text_strings.specs.InString.{Inside, contentFrom};
 ghost use Rattle.text_view.specs.Cursor.{SomeObject};
 ghost use Rattle.text_view.specs.Place.{ValueAt};
 ghost use Rattle.manifest_fields.specs.Members.{Finds};
-ghost use Rattle.manifest_fields.specs.Rules.{foundMembers};
+ghost use Rattle.manifest_fields.specs.FieldTests.{foundMembers};
 ghost use Rattle.manifest_names.specs.Groups.{Grouped};
 ghost use Rattle.manifest_names.specs.Objects.{FindsKey};
 

@@ -1,14 +1,13 @@
 -- The objects of the aliases of layers: each is one of the manifest's objects, a name has one object, and manifests that do not conflict have
 -- one object for a name of both. Assumes nothing.
 use Prim.Native.Nat.{ℕ}
-use mathlib.Core.Path.{_≡_, refl, sym, ap, subst, _∙_}
+use mathlib.Core.Path.{_≡_, sym, ap, subst, _∙_}
 use mathlib.Core.Logic.{⊎-elim}
 use mathlib.Core.List.{List, [], _∷_, map, List·Memᴰ as In, List·Memᴰ·head, List·Memᴰ·tail, List·Memᴰ·not-nil, List·Memᴰ·cases-cons}
 use mathlib.Core.List.{List·Memᴰ·append-cases, Memᴰ·of-map}
-use mathlib.Core.Bool.{Bool, true, false, not, _&&_, _||_}
-use Rattle.laws.specs.Any.{anyOf}
+use mathlib.Core.Bool.{Bool, true, false, not, _&&_}
 use Rattle.laws.specs.Order.{same}
-use Rattle.laws.proofs.Any.{or-none, any-map}
+use Rattle.laws.proofs.Any.{or-none, none-passes, any-map}
 use Rattle.laws.proofs.Order.{by-test, false-true, same-eq, same-ne, same-refl}
 use Rattle.text_content.specs.Value.{Fields, no-fields, field}
 use Rattle.reference.specs.References.{Layer, layer}
@@ -22,19 +21,6 @@ use Rattle.manifest.specs.Manifest.{manifestOf, Alias, aliasesTo, aliasesOf, co
 use Rattle.manifest.specs.Names.{conflict, keysOf, objects}
 use Rattle.manifest.proofs.Aliases.{contents-unrepeated}
 use Rattle.manifest_aliases.proofs.Objects.{aliases-named, conflict-keys}
-
-module _ {A : Type 0} (p : A → Bool) where
-  -- Where no element passes a test, an element does not.
-  pub none-passes : {xs : List A} {a : A} → anyOf p xs ≡ false → In a xs → p a ≡ false
-  unfolding anyOf
-  none-passes e (List·Memᴰ·head {x = x} {xs = xs} q) = ap p q ∙ or-none (p x) (anyOf p xs) e .0
-  none-passes e (List·Memᴰ·tail {x = x} {xs = xs} m) = none-passes (or-none (p x) (anyOf p xs) e .1) m
-
-  -- Where each element does not pass a test, none does.
-  pub passed-by-none : (xs : List A) → ((a : A) → In a xs → p a ≡ false) → anyOf p xs ≡ false
-  unfolding anyOf
-  passed-by-none [] h = refl
-  passed-by-none (x ∷ xs) h = λ i. h x (List·Memᴰ·head refl) i || passed-by-none xs (λ a m. h a (List·Memᴰ·tail m)) i
 
 -- the aliases of one object
 object-to : (l : Layer) (ns : List (List ℕ)) {a : Alias} → In a (aliasesTo l ns) → a .object ≡ l

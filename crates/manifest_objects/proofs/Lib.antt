@@ -1,7 +1,7 @@
 pub mod Agreement
 pub mod Placing
 pub mod Listing
-pub mod Found
+pub mod FoundObjects
 pub mod Reading
 pub mod Naming
 pub mod Standing

@@ -1,142 +1,106 @@
 -- How far the aliases of a group were listed with the numbers of their objects. Assumes nothing.
-use Prim.Native.Nat.{ℕ, _+_, _*_, _≤_, _<_}
+use Prim.Native.Nat.{ℕ, zero, suc, _+_, _*_, _-_, _≤_, _<_}
 use mathlib.Core.Path.{_≡_, refl, sym, ap, subst, _∙_}
-use mathlib.Core.List.{List, [], _∷_, _++_, append-assoc, append-nil}
-use mathlib.Core.Bool.{Bool, true, false}
+use mathlib.Core.List.{List, [], _∷_, _++_, map, append-assoc, append-nil}
+use mathlib.Core.Bool.{true}
 use native.Mathlib.Omega.{arith}
 use native.Mathlib.Numerals.{add-one}
-use lib.ListN.{length, take, getD, set, length-set, length-append}
+use lib.ListN.{length, take, getD, set, replicate, length-append}
 use lib.Seq.{take-suc-set, getD-append-seam}
-use Rattle.text_content.specs.Value.{Values, no-values, Fields, no-fields, array, object}
-use Rattle.text_strings.specs.InString.{contentFrom}
-use Rattle.text_strings.proofs.Contents.{inside-content}
-use Rattle.text_strings.proofs.Cursors.{inside-within}
+use Rattle.text_content.specs.Value.{Values, Fields, no-fields, array, object}
 use Rattle.text_view.specs.Place.{ValueAt}
-use Rattle.text_view.specs.Cursor.{SomeArray, SomeElements, ElementsLeft, NextElement, SomeObject, SomeMembers, MembersLeft, NextMember}
-use Rattle.text_view.specs.declared.Elements.{Elements}
+use Rattle.text_view.specs.Cursor.{SomeObject, SomeMembers, MembersLeft, NextMember}
 use Rattle.text_view.specs.declared.Members.{Members}
 use Rattle.text_view.proofs.ByKind.{one-value}
 use Rattle.reference.specs.References.{Layer, layer, no-layer}
-use Rattle.manifest_fields.specs.Accessors.{texts}
+use Rattle.manifest_fields.specs.Accessors.{textOf, texts}
 use Rattle.manifest_entries.specs.Entries.{allPass, count}
 use Rattle.manifest_values.specs.Values.{entries}
-use Rattle.manifest_fields.specs.Rules.{countFields, everyMember, namesPass}
+use Rattle.manifest_fields.specs.FieldTests.{countFields, everyMember, namesPass}
 use Rattle.manifest_entries.specs.declared.entry.Entry.the-variants.{Text}
 use Rattle.manifest_entries.proofs.Counting.{one-array}
 use Rattle.manifest_fields.proofs.Finding.{one-object}
 use Rattle.manifest_fields.proofs.Ruling.{its-entries}
-use Rattle.manifest_names.proofs.Nexts.{NextString, next-string, NextAliases, next-aliases}
+use Rattle.manifest_repeat.specs.Names.{NamesAt, no-names, name-at, AddsNames}
+use Rattle.manifest_view.proofs.Listing.{size, listed-texts}
+use Rattle.manifest_names.proofs.Nexts.{NextAliases, next-aliases, next-collectable}
 use Rattle.manifest.specs.Manifest.{Alias, aliasesTo, aliasesOf}
 use Rattle.manifest.specs.Names.{keysOf, objects}
 use Rattle.manifest_objects.specs.Objects.{Listed, none-listed, listed-too}
 use Rattle.manifest_objects.specs.Walks.{Listable, AddsListed, ListableGroup}
 
-listed-append : {s ks os ls ps : List ℕ} {xs ys : List Alias} → Listed s ks os xs → Listed s ls ps ys → Listed s (ks ++ ls) (os ++ ps) (xs ++ ys)
-listed-append none-listed m = m
-listed-append (listed-too h n) m = listed-too h (listed-append n m)
+replicate-more : (k o : ℕ) → replicate k o ++ (o ∷ []) ≡ replicate (suc k) o
+replicate-more zero o = refl
+replicate-more (suc k) o = ap (λ (os : List ℕ). o ∷ os) (replicate-more k o)
 
--- Of the array at position `at`, whose strings are aliases of the object with the number o, those before the cursor were added behind the first n.
-pub record UnderObject (s : List ℕ) (at depth o : ℕ) (names₀ owners₀ : List ℕ) (n : ℕ) (names owners : List ℕ) (left : Elements) (i : ℕ) : Type 0 where
-  pub others : Values
-  pub here : ElementsLeft s left others
-  pub first : Bool
-  pub strings : allPass Text first others ≡ true
-  pub space : i + count others ≤ length names
-  pub size : length names ≡ length names₀
-  pub owner-space : i + count others ≤ length owners
-  pub owner-size : length owners ≡ length owners₀
-  pub number : (vs : Values) → ValueAt s at depth (array vs) → i + count others ≡ n + count vs
-  pub adds : (vs : Values) → ValueAt s at depth (array vs) → (l : Layer) (xs : List Alias) → o < length (objects s) → getD (objects s) o no-layer ≡ l
-      → Listed s (take n names₀) (take n owners₀) xs
-      → (ys : List Alias) × Listed s (take i names) (take i owners) ys × (ys ++ aliasesTo l (texts others) ≡ xs ++ aliasesTo l (texts vs))
+-- Where a number was written from position n to position i, and it is written at position i, it was written from n to i + 1.
+pub owner-written : (owners₀ owners : List ℕ) (n i o : ℕ) → n ≤ i → i < length owners → take i owners ≡ take n owners₀ ++ replicate (i - n) o
+    → take (i + 1) (set owners i o) ≡ take n owners₀ ++ replicate (i + 1 - n) o
+owner-written owners₀ owners n i o h f e =
+    let k : suc (i - n) ≡ i + 1 - n = omega arith in
+    ap (λ (j : ℕ). take j (set owners i o)) (add-one i)
+    ∙ take-suc-set owners i o f
+    ∙ ap (λ (l : List ℕ). l ++ (o ∷ [])) e
+    ∙ append-assoc (take n owners₀) (replicate (i - n) o) (o ∷ [])
+    ∙ ap (λ (l : List ℕ). take n owners₀ ++ l) (replicate-more (i - n) o ∙ ap (λ (j : ℕ). replicate j o) k)
 
-module _ (s : List ℕ) (at depth o : ℕ) (names₀ owners₀ : List ℕ) (n : ℕ) where
-  -- There is an array to walk over.
-  pub under-array : Listable s at depth o names₀ owners₀ n → SomeArray s at depth
-  under-array a = record { values = a .list .values; here = a .list .here }
+-- the names of aliases
+abbrev namesIn : List Alias → List (List ℕ)
+namesIn xs = map (λ (x : Alias). x .name) xs
 
-  -- At the start nothing was added.
-  pub under-started : (a : Listable s at depth o names₀ owners₀ n) (left : Elements) → ElementsLeft s left (a .list .values)
-      → UnderObject s at depth o names₀ owners₀ n names₀ owners₀ left n
-  under-started a left l =
-      record {
-        others = a .list .values;
-        here = l;
-        first = true;
-        strings = a .list .strings;
-        space = a .list .space;
-        size = refl;
-        owner-space = a .space;
-        owner-size = refl;
-        number = λ vs v. omega (arith, ap count (one-array s at depth (a .list .values) vs (a .list .here) v));
-        adds = λ vs v k xs h e m. (xs, m, ap (λ (ws : Values). xs ++ aliasesTo k (texts ws)) (one-array s at depth (a .list .values) vs (a .list .here) v));
-      }
+names-to : (l : Layer) (ns : List (List ℕ)) → namesIn (aliasesTo l ns) ≡ ns
+unfolding aliasesTo
+names-to l [] = refl
+names-to l (n ∷ ns) = ap (λ (ms : List (List ℕ)). n ∷ ms) (names-to l ns)
 
-  module _ (names owners : List ℕ) (left : Elements) (i : ℕ) (p : UnderObject s at depth o names₀ owners₀ n names owners left i) where
-    -- The cursor has elements before it.
-    pub under-left : SomeElements s left
-    under-left = record { values = p .others; left = p .here }
+names-more : (xs : List Alias) (l : Layer) (ns : List (List ℕ)) → namesIn (xs ++ aliasesTo l ns) ≡ namesIn xs ++ ns
+names-more [] l ns = names-to l ns
+names-more (x ∷ xs) l ns = ap (λ (ms : List (List ℕ)). x .name ∷ ms) (names-more xs l ns)
 
-    -- Where no element is left, all were added.
-    pub under-finished : p .others ≡ no-values → (vs : Values) → ValueAt s at depth (array vs) → AddsListed s o vs names₀ owners₀ n names owners i
-    unfolding count texts aliasesTo
-    under-finished e vs v = (
-      omega (arith, p .number vs v, ap count e),
-      λ l xs h g m. let r = p .adds vs v l xs h g m in
-          subst (Listed s (take i names) (take i owners))
-          (sym (append-nil (r .0)) ∙ ap (λ (ws : Values). r .0 ++ aliasesTo l (texts ws)) (sym e) ∙ r .2)
-          (r .1),
+-- the objects of the aliases xs have the numbers os
+data Owned (s : List ℕ) : List ℕ → List Alias → Type 0 where
+  none-owned : Owned s [] []
+  owned-too : {o : ℕ} {os : List ℕ} {x : Alias} {xs : List Alias}
+      → o < length (objects s) → getD (objects s) o no-layer ≡ x .object → Owned s os xs → Owned s (o ∷ os) (x ∷ xs)
+
+-- what is listed is two lists: the names at their positions, and the numbers of the objects
+listed-names : {s ks os : List ℕ} {xs : List Alias} → Listed s ks os xs → NamesAt s ks (namesIn xs)
+listed-names none-listed = no-names
+listed-names (listed-too h n) = name-at (h .name) (listed-names n)
+
+listed-owners : {s ks os : List ℕ} {xs : List Alias} → Listed s ks os xs → Owned s os xs
+listed-owners none-listed = none-owned
+listed-owners (listed-too h n) = owned-too (h .within) (h .object) (listed-owners n)
+
+both-listed : {s ks os : List ℕ} {xs : List Alias} → Owned s os xs → NamesAt s ks (namesIn xs) → Listed s ks os xs
+both-listed none-owned no-names = none-listed
+both-listed (owned-too h g r) (name-at n m) = listed-too (record { name = n; within = h; object = g }) (both-listed r m)
+
+owned-append : {s os ps : List ℕ} {xs ys : List Alias} → Owned s os xs → Owned s ps ys → Owned s (os ++ ps) (xs ++ ys)
+owned-append none-owned m = m
+owned-append (owned-too h g r) m = owned-too h g (owned-append r m)
+
+owned-all : (s : List ℕ) (o : ℕ) (l : Layer) → o < length (objects s) → getD (objects s) o no-layer ≡ l → (ns : List (List ℕ))
+    → Owned s (replicate (length ns) o) (aliasesTo l ns)
+unfolding aliasesTo
+owned-all s o l h g [] = none-owned
+owned-all s o l h g (n ∷ ns) = owned-too h g (owned-all s o l h g ns)
+
+-- Where the strings of an array were collected behind the first n names, and the number o was written for each of them, its aliases were added.
+pub adds-listed : (s : List ℕ) (at depth o : ℕ) (names₀ owners₀ : List ℕ) (n : ℕ) → Listable s at depth o names₀ owners₀ n → (names owners : List ℕ) (r : ℕ)
+    → ((vs : Values) → ValueAt s at depth (array vs) → AddsNames s vs names₀ n names r) → take r owners ≡ take n owners₀ ++ replicate (r - n) o
+    → (vs : Values) → ValueAt s at depth (array vs) → AddsListed s o vs names₀ owners₀ n names owners r
+adds-listed s at depth o names₀ owners₀ n a names owners r f e vs v =
+    let same-values = one-array s at depth (a .list .values) vs (a .list .here) v in
+    let strings = subst (λ (ws : Values). allPass Text true ws ≡ true) same-values (a .list .strings) in
+    let counted : length (texts vs) ≡ count vs = size Text textOf texts listed-texts true vs strings in
+    let k : r - n ≡ length (texts vs) = omega (arith, f vs v .0) in (
+      f vs v .0,
+      λ l xs h g m. subst (λ (os : List ℕ). Listed s (take r names) os (xs ++ aliasesTo l (texts vs)))
+          (sym (e ∙ ap (λ (j : ℕ). take n owners₀ ++ replicate j o) k))
+          (both-listed (owned-append (listed-owners m) (owned-all s o l h g (texts vs)))
+          (subst (NamesAt s (take r names)) (sym (names-more xs l (texts vs))) (f vs v .1 (namesIn xs) (listed-names m)))),
     )
-
-    -- the next element
-    module _ (q : ℕ) (rest : Elements) (x : NextElement s left (p .others) q rest) where
-      text : NextString s (p .others) (x .others) q
-      text = next-string s left (p .others) (p .first) (p .strings) q rest x
-
-      -- The element stands in the text, and there is space for its position and for the number of its object.
-      pub place-within : q + 1 < length s
-      place-within = inside-within s (q + 1) (text .inside)
-
-      -- There is space for the position of the element.
-      pub place-fits : i < length names
-      place-fits = omega (arith, p .space, text .counted)
-
-      -- There is space for the number of its object.
-      pub owner-fits : i < length owners
-      owner-fits = omega (arith, p .owner-space, text .counted)
-
-      abbrev alias : Layer → Alias
-      alias l = record { name = contentFrom s (q + 1); object = l }
-
-      split-under : (l : Layer) → aliasesTo l (texts (p .others)) ≡ (alias l ∷ []) ++ aliasesTo l (texts (x .others))
-      unfolding aliasesTo
-      split-under l = ap (aliasesTo l) (text .split)
-
-      one-more : (l : Layer) (ys : List Alias) → o < length (objects s) → getD (objects s) o no-layer ≡ l → Listed s (take i names) (take i owners) ys
-          → Listed s (take (i + 1) (set names i q)) (take (i + 1) (set owners i o)) (ys ++ (alias l ∷ []))
-      one-more l ys h g m =
-          rw (add-one i, take-suc-set names i q place-fits, take-suc-set owners i o owner-fits)
-          (listed-append m (listed-too (record { name = inside-content s (q + 1) (text .inside); within = h; object = g }) none-listed))
-
-      -- With the element added the walk goes on.
-      pub under-goes-on : UnderObject s at depth o names₀ owners₀ n (set names i q) (set owners i o) rest (i + 1)
-      under-goes-on =
-          record {
-            others = x .others;
-            here = x .left;
-            first = false;
-            strings = text .strings;
-            space = omega (arith, p .space, text .counted, length-set names i q);
-            size = length-set names i q ∙ p .size;
-            owner-space = omega (arith, p .owner-space, text .counted, length-set owners i o);
-            owner-size = length-set owners i o ∙ p .owner-size;
-            number = λ vs v. omega (arith, p .number vs v, text .counted);
-            adds = λ vs v l xs h g m. let r = p .adds vs v l xs h g m in (
-              r .0 ++ (alias l ∷ []),
-              one-more l (r .0) h g (r .1),
-              append-assoc (r .0) (alias l ∷ []) (aliasesTo l (texts (x .others))) ∙ ap (λ (k : List Alias). r .0 ++ k) (sym (split-under l)) ∙ r .2,
-            );
-          }
 
 -- Of the group at position `at`, whose keys are the objects, n aliases were listed; `o` members were passed, and the others stand before the cursor.
 pub record Numbered (s : List ℕ) (at depth : ℕ) (names₀ owners₀ names owners : List ℕ) (left : Members) (n o : ℕ) : Type 0 where
@@ -217,17 +181,9 @@ module _ (s : List ℕ) (at depth : ℕ) (names₀ owners₀ : List ℕ) where
       -- The aliases of the member can be added.
       pub listable : Listable s q (left .depth) o names owners n
       listable =
-          record {
-            list = record {
-              values = aliases .list .values;
-              here = aliases .list .here;
-              strings = aliases .list .strings;
-              space = omega (arith, aliases .few, aliases .counted, p .space, p .size, p .enough);
-              short = p .short;
-            };
-            space = omega (arith, aliases .few, aliases .counted, p .space, p .owner-size, p .owner-enough);
-            small = next-number;
-          }
+          let l = next-collectable aliases names n (p .space) (omega (arith, p .size, p .enough)) (p .short) in
+          let e = one-array s q (left .depth) (l .values) values (l .here) (aliases .list .here) in
+          record { list = l; space = omega (arith, ap count e, aliases .few, aliases .counted, p .space, p .owner-size, p .owner-enough); small = next-number }
 
       -- the key of the member is the object with the number o
       keys-split : objects s ≡ p .passed ++ (layer (x .key) ∷ keysOf (x .others))

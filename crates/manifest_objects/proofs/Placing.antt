@@ -53,17 +53,70 @@ module _ (s : List ℕ) (start : ℕ) (before keys : List ℕ) (n : ℕ) (ls : L
           stand = λ b m e. rw (add-one n, take-suc-set keys n (start + q + 1) h) (stand-append (p .stand b m e) (stands-too (stands b m e) none-stands));
         }
 
--- Of the group at position `at` the keys before the cursor were placed.
-pub record KeysPlaced (s : List ℕ) (start at depth : ℕ) (before keys : List ℕ) (left : Members) (n : ℕ) : Type 0 where
-  pub others : Fields
-  pub here : MembersLeft s left others
-  pub few : n + length (keysOf others) ≤ 64
-  pub size : length keys ≡ length before
+-- Of a list of strings, n were placed as references, and `others` are left of it: `refs` are the references of a list, `size` is how many it has, and
+-- `Whole` tells that a list is the whole one.
+pub record Written {L : Type 0} (refs : L → List Layer) (size : L → ℕ) (Whole : L → Type 0) (s : List ℕ) (start : ℕ) (before keys : List ℕ) (n : ℕ)
+    (others : L) : Type 0 where
+  pub few : n + size others ≤ 64
+  pub length-kept : length keys ≡ length before
   pub space : 64 ≤ length before
   pub short : start + length s < 2 ^ 63
   pub done : List Layer
   pub placed : Placed s start before keys n done
-  pub kept : (fs : Fields) → ValueAt s at depth (object fs) → done ++ keysOf others ≡ keysOf fs
+  pub kept : (xs : L) → Whole xs → done ++ refs others ≡ refs xs
+
+module _ {L : Type 0} (refs : L → List Layer) (size : L → ℕ) (Whole : L → Type 0) (s : List ℕ) (start : ℕ) (before : List ℕ) where
+  -- At the start nothing was placed.
+  pub none-written : (o : L) → size o ≤ 64 → 64 ≤ length before → start + length s < 2 ^ 63 → ((xs : L) → Whole xs → o ≡ xs)
+      → Written refs size Whole s start before before 0 o
+  none-written o f h l e =
+      record {
+        few = omega arith;
+        length-kept = refl;
+        space = h;
+        short = l;
+        done = [];
+        placed = placed-none s start before;
+        kept = λ xs w. ap refs (e xs w);
+      }
+
+  module _ (keys : List ℕ) (n : ℕ) (others : L) (p : Written refs size Whole s start before keys n others) where
+    -- Where nothing is left, all were placed.
+    pub all-written : refs others ≡ [] → (xs : L) → Whole xs → Placed s start before keys n (refs xs)
+    all-written e xs w =
+        subst (Placed s start before keys n)
+        (sym (append-nil (p .done)) ∙ ap (λ (l : List Layer). p .done ++ l) (sym e) ∙ p .kept xs w)
+        (p .placed)
+
+    -- the next string
+    module _ (rest : L) (counted : size others ≡ size rest + 1) where
+      -- There is space for its position.
+      pub next-fits : n < length keys
+      next-fits = omega (arith, p .few, p .length-kept, p .space)
+
+      -- With its position written, what is left has one string less.
+      pub one-written : (q : ℕ) (c : List ℕ) → InString s (q + 1) c → refs others ≡ layer c ∷ refs rest
+          → Written refs size Whole s start before (set keys n (start + q + 1)) (n + 1) rest
+      one-written q c i e =
+          record {
+            few = omega (arith, p .few);
+            length-kept = length-set keys n (start + q + 1) ∙ p .length-kept;
+            space = p .space;
+            short = p .short;
+            done = p .done ++ (layer c ∷ []);
+            placed = placed-more s start before keys n (p .done) (p .placed) q c i next-fits;
+            kept = λ xs w. append-assoc (p .done) (layer c ∷ []) (refs rest) ∙ ap (λ (l : List Layer). p .done ++ l) (sym e) ∙ p .kept xs w;
+          }
+
+-- how many members a group has
+abbrev keyCount : Fields → ℕ
+keyCount fs = length (keysOf fs)
+
+-- Of the group at position `at` the keys before the cursor were placed.
+pub record KeysPlaced (s : List ℕ) (start at depth : ℕ) (before keys : List ℕ) (left : Members) (n : ℕ) : Type 0 where
+  pub others : Fields
+  pub here : MembersLeft s left others
+  pub written : Written keysOf keyCount (λ (fs : Fields). ValueAt s at depth (object fs)) s start before keys n others
 
 module _ (s : List ℕ) (start at depth : ℕ) (before : List ℕ) where
   -- There is a group to walk over.
@@ -74,17 +127,8 @@ module _ (s : List ℕ) (start at depth : ℕ) (before : List ℕ) where
   pub keys-started : (o : PlaceableGroup s start at depth before) (left : Members) → MembersLeft s left (o .fields)
       → KeysPlaced s start at depth before before left 0
   keys-started o left l =
-      record {
-        others = o .fields;
-        here = l;
-        few = omega (arith, o .few);
-        size = refl;
-        space = o .space;
-        short = o .short;
-        done = [];
-        placed = placed-none s start before;
-        kept = λ fs v. ap keysOf (one-object s at depth (o .fields) fs (o .here) v);
-      }
+      let w = none-written keysOf keyCount _ s start before (o .fields) (o .few) (o .space) (o .short) (λ fs. one-object s at depth (o .fields) fs (o .here)) in
+      record { others = o .fields; here = l; written = w }
 
   module _ (keys : List ℕ) (left : Members) (n : ℕ) (p : KeysPlaced s start at depth before keys left n) where
     -- The cursor has members before it.
@@ -94,10 +138,7 @@ module _ (s : List ℕ) (start at depth : ℕ) (before : List ℕ) where
     -- Where no member is left, all keys were placed.
     pub keys-finished : p .others ≡ no-fields → (fs : Fields) → ValueAt s at depth (object fs) → Placed s start before keys n (keysOf fs)
     unfolding keysOf
-    keys-finished e fs v =
-        subst (Placed s start before keys n)
-        (sym (append-nil (p .done)) ∙ ap (λ (gs : Fields). p .done ++ keysOf gs) (sym e) ∙ p .kept fs v)
-        (p .placed)
+    keys-finished e = all-written keysOf keyCount _ s start before keys n (p .others) (p .written) (ap keysOf e)
 
     -- the next member
     module _ (k q : ℕ) (rest : Members) (x : NextMember s left (p .others) k q rest) where
@@ -105,29 +146,22 @@ module _ (s : List ℕ) (start at depth : ℕ) (before : List ℕ) where
       unfolding keysOf
       key-split = ap keysOf (x .split)
 
+      counted : length (keysOf (p .others)) ≡ length (keysOf (x .others)) + 1
+      counted = omega (arith, ap length key-split)
+
       -- The key stands in the text, and there is space for its position.
       pub key-within : k + 1 < length s
       key-within = inside-within s (k + 1) (record { bytes = x .key; here = x .name })
 
       -- There is space for the position of the key.
       pub key-fits : n < length keys
-      key-fits = omega (arith, p .few, ap length key-split, p .size, p .space)
+      key-fits = next-fits keysOf keyCount _ s start before keys n (p .others) (p .written) (x .others) counted
 
       -- With the key placed the walk goes on.
       pub keys-go-on : KeysPlaced s start at depth before (set keys n (start + k + 1)) rest (n + 1)
       keys-go-on =
-          record {
-            others = x .others;
-            here = x .left;
-            few = omega (arith, p .few, ap length key-split);
-            size = length-set keys n (start + k + 1) ∙ p .size;
-            space = p .space;
-            short = p .short;
-            done = p .done ++ (layer (x .key) ∷ []);
-            placed = placed-more s start before keys n (p .done) (p .placed) k (x .key) (x .name) key-fits;
-            kept = λ fs v.
-                append-assoc (p .done) (layer (x .key) ∷ []) (keysOf (x .others)) ∙ ap (λ (l : List Layer). p .done ++ l) (sym key-split) ∙ p .kept fs v;
-          }
+          let w = one-written keysOf keyCount _ s start before keys n (p .others) (p .written) (x .others) counted k (x .key) (x .name) key-split in
+          record { others = x .others; here = x .left; written = w }
 
 -- Of the array at position `at` the strings before the cursor were placed.
 pub record StringsPlaced (s : List ℕ) (start at depth : ℕ) (before keys : List ℕ) (left : Elements) (n : ℕ) : Type 0 where
@@ -135,13 +169,7 @@ pub record StringsPlaced (s : List ℕ) (start at depth : ℕ) (before keys : Li
   pub here : ElementsLeft s left others
   pub first : Bool
   pub strings : allPass Text first others ≡ true
-  pub few : n + count others ≤ 64
-  pub size : length keys ≡ length before
-  pub space : 64 ≤ length before
-  pub short : start + length s < 2 ^ 63
-  pub done : List Layer
-  pub placed : Placed s start before keys n done
-  pub kept : (vs : Values) → ValueAt s at depth (array vs) → done ++ said others ≡ said vs
+  pub written : Written said count (λ (vs : Values). ValueAt s at depth (array vs)) s start before keys n others
 
 module _ (s : List ℕ) (start at depth : ℕ) (before : List ℕ) where
   -- There is an array to walk over.
@@ -152,19 +180,8 @@ module _ (s : List ℕ) (start at depth : ℕ) (before : List ℕ) where
   pub strings-started : (o : PlaceableList s start at depth before) (left : Elements) → ElementsLeft s left (o .values)
       → StringsPlaced s start at depth before before left 0
   strings-started o left l =
-      record {
-        others = o .values;
-        here = l;
-        first = true;
-        strings = o .strings;
-        few = omega (arith, o .few);
-        size = refl;
-        space = o .space;
-        short = o .short;
-        done = [];
-        placed = placed-none s start before;
-        kept = λ vs v. ap said (one-array s at depth (o .values) vs (o .here) v);
-      }
+      let w = none-written said count _ s start before (o .values) (o .few) (o .space) (o .short) (λ vs v. one-array s at depth (o .values) vs (o .here) v) in
+      record { others = o .values; here = l; first = true; strings = o .strings; written = w }
 
   module _ (keys : List ℕ) (left : Elements) (n : ℕ) (p : StringsPlaced s start at depth before keys left n) where
     -- The cursor has elements before it.
@@ -174,10 +191,7 @@ module _ (s : List ℕ) (start at depth : ℕ) (before : List ℕ) where
     -- Where no element is left, all strings were placed.
     pub strings-finished : p .others ≡ no-values → (vs : Values) → ValueAt s at depth (array vs) → Placed s start before keys n (said vs)
     unfolding said texts
-    strings-finished e vs v =
-        subst (Placed s start before keys n)
-        (sym (append-nil (p .done)) ∙ ap (λ (ws : Values). p .done ++ said ws) (sym e) ∙ p .kept vs v)
-        (p .placed)
+    strings-finished e = all-written said count _ s start before keys n (p .others) (p .written) (ap said e)
 
     -- the next element
     module _ (q : ℕ) (rest : Elements) (x : NextElement s left (p .others) q rest) where
@@ -194,24 +208,11 @@ module _ (s : List ℕ) (start at depth : ℕ) (before : List ℕ) where
 
       -- There is space for the position of the string.
       pub string-fits : n < length keys
-      string-fits = omega (arith, p .few, text .counted, p .size, p .space)
+      string-fits = next-fits said count _ s start before keys n (p .others) (p .written) (x .others) (text .counted)
 
       -- With the string placed the walk goes on.
       pub strings-go-on : StringsPlaced s start at depth before (set keys n (start + q + 1)) rest (n + 1)
       strings-go-on =
-          record {
-            others = x .others;
-            here = x .left;
-            first = false;
-            strings = text .strings;
-            few = omega (arith, p .few, text .counted);
-            size = length-set keys n (start + q + 1) ∙ p .size;
-            space = p .space;
-            short = p .short;
-            done = p .done ++ (layer (contentFrom s (q + 1)) ∷ []);
-            placed = placed-more s start before keys n (p .done) (p .placed) q (contentFrom s (q + 1)) (inside-content s (q + 1) (text .inside)) string-fits;
-            kept = λ vs v.
-                append-assoc (p .done) (layer (contentFrom s (q + 1)) ∷ []) (said (x .others))
-                ∙ ap (λ (l : List Layer). p .done ++ l) (sym string-split)
-                ∙ p .kept vs v;
-          }
+          let w = one-written said count _ s start before keys n (p .others) (p .written) (x .others) (text .counted) q (contentFrom s (q + 1))
+          (inside-content s (q + 1) (text .inside)) string-split in
+          record { others = x .others; here = x .left; first = false; strings = text .strings; written = w }

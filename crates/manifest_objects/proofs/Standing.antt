@@ -5,7 +5,7 @@ use mathlib.Core.List.{List, _∷_}
 use native.Mathlib.Omega.{arith}
 use lib.ListN.{length, getD}
 use Rattle.reference.specs.References.{Layer, no-layer}
-use Rattle.manifest_objects.specs.Objects.{StandsAt, AllStand, none-stands, stands-too}
+use Rattle.manifest_objects.specs.Objects.{StandsAt, SomeReference, AllStand, none-stands, stands-too}
 
 -- There are as many positions as references.
 pub stand-length : {b ks : List ℕ} {ls : List Layer} → AllStand b ks ls → length ks ≡ length ls
@@ -17,6 +17,10 @@ pub stand-at : {b ks : List ℕ} {ls : List Layer} → AllStand b ks ls → (e :
 stand-at none-stands e l = absurd (omega arith)
 stand-at (stands-too h n) zero l = h
 stand-at (stands-too h n) (suc e) l = stand-at n e (omega arith)
+
+-- Some reference stands at each position.
+pub some-stands : {b ks : List ℕ} {ls : List Layer} → AllStand b ks ls → (e : ℕ) → e < length ks → SomeReference b (getD ks e 0)
+some-stands {ls = ls} s e l = record { layer = getD ls e no-layer; stands = stand-at s e l }
 
 -- At given positions stand given references.
 pub stand-same : {b ks : List ℕ} {ls ms : List Layer} → AllStand b ks ls → AllStand b ks ms → ls ≡ ms

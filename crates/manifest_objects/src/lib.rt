@@ -64,11 +64,7 @@ fn place_keys(s: &[u8], start: usize, at: usize, depth: usize, keys: &mut [usize
     loop {
         match left.next(s) {
             Member::End => return n,
-            Member::At {
-                key,
-                value: _,
-                rest,
-            } => {
+            Member::At { key, rest, .. } => {
                 keys[n] = start + key + 1;
                 n += 1;
                 left = rest;
@@ -138,19 +134,13 @@ fn list_under(
     ensures { λ r. ⌜ ((vs : Values) → ValueAt (now (s .entry)) at depth (array vs)
         → AddsListed (now (s .entry)) object vs (now (names .entry)) (now (owners .entry)) n (now (names .exit)) (now (owners .exit)) r) ⌝ }
 {
-    let mut left = Elements::new(s, at, depth);
+    let r = manifest_repeat::collect_entries(s, at, depth, names, n);
     let mut i = n;
-    loop {
-        match left.next(s) {
-            Element::End => return i,
-            Element::At(p, rest) => {
-                names[i] = p as u16;
-                owners[i] = object as u16;
-                i += 1;
-                left = rest;
-            }
-        }
+    while i < r {
+        owners[i] = object as u16;
+        i += 1;
     }
+    r
 }
 
 // Puts the positions of a group's aliases at the start of `names`, and for each the number of its object into `owners`; answers how many there are.
@@ -165,11 +155,7 @@ fn list_group(s: &[u8], at: usize, depth: usize, names: &mut [u16], owners: &mut
     loop {
         match left.next(s) {
             Member::End => return n,
-            Member::At {
-                key: _,
-                value,
-                rest,
-            } => {
+            Member::At { value, rest, .. } => {
                 n = list_under(s, value, left.depth, object, names, owners, n);
                 object += 1;
                 left = rest;

@@ -19,7 +19,7 @@ use Rattle.manifest_values.specs.Values.{isArrayOf, entries}
 use Rattle.manifest_entries.specs.declared.entry.Entry.the-variants.{Text}
 use Rattle.manifest_entries.proofs.Counting.{one-array}
 use Rattle.manifest_fields.specs.Accessors.{acceptsField, texts}
-use Rattle.manifest_fields.specs.Rules.{foundEntries}
+use Rattle.manifest_fields.specs.FieldTests.{foundEntries}
 use Rattle.manifest_fields.specs.declared.member.Found.the-variants.{At, Missing}
 use Rattle.manifest_fields.proofs.Founds.{missing-entries, found-entries}
 use Rattle.manifest_fields.proofs.Ruling.{Here, is-here, Passed, array-of, its-entries}

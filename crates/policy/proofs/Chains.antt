@@ -2,14 +2,14 @@
 use Prim.Native.Nat.{ℕ, zero, suc, _<_}
 use mathlib.Core.Path.{_≡_, refl, sym, ap, subst, _∙_}
 use mathlib.Core.Logic.{_↔_, _⊎_, inl, inr, ⊎-elim}
-use mathlib.Core.Bool.{Bool, true, false, _||_, or-true}
+use mathlib.Core.Bool.{Bool, true, false}
 use mathlib.Core.List.{List, [], _∷_, map, List·Memᴰ as In, List·Memᴰ·head, List·Memᴰ·tail}
 use native.Mathlib.Omega.{arith}
 use borrow.Author.Tests.{eq-eqb}
 use lib.ListN.{length, getD, length-map}
 use Rattle.laws.specs.Any.{anyOf, anyPair}
-use Rattle.laws.proofs.Any.{or-none}
-use Rattle.laws.proofs.Order.{by-test, false-true, same-refl}
+use Rattle.laws.proofs.Any.{or-none, in-any, any-in}
+use Rattle.laws.proofs.Order.{false-true, same-refl}
 use Rattle.reference_digests.specs.Algorithms.{byteOf}
 use Rattle.reference.specs.References.{Rule}
 use Rattle.reference.specs.Matches.{matches}
@@ -55,21 +55,6 @@ module _ {A : Type 0} where
   pub at-get : {xs : List A} {k : ℕ} {a : A} → At xs k a → (d : A) → getD xs k d ≡ a
   at-get first d = refl
   at-get (later h) d = at-get h d
-
-  -- A test that an element passes is passed by some element.
-  pub in-any : (p : A → Bool) {xs : List A} {a : A} → In a xs → p a ≡ true → anyOf p xs ≡ true
-  unfolding anyOf
-  in-any p (List·Memᴰ·head {x = x} {xs = xs} e) h = ap (λ (b : Bool). b || anyOf p xs) (ap p (sym e) ∙ h)
-  in-any p (List·Memᴰ·tail {x = x} m) h = ap (λ (b : Bool). p x || b) (in-any p m h) ∙ or-true (p x)
-
-  -- A test that some element passes is passed by an element of the list.
-  pub any-in : (p : A → Bool) (xs : List A) → anyOf p xs ≡ true → (a : A) × In a xs × (p a ≡ true)
-  unfolding anyOf
-  any-in p [] e = false-true e
-  any-in p (x ∷ xs) e = by-test (p x) (λ f. (x, List·Memᴰ·head refl, f)) (λ f. further (any-in p xs (rw (f, anyOf) at e)))
-    where
-      further : (a : A) × In a xs × (p a ≡ true) → (a : A) × In a (x ∷ xs) × (p a ≡ true)
-      further w = (w .0, List·Memᴰ·tail (w .1), w .2)
 
 -- What a list is mapped to stands at the same place.
 pub at-map : {A B : Type 0} (f : A → B) {xs : List A} {k : ℕ} {a : A} → At xs k a → At (map f xs) k (f a)

@@ -4,11 +4,9 @@ use mathlib.Core.Path.{_≡_, sym, ap, ap₂, _∙_, subst₂}
 use mathlib.Core.Bool.{true, false}
 use mathlib.Core.List.{List, [], _∷_}
 use mathlib.Core.Option.{some}
-use native.Mathlib.Omega.{arith}
-use borrow.Author.Tests.{le-leb, lt-leb, ne-eqb}
+use borrow.Author.Tests.{lt-leb, ne-eqb}
 use lib.Dec.{eqb}
 use lib.ListN.{length, take, getD}
-use lib.Seq.{length-take-le}
 use Rattle.laws.proofs.Order.{by-test}
 use Rattle.text.specs.Question.{lowest}
 use Rattle.manifest.proofs.Asking.{nothing-asked, asked-first, asked-next, asked-none}
@@ -19,7 +17,7 @@ use Rattle.policy_marks.specs.declared.Table.{Table}
 use Rattle.store_record.specs.Image.{Image}
 use Rattle.store_record.specs.Store.{mostImages, readRecords}
 use Rattle.store_open.specs.Held.{held, isBroken}
-use Rattle.store_open.proofs.Holding.{first-bytes, space-broken}
+use Rattle.store_open.proofs.Holding.{held-in-use, broken-in-use}
 use Rattle.policy_rows.specs.Accepting.{guards, marks}
 use Rattle.policy.specs.Pairs.{pairs}
 use Rattle.policy.specs.Judge.{judgeQuestions, judgeNumber, heldPairs}
@@ -60,28 +58,20 @@ module _ (buffer : List ℕ) (used : ℕ) where
     abbrev inUse : List ℕ
     inUse = take used buffer
 
-    held-within : held buffer used ≡ readRecords mostImages inUse
-    unfolding held
-    held-within = rw (le-leb used (length buffer) h, held)
-
     -- The pairs are those of the images that are read in the bytes in use.
     pub read-pairs : (xs : List Image) → readRecords mostImages inUse ≡ some xs → pairs xs ≡ heldPairs buffer used
-    read-pairs xs e = sym (held-pairs buffer used xs (held-within ∙ e))
+    read-pairs xs e = sym (held-pairs buffer used xs (held-in-use buffer used h ∙ e))
 
     module _ (bytes : (k : ℕ) → getD buffer k 0 < 256) (size : ℕ) where
-      -- how large the buffer is makes no difference
-      broken-within : isBroken (length buffer) (held buffer used) ≡ isBroken (length inUse) (readRecords mostImages inUse)
-      broken-within =
-          let l : length inUse ≤ length buffer = omega (arith, length-take-le used buffer h) in
-          ap (isBroken (length buffer)) held-within ∙ space-broken inUse (first-bytes buffer used bytes) (length buffer) l
-
       -- Bytes that are no store are refused.
       pub judge-broken : isBroken (length inUse) (readRecords mostImages inUse) ≡ true → judgeNumber buffer used size ≡ 11
       unfolding judgeNumber judgeQuestions
-      judge-broken e = asked-first _ _ (broken-within ∙ e)
+      judge-broken e = asked-first _ _ (broken-in-use buffer used h bytes ∙ e)
 
       -- Of a store the pairs alone decide the number.
       pub judge-sound : isBroken (length inUse) (readRecords mostImages inUse) ≡ false → (xs : List Image) → readRecords mostImages inUse ≡ some xs
           → reportNumber size (pairs xs) ≡ judgeNumber buffer used size
       unfolding judgeNumber judgeQuestions heldPairs
-      judge-sound e xs i = ap (reportNumber size) (read-pairs xs i) ∙ sym (asked-next _ _ (broken-within ∙ e) ∙ space-asked size (heldPairs buffer used))
+      judge-sound e xs i =
+          ap (reportNumber size) (read-pairs xs i)
+          ∙ sym (asked-next _ _ (broken-in-use buffer used h bytes ∙ e) ∙ space-asked size (heldPairs buffer used))

@@ -10,13 +10,13 @@ use native.Mathlib.Omega.{arith}
 use lib.Dec.{ltb}
 use lib.ListN.{length, length-append}
 use Rattle.laws.proofs.Any.{any-permuted}
-use Rattle.laws.proofs.Permutations.{same-elements}
+use Rattle.laws.proofs.Pairs.{pair-permuted}
+use Rattle.laws.proofs.Permutations.{length-permuted, same-elements}
 use Rattle.store_record.specs.Image.{Image}
 use Rattle.store_record.specs.Ids.{shareId, idTwice}
 use Rattle.store_record.specs.Record.{recordOf, Shaped}
 use Rattle.store_record.specs.Store.{mostImages, storeOf, AllShaped, shaped}
 use Rattle.store_record.proofs.Sharing.{share-id-sym}
-use Rattle.store_names.proofs.Pairs.{pair-permuted}
 use Rattle.store_keys.specs.Clash.{clash, anyClash}
 use Rattle.store_conflict.proofs.Clashing.{clash-sym}
 use Rattle.store_open.specs.Held.{isUnfit, tooMany, areUnsound}
@@ -25,14 +25,6 @@ use Rattle.policy.specs.Chain.{Chain, alone, onward, At}
 use Rattle.policy.specs.Pairs.{pairs}
 use Rattle.policy.proofs.Chains.{at-in, in-at, at-one, distinct}
 use Rattle.policy.proofs.Exact.{listed-exactly}
-
-module _ {A : Type 0} where
-  -- A list in another order has as many elements.
-  pub length-permuted : {xs ys : List A} → Permutation xs ys → length xs ≡ length ys
-  length-permuted List·Permᴰ·nil = refl
-  length-permuted (List·Permᴰ·cons e p) = let l = length-permuted p in omega arith
-  length-permuted (List·Permᴰ·swap e f) = refl
-  length-permuted (List·Permᴰ·trans p q) = length-permuted p ∙ length-permuted q
 
 -- Images in another order are as a record holds them, if the images are.
 pub shaped-permuted : {xs ys : List Image} → Permutation xs ys → AllShaped xs → AllShaped ys

@@ -11,6 +11,7 @@ use lib.Dec.{eqb}
 use lib.ListN.{length, take, getD, length-map, List·getD-map, List·getD-eq-default}
 use lib.Pow.{shr-shr}
 use lib.Seq.{length-take-le, getD-take}
+use Rattle.laws.proofs.Lists.{any-default}
 use Rattle.policy_marks.specs.Marks.{mark, orRow}
 use Rattle.policy_marks.specs.Words.{bitAt, rowOf, rowsOf}
 
@@ -36,12 +37,6 @@ row-bit (suc n) (suc i) w h =
 -- A row has no mark past its end.
 pub row-past : (n i w : ℕ) → n ≤ i → getD (rowOf n w) i false ≡ false
 row-past n i w h = List·getD-eq-default (rowOf n w) false (subst (λ (x : ℕ). x ≤ i) (sym (row-length n w)) h)
-
--- The element at a position inside a list is the same with any default.
-pub any-default : {A : Type 0} (l : List A) (i : ℕ) (d e : A) → i < length l → getD l i d ≡ getD l i e
-any-default [] i d e h = absurd (omega arith)
-any-default (x ∷ xs) zero d e h = refl
-any-default (x ∷ xs) (suc i) d e h = any-default xs i d e (omega arith)
 
 -- The rows of a table are the first words.
 pub row-at : (n i : ℕ) (words : List ℕ) → i < n → n ≤ length words → getD (rowsOf n words) i [] ≡ rowOf n (getD words i 0)

@@ -14,7 +14,7 @@ use Rattle.laws.specs.Any.{anyOf}
 use Rattle.policy_marks.specs.Words.{bitAt, rowOf}
 use Rattle.policy_marks.proofs.Closing.{or-row-at}
 use Rattle.policy_marks.proofs.Words.{row-bit, row-doubled, row-or}
-use Rattle.store_names.proofs.Pairs.{any-last}
+use Rattle.laws.proofs.Pairs.{any-last}
 
 -- the word 0 has no mark
 zero-row : (n j : ℕ) → getD (rowOf n 0) j false ≡ false

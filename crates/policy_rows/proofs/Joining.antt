@@ -20,7 +20,7 @@ use Rattle.policy_marks.proofs.Words.{row-or}
 use Rattle.store_record.specs.Image.{Image}
 use Rattle.store_record.specs.Reading.{between, heldIn}
 use Rattle.store_record.specs.declared.Record.{Record}
-use Rattle.store_names.proofs.Pairs.{any-last}
+use Rattle.laws.proofs.Pairs.{any-last}
 use Rattle.policy_rows.specs.Accepting.{acceptsImage, matchesImage}
 
 -- An image that a record holds is matched under its one ID.

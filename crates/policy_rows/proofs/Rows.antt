@@ -10,7 +10,8 @@ use lib.ListN.{length, take, drop, getD, set, drop-of-length-le, length-set}
 use lib.Pow.{pow-mono}
 use lib.Seq.{drop-cons, take-all, take-suc, take-suc-set}
 use Rattle.policy_marks.specs.Words.{rowOf, rowsOf}
-use Rattle.policy_marks.proofs.Words.{any-default, row-doubled, row-more, word-more}
+use Rattle.laws.proofs.Lists.{any-default}
+use Rattle.policy_marks.proofs.Words.{row-doubled, row-more, word-more}
 use Rattle.store_record.specs.Image.{Image}
 use Rattle.store_record.specs.Reading.{heldIn, noRecord, imagesIn}
 use Rattle.store_record.specs.declared.Survey.{Survey}

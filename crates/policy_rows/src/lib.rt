@@ -1,5 +1,6 @@
 // The images that one image of a store accepts, as a row of marks: each rule is read once, its alias is looked up once, and then it is asked of every
 // image. Alias k of image i has the number 64 * i + k in the index of all own aliases.
+use manifest::MOST_ENTRIES;
 use manifest::Places;
 use reference::ImageIndex;
 use reference::rule::Rule;
@@ -33,7 +34,7 @@ fn owners(order: &[u16]) -> u64
     let mut i = 0;
     while i < order.len() {
         let e = order[i] as usize;
-        let image = e / 64;
+        let image = e / MOST_ENTRIES;
         word |= 1u64 << image;
         i += 1;
     }
@@ -104,7 +105,7 @@ pub fn row(
     let end = x.end;
     let s = &b[start..end];
     let p = places[k];
-    let mut at_rules = [0usize; 64];
+    let mut at_rules = [0usize; MOST_ENTRIES];
     let n = manifest_rules::place(s, p, &mut at_rules);
     let mut word = 0;
     let mut j = 0;

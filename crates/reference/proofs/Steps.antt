@@ -26,7 +26,7 @@ use Rattle.reference.specs.declared.rule.Rule.{Rule}
 use Rattle.reference.specs.declared.rule.Rule.the-variants.{Accepts, Bad as NoRule}
 use Rattle.reference.specs.declared.id.Id.{Id}
 use Rattle.reference.specs.declared.id.Id.the-variants.{Image, Bad as NoId}
-use Rattle.reference.proofs.Forms.{layer-two, layer-four, rule-three, id-three}
+use Rattle.reference.proofs.Forms.{layer-two, layer-four, rule-parts, id-parts}
 
 module _ (s : List ℕ) (i : ℕ) (p : Part) (k : PartAt s i p) where
   -- Where a part is the last, the content from it on has one part, which is that content.
@@ -239,7 +239,7 @@ module _ (s : List ℕ) (i : ℕ) (p q : Part) (d : Divided s i p q) where
     rule-by-parts : (k : Known) → r .last ≡ true → k ≡ named (firstPart (contentFrom s i))
         → rule (contentFrom s i) ≡ ruleUnder k (firstPart (contentFrom s (p .next))) (contentFrom s (q .next))
     rule-by-parts k e h =
-        rule-three (contentFrom s i) _ _ _ (three-parts e)
+        rule-parts (contentFrom s i) .three _ _ _ (three-parts e)
         ∙ ap (λ (x : Known). ruleUnder x (firstPart (contentFrom s (p .next))) (contentFrom s (q .next))) (sym h)
 
     module _ (k : Known) (e : r .last ≡ true) (h : k ≡ named (firstPart (contentFrom s i))) where
@@ -289,7 +289,7 @@ module _ (s : List ℕ) (p : Part) (a : PlainPart s 0 p) where
         -- Where the third part is the last, the Image ID is that of the second and the third part under what the first names.
         pub id-by-parts : imageId s ≡ idUnder k (firstPart (drop (p .next) s)) (drop (q .next) s)
         id-by-parts =
-            id-three s _ _ _ (plain-second ∙ ap (λ (x : List (List ℕ)). firstPart s ∷ firstPart (drop (p .next) s) ∷ x)
+            id-parts s .three _ _ _ (plain-second ∙ ap (λ (x : List (List ℕ)). firstPart s ∷ firstPart (drop (p .next) s) ∷ x)
             (last-parts (drop (q .next) s) r (c .counts) g))
             ∙ ap (λ (x : Known). idUnder x (firstPart (drop (p .next) s)) (drop (q .next) s)) (sym h)
 

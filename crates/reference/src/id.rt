@@ -9,7 +9,6 @@ ghost use Prim.Native.Nat.{ℕ};
 ghost use lib.ListN.{length};
 ghost use Rattle.reference_parts.specs.Parts.{firstPart};
 ghost use Rattle.reference_parts.specs.Readings.{Counts};
-ghost use Rattle.reference_digests.specs.Algorithms.{named as namedBy};
 ghost use Rattle.reference.specs.Readings.{IdUnder, IdReads};
 
 // An image's algorithm with the positions of its signer's and its manifest's digest, or none.
@@ -37,27 +36,10 @@ pub fn read(id: &[u8]) -> Id
     if !manifest.last {
         return Id::Bad;
     }
-    match named(id, hash.length) {
+    match reference_digests::algorithm::named(id, true, 0, hash.length) {
         Known::Unknown => Id::Bad,
         Known::Is(a) => under(a, hash.next, signer, manifest),
     }
-}
-
-// The algorithm that the first part names, which has `len` bytes.
-fn named(id: &[u8], len: usize) -> Known
-    requires { ⌜ len ≡ length (firstPart (now id)) ⌝ }
-    ensures { λ r. ⌜ r ≡ namedBy (firstPart (now (id .entry))) ⌝ }
-{
-    if part::is_plain(id, 0, len, b"sha224") {
-        return Known::Is(Algorithm::Sha224);
-    }
-    if part::is_plain(id, 0, len, b"sha256") {
-        return Known::Is(Algorithm::Sha256);
-    }
-    if part::is_plain(id, 0, len, b"sha384") {
-        return Known::Is(Algorithm::Sha384);
-    }
-    Known::Unknown
 }
 
 // The Image ID of an algorithm with SIGNER at a position, and MANIFEST after it.

@@ -49,7 +49,7 @@ fn by_digest(s: &[u8], i: usize, first: Part, second: Part) -> Layer
     requires { ⌜ Divided (now s) i first second × (second .last ≡ true) ⌝ }
     ensures { λ r. ⌜ LayerReads (now (s .entry)) i r ⌝ }
 {
-    match reference_digests::algorithm::named(s, i, first.length) {
+    match reference_digests::algorithm::named(s, false, i, first.length) {
         Known::Unknown => Layer::Bad,
         Known::Is(a) => {
             if reference_digests::digest::is_digest(a, second.length, second.hex) {
@@ -70,7 +70,7 @@ fn by_alias(s: &[u8], i: usize, first: Part, second: Part, third: Part, fourth: 
     if !part::is(s, i, first.length, b"signer") {
         return Layer::Bad;
     }
-    match reference_digests::algorithm::named(s, first.next, second.length) {
+    match reference_digests::algorithm::named(s, false, first.next, second.length) {
         Known::Unknown => Layer::Bad,
         Known::Is(a) => {
             if !reference_digests::digest::is_digest(a, third.length, third.hex) {

@@ -50,7 +50,7 @@ pub fn read(s: &[u8], i: usize) -> Rule
     if !manifest.last {
         return Rule::Bad;
     }
-    match reference_digests::algorithm::named(s, i, hash.length) {
+    match reference_digests::algorithm::named(s, false, i, hash.length) {
         Known::Unknown => Rule::Bad,
         Known::Is(a) => under(s, a, hash.next, signer, manifest),
     }

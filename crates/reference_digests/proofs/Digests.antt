@@ -16,8 +16,9 @@ use Rattle.text_json.specs.Bytes.{between, isHex, hexValue}
 use Rattle.text_chars.specs.Measure.{every}
 use Rattle.text_json.proofs.ByteTests.{or-cases, between-true, hex-below}
 use Rattle.reference_parts.specs.Hex.{isLowerHex}
+use Rattle.text_json.specs.Bytes.{AllBytes}
 use Rattle.reference_digests.specs.Algorithms.{digestBytes, hexDigits, byteOf, nameOf, named, numbered}
-use Rattle.reference_digests.specs.Digests.{isDigest, digestOf, hexDigit, hexOf, AllBytes}
+use Rattle.reference_digests.specs.Digests.{isDigest, digestOf, hexDigit, hexOf}
 use Rattle.reference_digests.specs.declared.algorithm.Algorithm.{Algorithm}
 use Rattle.reference_digests.specs.declared.algorithm.Algorithm.the-variants.{Sha224, Sha256, Sha384}
 use Rattle.reference_digests.specs.declared.algorithm.Known.the-variants.{Is, Unknown}

@@ -14,7 +14,7 @@ use Rattle.laws.proofs.Order.{by-test}
 use Rattle.text_json.specs.Bytes.{hexValue}
 use Rattle.text_chars.specs.Measure.{every}
 use Rattle.text_json.proofs.Places.{drop-next}
-use Rattle.text_strings.specs.Cursor.{Left, Gives, heldBytes}
+use Rattle.text_strings.specs.Cursor.{Left, GivesByte, heldBytes}
 use Rattle.text_strings.specs.InString.{Inside, contentFrom}
 use Rattle.text_strings.specs.declared.Cursor.{Cursor}
 use Rattle.text_strings.specs.declared.Next.{Next}
@@ -205,14 +205,14 @@ other-bytes a c bytes e n =
     not-same (digestOf (firstPart c)) bytes (λ q. n (sym (ap length q) ∙ digest-length a (firstPart c) e))
 
 -- the next byte of a content that is not empty, before a cursor
-pub next-byte : (s c : List ℕ) (n : Next) → Gives s c n → 1 ≤ length c → (d : List ℕ) × (c ≡ n .byte ∷ d) × Left s (n .rest) d
+pub next-byte : (s c : List ℕ) (n : Next) → GivesByte s c n → 1 ≤ length c → (d : List ℕ) × (c ≡ n .byte ∷ d) × Left s (n .rest) d
 next-byte s c n g h =
     by-test (n .found)
     (λ e. given-byte s c n e g)
     (λ e. absurd (omega (arith, ap length (given-end s c n e g))))
 
 -- Of a content of at least two bytes a cursor gives the first two, one after the other, and the rest lies before it.
-pub next-bytes : (s r : List ℕ) (x y : Next) → Gives s r x → ((d : List ℕ) → Left s (x .rest) d → Gives s d y) → 2 ≤ length r
+pub next-bytes : (s r : List ℕ) (x y : Next) → GivesByte s r x → ((d : List ℕ) → Left s (x .rest) d → GivesByte s d y) → 2 ≤ length r
     → (q : List ℕ) × (r ≡ x .byte ∷ y .byte ∷ q) × Left s (y .rest) q
 next-bytes s r x y g f h =
     let a = next-byte s r x g (omega arith) in

@@ -1,9 +1,9 @@
 -- Digests as lower-case hexadecimal digits, and the bytes that they stand for (document 01, "References, names and rules").
-use Prim.Native.Nat.{ℕ, _+_, _*_, _/_, _%_, _<_}
+use Prim.Native.Nat.{ℕ, _+_, _*_, _/_, _%_}
 use mathlib.Core.List.{List, [], _∷_}
 use mathlib.Core.Bool.{Bool, true, false, _&&_}
 use lib.Dec.{ltb, eqb}
-use lib.ListN.{length, getD}
+use lib.ListN.{length}
 use Rattle.text_json.specs.Bytes.{hexValue}
 use Rattle.text_chars.specs.Measure.{every}
 use Rattle.reference_parts.specs.Hex.{isLowerHex}
@@ -27,7 +27,3 @@ hexDigit n = elim (ltb n 10) [ true ↦ 0x30 + n | false ↦ 0x57 + n ]
 unfoldable pub hexOf : List ℕ → List ℕ
 hexOf [] = []
 hexOf (b ∷ d) = hexDigit (b / 16) ∷ hexDigit (b % 16) ∷ hexOf d
-
--- each number of the list is a byte
-abbrev pub AllBytes : List ℕ → Type 0
-AllBytes d = (k : ℕ) → getD d k 0 < 256

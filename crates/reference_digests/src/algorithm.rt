@@ -2,8 +2,8 @@
 ghost use mathlib.Core.Path.{_≡_};
 ghost use Prim.Native.Nat.{_<_};
 ghost use lib.ListN.{length};
-ghost use Rattle.text_strings.specs.InString.{Inside, contentFrom};
 ghost use Rattle.reference_parts.specs.Parts.{firstPart};
+ghost use Rattle.reference_parts.specs.Readings.{partsFrom, HasPart};
 ghost use Rattle.reference_digests.specs.Algorithms.{digestBytes, hexDigits, byteOf, named as namedBy, numbered};
 
 pub enum Algorithm {
@@ -73,18 +73,18 @@ impl Algorithm {
     }
 }
 
-// The algorithm that the part at position i names; the part has `len` bytes.
-pub fn named(s: &[u8], i: usize, len: usize) -> Known
-    requires { ⌜ Inside (now s) i × (len ≡ length (firstPart (contentFrom (now s) i))) ⌝ }
-    ensures { λ r. ⌜ r ≡ namedBy (firstPart (contentFrom (now (s .entry)) i)) ⌝ }
+// The algorithm that the part at position i names, of plain bytes or of a string of a JSON text; the part has `len` bytes.
+pub fn named(s: &[u8], plain: bool, i: usize, len: usize) -> Known
+    requires { ⌜ HasPart plain (now s) i len ⌝ }
+    ensures { λ r. ⌜ r ≡ namedBy (firstPart (partsFrom plain (now (s .entry)) i)) ⌝ }
 {
-    if reference_parts::part::is(s, i, len, b"sha224") {
+    if reference_parts::part::is_named(s, plain, i, len, b"sha224") {
         return Known::Is(Algorithm::Sha224);
     }
-    if reference_parts::part::is(s, i, len, b"sha256") {
+    if reference_parts::part::is_named(s, plain, i, len, b"sha256") {
         return Known::Is(Algorithm::Sha256);
     }
-    if reference_parts::part::is(s, i, len, b"sha384") {
+    if reference_parts::part::is_named(s, plain, i, len, b"sha384") {
         return Known::Is(Algorithm::Sha384);
     }
     Known::Unknown

@@ -9,16 +9,16 @@ use native.Mathlib.Nat.{add-zero}
 use borrow.Author.Tests.{leb-true, le-leb, lt-leb, eqb-false, not-true}
 use lib.Dec.{leb, eqb}
 use lib.ListN.{length, take, drop, getD, length-drop, length-take, length-append}
-use lib.Seq.{take-suc, getD-drop, getD-take, append-snoc}
+use lib.Seq.{take-suc, getD-drop, append-snoc}
 use Rattle.text_chars.specs.Measure.{every, isNot, isUnmarked}
-use Rattle.text_chars.proofs.Plain.{every-at, unmarked}
+use Rattle.text_chars.proofs.Plain.{unmarked-at}
 use Rattle.text_strings.specs.InString.{Inside, contentFrom}
 use Rattle.text_strings.proofs.Positions.{goes-on as over-byte}
 use Rattle.reference_parts.specs.Hex.{isLowerHex}
 use Rattle.reference_parts.specs.Parts.{isDivided, isBlock}
 use Rattle.reference_parts.specs.Readings.{StartAt}
 use Rattle.reference_parts.specs.declared.part.Start.{Start}
-use Rattle.reference_parts.proofs.Counting.{Progress, every-append, divided-on, divided-append}
+use Rattle.reference_parts.proofs.Counting.{DigitsCounted, every-append, divided-on, divided-append}
 
 -- the test, by how many bytes are left
 pub few-left : (s : List ℕ) → length s < 16 → false ≡ isBlock s
@@ -48,17 +48,12 @@ no-divider (x ∷ xs) e =
 
 -- n bytes of a text that end no string and begin no escape are n bytes of the content
 module _ (s : List ℕ) (k n : ℕ) (h : n ≤ length (drop k s)) (e : every isUnmarked (take n (drop k s)) ≡ true) where
-  unmarked-at : (m : ℕ) → m < n → (getD s (k + m) 0 ≡ 0x22 → ⊥) × (getD s (k + m) 0 ≡ 0x5C → ⊥)
-  unmarked-at m l =
-      let w : m < length (take n (drop k s)) = omega (arith, length-take n (drop k s)) in
-      unmarked (getD s (k + m) 0) (rw (getD-take n (drop k s) m 0 l, getD-drop k s m 0) at (every-at isUnmarked (take n (drop k s)) m e w))
-
   -- In a string, the first `m` of these bytes are the start of the content, and the string goes on behind them.
   pub upto : Inside s k → (m : ℕ) → m ≤ n → (contentFrom s k ≡ take m (drop k s) ++ contentFrom s (k + m)) × Inside s (k + m)
   upto p zero l = (ap (contentFrom s) (sym (add-zero k)), subst (Inside s) (sym (add-zero k)) p)
   upto p (suc m) l =
       let q = upto p m (omega arith) in
-      let u = unmarked-at m (omega arith) in
+      let u = unmarked-at s k n h e m (omega arith) in
       let g = over-byte s (k + m) (q .1) (u .0) (u .1) in
       let w : m < length (drop k s) = omega arith in
       let f : k + m + 1 ≡ k + suc m = omega arith in (
@@ -99,6 +94,6 @@ module _ (s : List ℕ) (i k : ℕ) (hex : Bool) (p : StartAt s i (record { next
       }
 
 -- a loop over the part goes on behind them
-pub begun : (s : List ℕ) (i : ℕ) (b : Start) → StartAt s i b → Progress (contentFrom s i) (contentFrom s (b .next)) (b .next - i) (b .hex)
+pub begun : (s : List ℕ) (i : ℕ) (b : Start) → StartAt s i b → DigitsCounted (contentFrom s i) (contentFrom s (b .next)) (b .next - i) (b .hex)
 begun s i b p =
     record { done = p .bytes; content = p .begins; undivided = p .undivided; size = omega (arith, p .size); digits = p .hex }

@@ -3,7 +3,7 @@
 use Prim.Native.Nat.{ℕ, _+_, _%_, _<_, _≤_}
 use mathlib.Core.Path.{_≡_, refl, sym, ap, _∙_}
 use mathlib.Core.List.{List, [], _∷_, _++_, append-nil, append-assoc}
-use mathlib.Core.Bool.{Bool, true, false, not, _&&_, _||_, and-true, or-true}
+use mathlib.Core.Bool.{Bool, true, false, not, _&&_, _||_, and-true, and-assoc, or-true}
 use native.Mathlib.Omega.{arith}
 use native.Mathlib.Numerals.{add-one}
 use borrow.Author.Tests.{le-leb, lt-leb, eq-eqb, ne-eqb, eqb-true, eqb-false, ltb-false}
@@ -24,15 +24,11 @@ use Rattle.reference_parts.specs.Readings.{Counts, CharAt, PartAt}
 use Rattle.reference_parts.specs.declared.part.Char.{Char}
 
 -- a test of each byte, of two lists
-and-assoc : (a b c : Bool) → a && (b && c) ≡ (a && b) && c
-and-assoc true b c = refl
-and-assoc false b c = refl
-
 -- A test holds of each byte of two lists together exactly if it holds of each byte of both.
 pub every-append : (p : ℕ → Bool) (xs ys : List ℕ) → every p (xs ++ ys) ≡ every p xs && every p ys
 unfolding every
 every-append p [] ys = refl
-every-append p (x ∷ xs) ys = ap (λ (t : Bool). p x && t) (every-append p xs ys) ∙ and-assoc (p x) (every p xs) (every p ys)
+every-append p (x ∷ xs) ys = ap (λ (t : Bool). p x && t) (every-append p xs ys) ∙ sym (and-assoc (p x) (every p xs) (every p ys))
 
 -- one step of the definitions of the parts, at a `/` and at any other byte
 module _ (b : ℕ) (s : List ℕ) where
@@ -198,7 +194,7 @@ hex-encode c =
     (λ f. rw f (by-test (ltb c 0x10000) (λ g. rw g (every-high c _ _ h (omega arith))) (λ g. rw g (every-high c _ _ h (omega arith)))))))
 
 -- Of the content c the rest r is left: n bytes are read, none of them a `/`, and `hex` says whether all of them are digits.
-pub record Progress (c r : List ℕ) (n : ℕ) (hex : Bool) : Type 0 where
+pub record DigitsCounted (c r : List ℕ) (n : ℕ) (hex : Bool) : Type 0 where
   pub done : List ℕ
   pub content : c ≡ done ++ r
   pub undivided : isDivided done ≡ false
@@ -206,14 +202,14 @@ pub record Progress (c r : List ℕ) (n : ℕ) (hex : Bool) : Type 0 where
   pub digits : hex ≡ every isLowerHex done
 
 -- At the start no byte is read and the whole content is left.
-pub start : (c : List ℕ) → Progress c c 0 true
+pub start : (c : List ℕ) → DigitsCounted c c 0 true
 unfolding isDivided every
 start c = record { done = []; content = refl; undivided = refl; size = refl; digits = refl }
 
-module _ (c r : List ℕ) (n : ℕ) (hex : Bool) (p : Progress c r n hex) where
+module _ (c r : List ℕ) (n : ℕ) (hex : Bool) (p : DigitsCounted c r n hex) where
   -- some bytes more, none of them a `/`
   pub goes-on : (b q : List ℕ) → r ≡ b ++ q → isDivided b ≡ false → (m : ℕ) → m ≡ length b → (t : Bool) → t ≡ every isLowerHex b
-      → Progress c q (n + m) (hex && t)
+      → DigitsCounted c q (n + m) (hex && t)
   goes-on b q e u m k t h = record {
     done = p .done ++ b;
     content = p .content ∙ ap (λ (l : List ℕ). p .done ++ l) e ∙ sym (append-assoc (p .done) b q);
@@ -223,7 +219,7 @@ module _ (c r : List ℕ) (n : ℕ) (hex : Bool) (p : Progress c r n hex) where
   }
 
   -- Reading goes on over one byte that is no `/`.
-  pub goes-on-byte : (b : ℕ) (q : List ℕ) → r ≡ b ∷ q → (b ≡ 0x2F → ⊥) → (t : Bool) → t ≡ isLowerHex b → Progress c q (n + 1) (hex && t)
+  pub goes-on-byte : (b : ℕ) (q : List ℕ) → r ≡ b ∷ q → (b ≡ 0x2F → ⊥) → (t : Bool) → t ≡ isLowerHex b → DigitsCounted c q (n + 1) (hex && t)
   goes-on-byte b q e u t h = goes-on (b ∷ []) q e (undivided-one b u) 1 refl t (h ∙ sym (every-one b))
 
   -- what is read and what is left is the whole
@@ -305,7 +301,7 @@ module _ (s : List ℕ) (k : ℕ) (p : Inside s k) where
       }
 
 -- The part at position i of a string's content is read up to position k.
-module _ (s : List ℕ) (i k n : ℕ) (hex : Bool) (p : Progress (contentFrom s i) (contentFrom s k) n hex) where
+module _ (s : List ℕ) (i k n : ℕ) (hex : Bool) (p : DigitsCounted (contentFrom s i) (contentFrom s k) n hex) where
   -- the content ends there
   pub at-mark : Inside s k → getD s k 0 ≡ 0x22 → PartAt s i (record { next = k; length = n; hex = hex; last = true })
   at-mark h e =
@@ -321,7 +317,7 @@ module _ (s : List ℕ) (i k n : ℕ) (hex : Bool) (p : Progress (contentFrom s 
 
     -- Reading goes on over a character that is no `/`, by the bytes that it has.
     pub over-char : (u .scalar ≡ 0x2F → ⊥) → (t : Bool) → t ≡ isLowerHex (u .scalar)
-        → Progress (contentFrom s i) (contentFrom s (u .next)) (n + u .length) (hex && t)
+        → DigitsCounted (contentFrom s i) (contentFrom s (u .next)) (n + u .length) (hex && t)
     over-char d t e = goes-on _ _ _ _ p (x .bytes) _ (x .begins) (x .no-divider d) (u .length) (x .size) t (e ∙ sym (x .hex))
 
     -- the content is shorter than the text

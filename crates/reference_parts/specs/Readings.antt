@@ -2,7 +2,7 @@
 use Prim.Native.Nat.{ℕ, _+_, _≤_, _<_}
 use mathlib.Core.Path.{_≡_}
 use mathlib.Core.List.{List, [], _∷_, _++_}
-use mathlib.Core.Bool.{false, not}
+use mathlib.Core.Bool.{Bool, true, false, not}
 use lib.ListN.{length, drop}
 use Rattle.text_chars.specs.Measure.{every}
 use Rattle.text_strings.specs.InString.{Inside, contentFrom}
@@ -56,3 +56,13 @@ pub record Divided (s : List ℕ) (i : ℕ) (p q : Part) : Type 0 where
 pub record PlainPart (s : List ℕ) (i : ℕ) (p : Part) : Type 0 where
   pub counts : Counts (drop i s) p
   pub rest : drop (p .next) s ≡ afterPart (drop i s)
+
+-- what is divided into parts from position i on: the bytes as they are, or the content of a string of a JSON text
+abbrev pub partsFrom : (plain : Bool) → List ℕ → ℕ → List ℕ
+partsFrom true s i = drop i s
+partsFrom false s i = contentFrom s i
+
+-- the first of these parts has so many bytes
+abbrev pub HasPart : (plain : Bool) → List ℕ → ℕ → ℕ → Type 0
+HasPart true s i len = (i ≤ length s) × (len ≡ length (firstPart (drop i s)))
+HasPart false s i len = Inside s i × (len ≡ length (firstPart (contentFrom s i)))

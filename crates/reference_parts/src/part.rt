@@ -5,11 +5,11 @@ ghost use Prim.Native.Nat.{ℕ, _≤_, _+_};
 ghost use lib.ListN.{length, take, drop, getD};
 ghost use Rattle.laws.specs.Order.{same};
 ghost use Rattle.text_chars.specs.Measure.{every};
-ghost use Rattle.text_strings.specs.Cursor.{Left, Readable};
+ghost use Rattle.text_strings.specs.Cursor.{Left, ReadableCursor};
 ghost use Rattle.text_strings.specs.InString.{Inside, contentFrom};
 ghost use Rattle.reference_parts.specs.Hex.{isLowerHex};
 ghost use Rattle.reference_parts.specs.Parts.{firstPart, isBlock};
-ghost use Rattle.reference_parts.specs.Readings.{CharAt, StartAt, PartAt, PlainPart};
+ghost use Rattle.reference_parts.specs.Readings.{CharAt, StartAt, PartAt, PlainPart, partsFrom, HasPart};
 use text_strings::Cursor;
 
 // What is counted of a part: its bytes, whether all of them are lower-case hexadecimal digits, and whether it is the last part. The
@@ -41,7 +41,7 @@ fn undivided16(s: &[u8], at: usize) -> bool
     if s.len() - at < 16 {
         return false;
     }
-    text_chars::unmarked16(s, at) & text_chars::none_is(s, at, b'/')
+    text_chars::unmarked(s, at, 16) & text_chars::none_is(s, at, 16, b'/')
 }
 
 // The sixteen bytes at `at` are lower-case hexadecimal digits.
@@ -161,7 +161,7 @@ fn begins(s: &[u8], i: usize, name: &[u8]) -> bool
 
 // The same from byte `at` of the name on, for a content whose bytes before the cursor are those of the name.
 fn cursor_begins(s: &[u8], from: Cursor, name: &[u8], at: usize) -> bool
-    requires { ⌜ Readable (now s) from ⌝ }
+    requires { ⌜ ReadableCursor (now s) from ⌝ }
     ensures { λ r. ⌜ ((c d : List ℕ) → Left (now (s .entry)) from d → c ≡ take at (now (name .entry)) ++ d
         → r ≡ same (take (length (now (name .entry))) c) (now (name .entry))) ⌝ }
 {
@@ -223,7 +223,7 @@ pub fn read_plain(s: &[u8], i: usize) -> Part
 }
 
 // The part at position i of plain bytes, which has `len` bytes, is `name`.
-pub fn is_plain(s: &[u8], i: usize, len: usize, name: &[u8]) -> bool
+fn is_plain(s: &[u8], i: usize, len: usize, name: &[u8]) -> bool
     requires { ⌜ (i ≤ length (now s)) × (len ≡ length (firstPart (drop i (now s)))) ⌝ }
     ensures { λ r. ⌜ r ≡ same (firstPart (drop i (now (s .entry)))) (now (name .entry)) ⌝ }
 {
@@ -238,4 +238,15 @@ pub fn is_plain(s: &[u8], i: usize, len: usize, name: &[u8]) -> bool
         k += 1;
     }
     true
+}
+
+// The part at position i, which has `len` bytes, is `name`: of plain bytes, or of a string of a JSON text.
+pub fn is_named(s: &[u8], plain: bool, i: usize, len: usize, name: &[u8]) -> bool
+    requires { ⌜ HasPart plain (now s) i len ⌝ }
+    ensures { λ r. ⌜ r ≡ same (firstPart (partsFrom plain (now (s .entry)) i)) (now (name .entry)) ⌝ }
+{
+    if plain {
+        return is_plain(s, i, len, name);
+    }
+    is(s, i, len, name)
 }

@@ -5,9 +5,8 @@ use mathlib.Core.Bool.{true, false}
 use mathlib.Core.List.{List}
 use native.Mathlib.Omega.{arith}
 use lib.Dec.{ltb, eqb}
-use lib.ListN.{length, drop, length-take, length-drop}
+use lib.ListN.{length, length-take}
 use lib.Seq.{take-all}
-use borrow.Rule.Slice.PartMut.{midOf}
 use borrow.Author.Tests.{lt-ltb, le-ltb, ltb-true, ltb-false, eq-eqb, ne-eqb}
 use Rattle.laws.proofs.Order.{by-test}
 use Rattle.store.specs.Load.{loadNumber, loadUsed, loadBytes, bytesAfter}
@@ -93,7 +92,3 @@ cut-answer line buffer used =
     let h : length line ≤ mostLine = ltb-false _ _ t in
     let e : cut line ≡ line = take-all (mostLine + 1) line (omega arith) in
     (ap (λ (l : List ℕ). lineNumber l buffer used) e, (ap (λ (l : List ℕ). lineUsed l buffer used) e, ap (λ (l : List ℕ). lineBytes l buffer used) e)))
-
--- What is left of a line from a place on, as a part that is lent.
-pub part-left : (line : List ℕ) (p : ℕ) → midOf p (length line - p) line ≡ drop p line
-part-left line p = take-all (length line - p) (drop p line) (omega (arith, length-drop p line))

@@ -1,5 +1,5 @@
 -- The bytes before and after the first of a kind: step by step, and by their number.
-use Prim.Native.Nat.{ℕ, suc, _+_, _-_, _≤_, _<_}
+use Prim.Native.Nat.{ℕ, zero, suc, _+_, _-_, _≤_, _<_}
 use mathlib.Core.Path.{_≡_, refl, sym, ap, _∙_}
 use mathlib.Core.Bool.{true, false}
 use mathlib.Core.List.{List, [], _∷_}
@@ -10,6 +10,7 @@ use lib.ListN.{length, take, drop, getD, length-drop}
 use lib.Seq.{drop-cons}
 use borrow.Author.Tests.{eq-eqb, ne-eqb, lt-ltb, le-ltb, ltb-true, ltb-false}
 use Rattle.laws.proofs.Order.{by-test}
+use Rattle.lines.specs.First.{FirstFrom}
 use Rattle.report_text.specs.Lines.{before, after, has}
 
 module _ (x : ℕ) where
@@ -85,18 +86,37 @@ module _ (x : ℕ) where
           (λ e. lt-ltb (suc m) (suc n) (omega (arith, ltb-true m n e)) ∙ sym e)
           (λ e. le-ltb (suc m) (suc n) (omega (arith, ltb-false m n e)) ∙ sym e)
 
--- At a place of a text: how many bytes come before the first x.
+-- how many bytes come before the first x: at an x none, at any other byte one more than from the next place on, and at the end none
 module _ (x : ℕ) (s : List ℕ) (i : ℕ) where
-  -- At an x, no byte comes before the first x.
-  pub found-here : i < length s → getD s i 0 ≡ x → length (before x (drop i s)) ≡ 0
+  found-here : i < length s → getD s i 0 ≡ x → length (before x (drop i s)) ≡ 0
   found-here h e = ap (λ (l : List ℕ). length (before x l)) (drop-cons s i 0 h) ∙ ap length (before-here x _ _ (eq-eqb _ _ e))
 
-  -- At any other byte, one more byte comes before the first x than from the next position on.
-  pub found-later : i < length s → (getD s i 0 ≡ x → ⊥) → length (before x (drop i s)) ≡ suc (length (before x (drop (i + 1) s)))
+  found-later : i < length s → (getD s i 0 ≡ x → ⊥) → length (before x (drop i s)) ≡ suc (length (before x (drop (i + 1) s)))
   found-later h n =
       ap (λ (l : List ℕ). length (before x l)) (drop-cons s i 0 h) ∙ ap length (before-next x _ _ (ne-eqb _ _ n))
       ∙ ap (λ (k : ℕ). suc (length (before x (drop k s)))) (sym (add-one i))
 
-  -- At the end of the text or past it, no byte comes before the first x.
-  pub found-never : length s ≤ i → length (before x (drop i s)) ≡ 0
+  found-never : length s ≤ i → length (before x (drop i s)) ≡ 0
   found-never h = omega (arith, before-within x (drop i s), length-drop i s)
+
+first-counted : (x : ℕ) (s : List ℕ) (n at r : ℕ) → FirstFrom s at x r → r ≡ at + n → r ≡ at + length (before x (drop at s))
+first-counted x s zero at r f e =
+    let q : at ≡ r = omega arith in
+    by-test (ltb at (length s))
+    (λ t.
+    let h = ltb-true at (length s) t in
+    omega (arith, found-here x s at h (ap (λ (k : ℕ). getD s k 0) q ∙ f .found (omega (arith, h)))))
+    (λ t. omega (arith, found-never x s at (ltb-false at (length s) t)))
+first-counted x s (suc n) at r f e =
+    let h : at < length s = omega (arith, f .within) in
+    let later : FirstFrom s (at + 1) x r = record {
+      start = omega arith;
+      within = f .within;
+      before = λ k l m. f .before k (omega arith) m;
+      found = f .found;
+    } in
+    omega (arith, first-counted x s n (at + 1) r later (omega arith), found-later x s at h (f .before at (omega arith) (omega arith)))
+
+-- The first x from a place on stands after the bytes that come before it.
+pub first-before : {x : ℕ} {s : List ℕ} {at r : ℕ} → FirstFrom s at x r → r ≡ at + length (before x (drop at s))
+first-before {x} {s} {at} {r} f = first-counted x s (r - at) at r f (omega (arith, f .start))

@@ -5,7 +5,7 @@ ghost use Prim.Native.Nat.{_+_, _≤_, min};
 ghost use mathlib.Core.Path.{_≡_};
 ghost use lib.ListN.{length, drop};
 ghost use lib.Seq.{paste};
-ghost use Rattle.report_text.specs.Lines.{before, mostLine};
+ghost use Rattle.report_text.specs.Lines.{mostLine};
 ghost use Rattle.report_text.specs.Parts.{Divides, Takes};
 
 // As many bytes are kept of a line: one more than it may have, so that a line that is too long is known by them.
@@ -23,21 +23,6 @@ pub fn line_buffer() -> [u8; KEPT]
     ensures { λ r. ⌜ mostLine + 1 ≡ length r ⌝ }
 {
     [0; KEPT]
-}
-
-// Where the first such byte is, from `at` on; the length where there is none.
-fn find(s: &[u8], at: usize, mark: u8) -> usize
-    requires { ⌜ at ≤ length (now s) ⌝ }
-    ensures { λ r. ⌜ (r ≡ at + length (before mark (drop at (now (s .entry))))) × (r ≤ length (now (s .entry))) ⌝ }
-{
-    let mut i = at;
-    while i < s.len() {
-        if s[i] == mark {
-            return i;
-        }
-        i += 1;
-    }
-    i
 }
 
 fn least(a: usize, b: usize) -> usize
@@ -63,7 +48,7 @@ pub struct Divided {
 pub fn divide(line: &[u8]) -> Divided
     ensures { λ r. ⌜ Divides (now (line .entry)) r ⌝ }
 {
-    let end = find(line, 0, b' ');
+    let end = lines::find(line, 0, b' ');
     let start = past(line, end);
     Divided { end, start }
 }
@@ -86,7 +71,7 @@ pub fn take_part(kept: &mut [u8], size: usize, part: &[u8], at: usize) -> Taken
     requires { ⌜ (size ≤ length (now kept)) × (at ≤ length (now part)) ⌝ }
     ensures { λ r. ⌜ Takes (now (kept .entry)) size (now (part .entry)) at r (now (kept .exit)) ⌝ }
 {
-    let end = find(part, at, b'\n');
+    let end = lines::find(part, at, b'\n');
     let next = past(part, end);
     let n = least(end - at, kept.len() - size);
     copy(part, at, kept, size, n);

@@ -5,12 +5,12 @@ use mathlib.Core.List.{List, [], _∷_, _++_, append-nil}
 use mathlib.Core.Bool.{Bool, true, false, _||_}
 use mathlib.Core.Option.{Option, none, some}
 use native.Mathlib.Omega.{arith}
-use borrow.Author.Tests.{eqb-true, eqb-false, leb-false, ltb-false, eq-eqb}
+use borrow.Author.Tests.{eqb-true, eqb-false, eq-eqb}
 use lib.Dec.{eqb}
 use lib.ListN.{length, length-append}
 use Rattle.laws.specs.Any.{anyOf, anyPair}
-use Rattle.laws.proofs.Any.{or-none, any-both, any-pointwise}
-use Rattle.laws.proofs.Order.{by-test, false-true}
+use Rattle.laws.proofs.Any.{any-both, any-pointwise}
+use Rattle.laws.proofs.Order.{by-test}
 use Rattle.text.specs.Answer.{form}
 use Rattle.text.specs.Question.{lowest}
 use Rattle.text.proofs.Forms.{form-canonical}
@@ -22,15 +22,16 @@ use Rattle.manifest.proofs.Canonical.{form-number}
 use Rattle.store_record.specs.Image.{Image}
 use Rattle.store_record.specs.Ids.{shareId, idTwice}
 use Rattle.store_record.specs.Record.{recordOf}
-use Rattle.store_record.specs.Store.{mostImages, storeOf, AllShaped, none-shaped, shaped}
+use Rattle.store_record.specs.Store.{storeOf, AllShaped, none-shaped, shaped}
 use Rattle.store_record.proofs.Sharing.{share-id-sym}
 use Rattle.store_record.proofs.Stores.{store-both}
 use Rattle.store_keys.specs.Clash.{clash, anyClash}
 use Rattle.store_conflict.proofs.Clashing.{Single, clash-sym}
-use Rattle.store_open.specs.Held.{isUnfit, areUnsound, isBroken, among}
-use Rattle.store.specs.Load.{imageOf, isNoId, noSpace, storeQuestions, imageQuestions, loadQuestions}
+use Rattle.store_open.specs.Held.{isUnfit, areUnsound}
+use Rattle.store.specs.Load.{imageOf, isNoId, storeQuestions, imageQuestions, loadQuestions}
 use Rattle.store_open.proofs.Holding.{shaped-single, parts-sound, sound-parts}
 use Rattle.store.proofs.Images.{shaped-image}
+use Rattle.store.proofs.Steps.{unread-asked, none-of-store}
 
 -- what is known of a load that gets the number 0, of images in a buffer of that size
 pub record Accepted (size : ℕ) (xs : List Image) (id manifest : List ℕ) : Type 0 where
@@ -62,30 +63,22 @@ module _ (size : ℕ) (images : Option (List Image)) (id manifest : List ℕ) (e
 
 -- A load of a store that cannot be read is refused.
 pub unread-refused : (size : ℕ) (id manifest : List ℕ) → lowest (loadQuestions size none id manifest) ≡ 0 → ⊥
-unfolding storeQuestions isBroken
-unread-refused size id manifest e =
-    let a = none-asked _ _ (omega arith) (of-store size none id manifest e .1) in false-true (sym (a .0))
+unread-refused size id manifest e = unread-asked size (imageOf id manifest) (of-store size none id manifest e .1)
 
 -- A load gets the number 0 only if all of this holds.
 pub accepted : (size : ℕ) (xs : List Image) (id manifest : List ℕ) → lowest (loadQuestions size (some xs) id manifest) ≡ 0
     → Accepted size xs id manifest
-unfolding storeQuestions isBroken among noSpace
 accepted size xs id manifest e =
-    let x = imageOf id manifest in
     let k = of-store size (some xs) id manifest e in
-    let a = none-asked _ _ (omega arith) (k .1) in
-    let b = none-asked _ _ (omega arith) (a .1) in
-    let c = none-asked _ _ (omega arith) (b .1) in
-    let d = none-asked _ _ (omega arith) (c .1) in
-    let s = or-none _ _ (d .0) in
+    let s = none-of-store size (imageOf id manifest) xs (k .1) in
     record {
       good = good-manifest size (some xs) id manifest e;
       known = k .0;
-      sound = a .0;
-      new = b .0;
-      apart = c .0;
-      few = leb-false mostImages (length xs) (s .0);
-      fits = ltb-false (size - length (storeOf xs)) (length (recordOf x)) (s .1);
+      sound = s .0;
+      new = s .1;
+      apart = s .2;
+      few = s .3;
+      fits = s .4;
     }
 
 regrouped : (a b c d : Bool) → ((a || (b || false)) || (c || d)) ≡ ((a || c) || (b || d))

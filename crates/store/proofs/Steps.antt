@@ -5,10 +5,11 @@ use mathlib.Core.List.{List, _++_}
 use mathlib.Core.Bool.{true, false}
 use mathlib.Core.Option.{Option, none, some}
 use native.Mathlib.Omega.{arith}
-use borrow.Author.Tests.{le-leb, lt-leb, ne-eqb, ltb-false}
-use lib.Dec.{eqb, leb, ltb}
+use borrow.Author.Tests.{lt-leb, ne-eqb, leb-false, ltb-false}
+use lib.Dec.{eqb}
 use lib.ListN.{length, take, getD}
 use lib.Seq.{take-at, length-take-le}
+use Rattle.laws.specs.Any.{anyOf}
 use Rattle.laws.proofs.Any.{or-none}
 use Rattle.laws.proofs.Order.{false-true}
 use Rattle.text.specs.Answer.{form}
@@ -25,11 +26,13 @@ use Rattle.manifest.specs.declared.Fault.{Fault}
 use Rattle.manifest.specs.declared.Fault.the-variants.{Text, BadField, BadForm, RepeatedAlias}
 use Rattle.manifest.proofs.Asking.{asked-first, asked-next, none-asked, asked-after, asked-of-manifest}
 use Rattle.store_record.specs.Image.{Image}
+use Rattle.store_record.specs.Ids.{shareId}
 use Rattle.store_record.specs.Record.{recordOf}
 use Rattle.store_record.specs.Store.{mostImages, storeOf, readRecords}
 use Rattle.store_record.proofs.Stores.{store-read}
-use Rattle.store_open.proofs.Holding.{first-bytes}
-use Rattle.store_open.specs.Held.{held, isBroken, among}
+use Rattle.store_keys.specs.Clash.{clash}
+use Rattle.store_open.proofs.Holding.{first-bytes, held-in-use}
+use Rattle.store_open.specs.Held.{held, areUnsound, isBroken, among}
 use Rattle.store.specs.Load.{imageOf, isNoId, noSpace, storeQuestions, imageQuestions, loadQuestions, loadNumber, usedAfter, bytesAfter, loadUsed}
 use Rattle.store.specs.Load.{loadBytes}
 use Rattle.store.specs.Loading.{Loads}
@@ -48,6 +51,24 @@ module _ {x : Image} {buffer : List ℕ} {used : ℕ} {r : Answer} {after : List
   pub loads-as : m ≡ n → Loads m x buffer used r after → Loads n x buffer used r after
   loads-as e l = subst (λ (k : ℕ). Loads k x buffer used r after) e l
 
+module _ (size : ℕ) (x : Image) where
+  -- Where nothing can be read, a question of the store applies.
+  pub unread-asked : lowest (storeQuestions size none x) ≡ 0 → ⊥
+  unfolding storeQuestions isBroken
+  unread-asked e = false-true (sym (none-asked _ _ (omega arith) e .0))
+
+  -- Where no question of the store applies, it is sound, the image is new and clashes with none, and there is space for it.
+  pub none-of-store : (xs : List Image) → lowest (storeQuestions size (some xs) x) ≡ 0
+      → (areUnsound size xs ≡ false) × (anyOf (shareId x) xs ≡ false) × (anyOf (clash x) xs ≡ false) × (length xs < 64)
+      × (length (recordOf x) ≤ size - length (storeOf xs))
+  unfolding storeQuestions isBroken among noSpace
+  none-of-store xs e =
+      let a = none-asked _ _ (omega arith) e in
+      let b = none-asked _ _ (omega arith) (a .1) in
+      let c = none-asked _ _ (omega arith) (b .1) in
+      let s = or-none _ _ (none-asked _ _ (omega arith) (c .1) .0) in
+      (a .0, b .0, c .0, leb-false mostImages (length xs) (s .0), ltb-false (size - length (storeOf xs)) (length (recordOf x)) (s .1))
+
 module _ (x : Image) (buffer : List ℕ) (used : ℕ) where
   -- Nothing is held where more bytes are in use than there are.
   pub past-number : length buffer < used → lowest (storeQuestions (length buffer) (held buffer used) x) ≡ 11
@@ -55,36 +76,25 @@ module _ (x : Image) (buffer : List ℕ) (used : ℕ) where
   past-number h = asked-first _ _ (rw (lt-leb used (length buffer) h, held))
 
   module _ (h : used ≤ length buffer) where
-    held-within : held buffer used ≡ readRecords mostImages (take used buffer)
-    unfolding held
-    held-within = rw (le-leb used (length buffer) h, held)
-
     -- Questions of the bytes in use, with those that are left, are questions of the buffer.
     pub number-within : (left : ℕ) → left ≡ length buffer - used
         → lowest (storeQuestions (length (take used buffer) + left) (readRecords mostImages (take used buffer)) x)
         ≡ lowest (storeQuestions (length buffer) (held buffer used) x)
     number-within left l =
         let e : length (take used buffer) + left ≡ length buffer = omega (arith, length-take-le used buffer h) in
-        rw (e, held-within)
+        rw (e, held-in-use buffer used h)
 
     module _ (b : (k : ℕ) → getD buffer k 0 < 256) (e : lowest (storeQuestions (length buffer) (held buffer used) x) ≡ 0) where
       space : (o : Option (List Image)) → readRecords mostImages (take used buffer) ≡ o → lowest (storeQuestions (length buffer) o x) ≡ 0
           → length (recordOf x) ≤ length buffer - used
-      unfolding storeQuestions isBroken among noSpace
-      space none q z = false-true (sym (none-asked _ _ (omega arith) z .0))
+      space none q z = absurd (unread-asked (length buffer) x z)
       space (some xs) q z =
-          let i = none-asked _ _ (omega arith) z in
-          let j = none-asked _ _ (omega arith) (i .1) in
-          let k = none-asked _ _ (omega arith) (j .1) in
-          let l = none-asked _ _ (omega arith) (k .1) in
-          let s = ltb-false (length buffer - length (storeOf xs)) (length (recordOf x))
-          (or-none (leb mostImages (length xs)) (ltb (length buffer - length (storeOf xs)) (length (recordOf x))) (l .0) .1) in
           let t = ap length (store-read mostImages (take used buffer) xs (first-bytes buffer used b) q .0) in
-          omega (arith, length-take-le used buffer h)
+          omega (arith, length-take-le used buffer h, none-of-store (length buffer) x xs z .4)
 
       -- Where no question applies, there is space for the record.
       pub fits : Fits x buffer used
-      fits = record { within = h; space = space (readRecords mostImages (take used buffer)) refl (rw held-within at e) }
+      fits = record { within = h; space = space (readRecords mostImages (take used buffer)) refl (rw (held-in-use buffer used h) at e) }
 
 -- an ID, as its form was read
 module _ (size : ℕ) (images : Option (List Image)) (id text : List ℕ) where

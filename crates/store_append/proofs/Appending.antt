@@ -9,7 +9,7 @@ use Rattle.reference_digests.specs.declared.algorithm.Algorithm.{Algorithm}
 use Rattle.reference.specs.References.{image-id}
 use Rattle.store_record.specs.Record.{recordOf, headOf}
 use Rattle.store_record.proofs.Records.{head-record}
-use Rattle.store_write.proofs.Writing.{Writes}
+use Rattle.laws.specs.Writes.{Writes}
 use Rattle.store_append.specs.Append.{appended, imageWith}
 
 -- The record of an image is its head and then its text.

@@ -4,73 +4,23 @@
 use manifest::Places;
 use reference::ImageIndex;
 use reference_digests::algorithm::Algorithm;
+use store_conflict::Aliases;
 use store_record::MOST_IMAGES;
-use store_record::Record;
 use store_record::Survey;
 ghost use mathlib.Core.Path.{_≡_};
-ghost use Prim.Native.Nat.{_+_, _≤_, _<_};
+ghost use Prim.Native.Nat.{_≤_};
 ghost use lib.ListN.{length, drop};
 ghost use Rattle.laws.specs.Any.{anyOf};
-ghost use Rattle.manifest_heads.specs.Heads.{HeadsOf};
-ghost use Rattle.manifest.specs.Names.{NameSpace, SelfSorted};
+ghost use Rattle.manifest.specs.Names.{NameSpace};
 ghost use Rattle.manifest.specs.Opened.{Opens};
-ghost use Rattle.store_record.specs.Reading.{between, heldIn, imagesIn, RecordIn};
+ghost use Rattle.store_record.specs.Reading.{imagesIn};
 ghost use Rattle.store_keys.specs.Clash.{clash, anyClash};
 ghost use Rattle.store_names.specs.Opened.{OpenedStore};
 ghost use Rattle.store_keys.specs.Signed.{one, sharesWith};
 ghost use Rattle.store_conflict.specs.Lent.{ClashSpace};
 
-// The image of a record is of that signer, and has an alias of s for itself; `names` are those of s, sorted, with their heads.
-fn shares_with(
-    s: &[u8],
-    names: &[u16],
-    heads: &[u32],
-    a: Algorithm,
-    signer: &[u8],
-    b: &[u8],
-    r: Record,
-    q: Places,
-) -> bool
-    requires { ⌜ SelfSorted (now s) (now names) × HeadsOf (now s) (now names) (now heads) × RecordIn (now b) r
-        × Opens (between (now b) (r .text) (r .end)) q ⌝ }
-    ensures { λ t. ⌜ t ≡ sharesWith a (now (signer .entry)) (now (s .entry)) (heldIn (now (b .entry)) r) ⌝ }
-{
-    if !r.is_signed_by(b, a, signer) {
-        return false;
-    }
-    let start = r.text;
-    let end = r.end;
-    manifest_aliases::shares_self(s, names, heads, &b[start..end], q)
-}
-
-// Some image of the store from index i on has an alias of s for itself.
-fn shares_with_any(
-    s: &[u8],
-    names: &[u16],
-    heads: &[u32],
-    a: Algorithm,
-    signer: &[u8],
-    b: &[u8],
-    v: Survey,
-    places: [Places; MOST_IMAGES],
-    i: ImageIndex,
-) -> bool
-    requires { ⌜ SelfSorted (now s) (now names) × HeadsOf (now s) (now names) (now heads) × OpenedStore (now b) v places ⌝ }
-    ensures { λ r. ⌜ r ≡ anyOf (sharesWith a (now (signer .entry)) (now (s .entry))) (drop (i .0) (imagesIn (now (b .entry)) v)) ⌝ }
-{
-    let mut j = i.0;
-    while j < v.count {
-        let r = v.records[j];
-        let q = places[j];
-        if shares_with(s, names, heads, a, signer, b, r, q) {
-            return true;
-        }
-        j += 1;
-    }
-    false
-}
-
-// Some image of the store from index i on is of that signer and has an alias of the manifest s for itself. What the arrays hold is overwritten.
+// Some image of the store from index i on is of that signer and has an alias of the manifest s for itself. What the arrays hold is overwritten,
+// but for the keys, which are not read.
 fn shares_from(
     s: &[u8],
     p: Places,
@@ -83,13 +33,26 @@ fn shares_from(
     sorted: &mut [u16],
     spare: &mut [u16],
     heads: &mut [u32],
+    keys: &[u16],
 ) -> bool
     requires { ⌜ Opens (now s) p × OpenedStore (now b) v places × NameSpace (now sorted) (now spare) × (length (now sorted) ≤ length (now heads)) ⌝ }
     ensures { λ r. ⌜ r ≡ anyOf (sharesWith a (now (signer .entry)) (now (s .entry))) (drop (i .0) (imagesIn (now (b .entry)) v)) ⌝ }
 {
     let n = manifest_aliases::sort_self(s, p, sorted, spare);
     manifest_aliases::fill_heads(s, &sorted[..n], heads);
-    shares_with_any(s, &sorted[..n], heads, a, signer, b, v, places, i)
+    store_conflict::any_clashes_in(
+        Aliases::Own,
+        s,
+        &sorted[..n],
+        heads,
+        keys,
+        a,
+        signer,
+        b,
+        v,
+        places,
+        i,
+    )
 }
 
 // The image of that algorithm and signer with the manifest s clashes with one of the store's images. What the arrays hold is overwritten.
@@ -113,11 +76,23 @@ pub fn clashes_with_any(
     if !store_conflict::has_signer(b, v, a, signer, i) {
         return false;
     }
-    if shares_from(s, p, a, signer, b, v, places, i, sorted, spare, heads) {
+    if shares_from(s, p, a, signer, b, v, places, i, sorted, spare, heads, keys) {
         return true;
     }
     let n = store_conflict::sort_layers(s, p, sorted, spare, heads, keys);
-    store_conflict::conflicts_with_any(s, &sorted[..n], heads, keys, a, signer, b, v, places, i)
+    store_conflict::any_clashes_in(
+        Aliases::Layers,
+        s,
+        &sorted[..n],
+        heads,
+        keys,
+        a,
+        signer,
+        b,
+        v,
+        places,
+        i,
+    )
 }
 
 // Some two images of the store clash. What the arrays hold is overwritten.

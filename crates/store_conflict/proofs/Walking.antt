@@ -19,9 +19,12 @@ use Rattle.store_record.specs.Reading.{between, heldIn, imagesIn}
 use Rattle.store_record.specs.declared.Record.{Record}
 use Rattle.store_record.specs.declared.Survey.{Survey}
 use Rattle.store_names.specs.Shared.{signedAs, haveShared}
-use Rattle.store_names.proofs.Pairs.{pair-map, pair-or}
+use Rattle.laws.proofs.Pairs.{pair-map, pair-or}
 use Rattle.store_keys.specs.Clash.{clash, anyClash}
 use Rattle.store_keys.specs.Signed.{one, signedBy, isSigned, sharesWith, conflictsWith, namesClash, layersClash}
+use Rattle.store_conflict.specs.Asked.{clashesIn}
+use Rattle.store_conflict.specs.declared.Aliases.{Aliases}
+use Rattle.store_conflict.specs.declared.Aliases.the-variants.{Own, Layers}
 use Rattle.store_conflict.proofs.Clashing.{single, clash-split, clash-parts, names-ones, layers-one}
 
 module _ (b : List ℕ) (r : Record) (a : Algorithm) (signer : List ℕ) where
@@ -32,26 +35,22 @@ module _ (b : List ℕ) (r : Record) (a : Algorithm) (signer : List ℕ) where
 
   module _ (s : List ℕ) where
     -- Of an image of another signer nothing more is asked.
-    pub not-sharing : isSigned a signer (heldIn b r) ≡ false → sharesWith a signer s (heldIn b r) ≡ false
-    unfolding sharesWith
-    not-sharing e = rw e
+    pub not-asked : (w : Aliases) → isSigned a signer (heldIn b r) ≡ false → clashesIn w a signer s (heldIn b r) ≡ false
+    unfolding sharesWith conflictsWith
+    not-asked Own e = rw e
+    not-asked Layers e = rw e
 
-    -- With an image of another signer there is no conflict of aliases of layers.
-    pub not-conflicting : isSigned a signer (heldIn b r) ≡ false → conflictsWith a signer s (heldIn b r) ≡ false
-    unfolding conflictsWith
-    not-conflicting e = rw e
-
-    -- Of one of the same signer the names decide.
-    pub sharing : isSigned a signer (heldIn b r) ≡ true → sharesWith a signer s (heldIn b r)
+    -- Of one of the same signer its own names decide, if they are asked about,
+    pub sharing : {w : Aliases} → w ≡ Own → isSigned a signer (heldIn b r) ≡ true → clashesIn w a signer s (heldIn b r)
         ≡ shareName (selfNames (between b (r .text) (r .end))) (selfNames s)
     unfolding sharesWith heldIn
-    sharing e = ap (λ (t : Bool). t && shareName (selfNames (between b (r .text) (r .end))) (selfNames s)) e
+    sharing o e = rw o (ap (λ (t : Bool). t && shareName (selfNames (between b (r .text) (r .end))) (selfNames s)) e)
 
-    -- Of one of the same signer the aliases of layers decide.
-    pub conflicting : isSigned a signer (heldIn b r) ≡ true → conflictsWith a signer s (heldIn b r)
+    -- and else the aliases of its layers.
+    pub conflicting : {w : Aliases} → w ≡ Layers → isSigned a signer (heldIn b r) ≡ true → clashesIn w a signer s (heldIn b r)
         ≡ conflict (contents (between b (r .text) (r .end))) (contents s)
     unfolding conflictsWith heldIn
-    conflicting e = ap (λ (t : Bool). t && conflict (contents (between b (r .text) (r .end))) (contents s)) e
+    conflicting l e = rw l (ap (λ (t : Bool). t && conflict (contents (between b (r .text) (r .end))) (contents s)) e)
 
 -- tests that agree on what a list is mapped to
 any-mapped : {A B : Type 0} (f : A → B) (p q : B → Bool) → ((x : A) → p (f x) ≡ q (f x)) → (xs : List A) (k : ℕ)

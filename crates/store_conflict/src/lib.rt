@@ -1,4 +1,5 @@
 // Whether images of a store define one layer key for different objects. An image's layer names are sorted once, and those of other images looked up.
+// The same search serves the names that images have for themselves.
 use manifest::Places;
 use reference::ImageIndex;
 use reference_digests::algorithm::Algorithm;
@@ -14,12 +15,20 @@ ghost use Rattle.manifest.specs.Names.{ContentsSorted};
 ghost use Rattle.manifest.specs.Opened.{Opens};
 ghost use Rattle.store_record.specs.Reading.{between, heldIn, imagesIn, noRecord, RecordIn, Fills};
 ghost use Rattle.store_names.specs.Opened.{OpenedStore};
-ghost use Rattle.store_keys.specs.Signed.{isSigned, conflictsWith, layersClash};
+ghost use Rattle.store_keys.specs.Signed.{isSigned, layersClash};
+ghost use Rattle.store_conflict.specs.Asked.{SortedAliases, clashesIn};
 ghost use Rattle.store_conflict.specs.Lent.{ClashSpace};
 
-// The image of a record is of that signer, and has an alias of a layer that stands in s for another object; `names` and `keys` are what sorting
-// the aliases of s gave, with the names' heads.
-fn conflicts_with(
+// The aliases of a manifest that are asked about: those of the image itself, or those of its layers.
+pub enum Aliases {
+    Own,
+    Layers,
+}
+
+// The image of a record is of that signer, and has an alias of s for itself, or one of a layer that stands in s for another object, as `which` says.
+// `names` are the aliases of s that are asked about, sorted, with their heads; `keys` is what sorting the aliases of layers gave, and else not read.
+fn clashes_in(
+    which: Aliases,
     s: &[u8],
     names: &[u16],
     heads: &[u32],
@@ -30,20 +39,25 @@ fn conflicts_with(
     r: Record,
     q: Places,
 ) -> bool
-    requires { ⌜ ContentsSorted (now s) (now names) (now keys) × HeadsOf (now s) (now names) (now heads) × RecordIn (now b) r
+    requires { ⌜ SortedAliases which (now s) (now names) (now keys) × HeadsOf (now s) (now names) (now heads) × RecordIn (now b) r
         × Opens (between (now b) (r .text) (r .end)) q ⌝ }
-    ensures { λ t. ⌜ t ≡ conflictsWith a (now (signer .entry)) (now (s .entry)) (heldIn (now (b .entry)) r) ⌝ }
+    ensures { λ t. ⌜ t ≡ clashesIn which a (now (signer .entry)) (now (s .entry)) (heldIn (now (b .entry)) r) ⌝ }
 {
     if !r.is_signed_by(b, a, signer) {
         return false;
     }
     let start = r.text;
     let end = r.end;
-    manifest_aliases::conflicts(s, names, heads, keys, &b[start..end], q)
+    let t = &b[start..end];
+    match which {
+        Aliases::Own => manifest_aliases::shares_self(s, names, heads, t, q),
+        Aliases::Layers => manifest_aliases::conflicts(s, names, heads, keys, t, q),
+    }
 }
 
-// Some image of the store from index i on has an alias of a layer that stands in s for another object.
-pub fn conflicts_with_any(
+// Some image of the store from index i on clashes with s in these aliases.
+pub fn any_clashes_in(
+    which: Aliases,
     s: &[u8],
     names: &[u16],
     heads: &[u32],
@@ -55,14 +69,14 @@ pub fn conflicts_with_any(
     places: [Places; MOST_IMAGES],
     i: ImageIndex,
 ) -> bool
-    requires { ⌜ ContentsSorted (now s) (now names) (now keys) × HeadsOf (now s) (now names) (now heads) × OpenedStore (now b) v places ⌝ }
-    ensures { λ r. ⌜ r ≡ anyOf (conflictsWith a (now (signer .entry)) (now (s .entry))) (drop (i .0) (imagesIn (now (b .entry)) v)) ⌝ }
+    requires { ⌜ SortedAliases which (now s) (now names) (now keys) × HeadsOf (now s) (now names) (now heads) × OpenedStore (now b) v places ⌝ }
+    ensures { λ r. ⌜ r ≡ anyOf (clashesIn which a (now (signer .entry)) (now (s .entry))) (drop (i .0) (imagesIn (now (b .entry)) v)) ⌝ }
 {
     let mut j = i.0;
     while j < v.count {
         let r = v.records[j];
         let q = places[j];
-        if conflicts_with(s, names, heads, keys, a, signer, b, r, q) {
+        if clashes_in(which, s, names, heads, keys, a, signer, b, r, q) {
             return true;
         }
         j += 1;
@@ -134,7 +148,19 @@ fn conflicts_later(
     let s = &b[start..end];
     let signer = &b[from..to];
     let n = sort_layers(s, p, sorted, spare, heads, keys);
-    conflicts_with_any(s, &sorted[..n], heads, keys, a, signer, b, v, all, next)
+    any_clashes_in(
+        Aliases::Layers,
+        s,
+        &sorted[..n],
+        heads,
+        keys,
+        a,
+        signer,
+        b,
+        v,
+        all,
+        next,
+    )
 }
 
 // Some two images of the store have one layer key for different objects.

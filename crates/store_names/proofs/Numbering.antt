@@ -13,7 +13,7 @@ use Rattle.laws.proofs.Any.{or-exchanged}
 use Rattle.manifest_index.specs.Index.{NameIndex, SomeNameIndex}
 use Rattle.manifest_index.proofs.Indexing.{no-names, some-index}
 use Rattle.store_names.specs.Placed.{withNumbers, numbersOf}
-use Rattle.store_names.proofs.Pairs.{any-last}
+use Rattle.laws.proofs.Pairs.{any-last}
 
 -- Numbers whose names are cs: a test of them is a test of the names.
 pub numbers-names : (p : ℕ → Bool) (q : List ℕ → Bool) (first : ℕ) (cs : List (List ℕ)) (es : List ℕ)

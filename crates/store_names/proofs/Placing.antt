@@ -1,14 +1,15 @@
 -- The positions of the aliases of one image after the other, and their numbers.
 use Prim.Native.Nat.{ℕ, _+_, _-_, _*_, _≤_, _<_}
 use mathlib.Core.Path.{_≡_, sym, ap, _∙_}
-use mathlib.Core.List.{List, [], _++_, append-nil}
+use mathlib.Core.List.{List, _++_}
 use native.Mathlib.Omega.{arith}
 use lib.Dec.{eqb}
-use lib.ListN.{length, take, drop, getD, set, length-set, length-append, length-drop, drop-of-length-le, take-append-drop}
+use lib.ListN.{length, take, drop, getD, set, length-set, length-append, length-drop, take-append-drop}
 use lib.Seq.{length-take-le, take-append-le, drop-at, drop-append-le, getD-set-same, getD-set-other}
 use borrow.Author.Tests.{eqb-true, eqb-false}
 use borrow.Rule.Slice.PartMut.{putMid}
 use Rattle.laws.proofs.Order.{by-test}
+use Rattle.laws.proofs.Writing.{lent-back}
 use Rattle.manifest_index.specs.Index.{NamesIn}
 use Rattle.manifest.specs.Manifest.{selfNames}
 use Rattle.manifest_index.proofs.Indexing.{names-number}
@@ -20,12 +21,6 @@ use Rattle.store_names.specs.Placed.{mostNames, PlacedUpTo, Numbered}
 module _ (m : ℕ) (l part : List ℕ) (h : m ≤ length l) where
   before-it : length (take m l) ≡ m
   before-it = length-take-le m l h
-
-  lent-back : putMid m (length l - m) l part ≡ take m l ++ part
-  lent-back = ap (λ (r : List ℕ). take m l ++ (part ++ r)) nothing-after ∙ ap (λ (r : List ℕ). take m l ++ r) (append-nil part)
-    where
-      nothing-after : drop (length l - m) (drop m l) ≡ []
-      nothing-after = drop-of-length-le (drop m l) {i = length l - m} (omega (arith, length-drop m l))
 
   -- what ends before the place stays
   back-before : (j n : ℕ) → j + n ≤ m → take n (drop j (take m l ++ part)) ≡ take n (drop j l)
@@ -80,7 +75,7 @@ module _ (b : List ℕ) (v : Survey) (at counts : List ℕ) where
     -- The part past the places of the first i images is lent, and comes back with the positions of the aliases of one more image at its start.
     pub placed-next : NamesIn b (take n part) (selfNames (between b (getD (v .records) i noRecord .text) (getD (v .records) i noRecord .end)))
         → PlacedUpTo (i + 1) b v (putMid (64 * i) (length at - 64 * i) at part) (set counts i n)
-    placed-next o = rw (lent-back (64 * i) at part fits) (placed-after o)
+    placed-next o = rw (lent-back (64 * i) at part) (placed-after o)
 
   -- At the positions that are written stand names.
   pub placed-numbered : (n : ℕ) → n ≤ 64 → PlacedUpTo n b v at counts → Numbered n b at counts

@@ -1,4 +1,5 @@
 // The `self` aliases of all images of a store in one index, by their numbers: alias k of image i has the number 64 * i + k.
+use manifest::MOST_ENTRIES;
 use manifest::Places;
 use reference::ImageIndex;
 use store_record::MOST_IMAGES;
@@ -29,7 +30,7 @@ pub fn place_all(
         let start = r.text;
         let end = r.end;
         let q = places[i];
-        let first = 64 * i;
+        let first = MOST_ENTRIES * i;
         let n = manifest_index::place_self(b, start, end, q, own, &mut at[first..]);
         counts[i] = n as u16;
         i += 1;
@@ -51,7 +52,7 @@ fn index_image(
         × ((es : List ℕ) → NameIndex (now (b .entry)) (now (at .entry)) es (take n (now (order .entry)))
         → NameIndex (now (b .entry)) (now (at .entry)) (withNumbers (64 * i .0) count es) (take r (now (order .exit)))) ⌝ }
 {
-    let first = 64 * i.0;
+    let first = MOST_ENTRIES * i.0;
     let mut k = 0;
     while k < count {
         let e = first + k;

@@ -1,6 +1,6 @@
 -- Two lists of bytes compared from a position on.
 use Prim.Native.Nat.{ℕ, _+_, _≤_, _<_}
-use mathlib.Core.Path.{_≡_, ap}
+use mathlib.Core.Path.{_≡_}
 use mathlib.Core.List.{List}
 use mathlib.Core.Bool.{true, false}
 use native.Mathlib.Numerals.{add-one}
@@ -8,11 +8,6 @@ use lib.ListN.{length, drop, getD, drop-of-length-le}
 use lib.Seq.{drop-cons}
 use borrow.Author.Tests.{eq-eqb, ne-eqb}
 use Rattle.laws.specs.Order.{same}
-use Rattle.laws.proofs.Order.{by-test, same-eq}
-
--- Lists of two lengths differ.
-pub other-length : (a b : List ℕ) → (length a ≡ length b → ⊥) → same a b ≡ false
-other-length a b n = by-test (same a b) (λ e. absurd (n (ap length (same-eq a b e)))) (λ e. e)
 
 -- Past the end of both nothing differs.
 pub same-end : (a b : List ℕ) (i : ℕ) → length a ≤ i → length b ≤ i → same (drop i a) (drop i b) ≡ true

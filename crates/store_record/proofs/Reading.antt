@@ -17,8 +17,8 @@ use Rattle.store_varint.proofs.Laws.{read-last, read-on, above}
 use Rattle.store_record.specs.Image.{Image}
 use Rattle.store_record.specs.Record.{readBody, image, no-image, beforeRest, readSized, readRecord}
 use Rattle.store_record.specs.Reading.{between, heldIn, Reads, BodyAt, ReadsBody}
-use Rattle.store_record.specs.declared.Found.{Found}
-use Rattle.store_record.specs.declared.Found.the-variants.{At, Missing}
+use Rattle.store_record.specs.declared.ReadRecord.{ReadRecord}
+use Rattle.store_record.specs.declared.ReadRecord.the-variants.{At, Missing}
 use Rattle.store_record.proofs.Records.{body-unknown, body-cut, body-whole, sized-short, sized-whole}
 
 -- the bytes between two positions, taken apart at a third
@@ -147,7 +147,7 @@ module _ (s : List ℕ) (i : ℕ) where
           ∙ ap (beforeRest o) (drop-drop n j s)
 
       -- Where all bytes of the record are there, what is read of its body is read of the record.
-      pub with-body : (f : Found) → ReadsBody s j (j + n) f → Reads s i f
+      pub with-body : (f : ReadRecord) → ReadsBody s j (j + n) f → Reads s i f
       unfolding beforeRest
       with-body (At r) b =
           record {

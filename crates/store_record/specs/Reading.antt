@@ -12,8 +12,8 @@ use Rattle.store_record.specs.Image.{Image}
 use Rattle.store_record.specs.Record.{readBody, readRecord, image, no-image}
 use Rattle.store_record.specs.Store.{mostImages, readRecords}
 use Rattle.store_record.specs.declared.Record.{Record}
-use Rattle.store_record.specs.declared.Found.{Found}
-use Rattle.store_record.specs.declared.Found.the-variants.{At, Missing}
+use Rattle.store_record.specs.declared.ReadRecord.{ReadRecord}
+use Rattle.store_record.specs.declared.ReadRecord.the-variants.{At, Missing}
 use Rattle.store_record.specs.declared.Survey.{Survey}
 
 -- the bytes from position i up to position j
@@ -40,7 +40,7 @@ pub record RecordAt (s : List ℕ) (i : ℕ) (r : Record) : Type 0 where
   pub is-in : RecordIn s r
   pub later : i < r .end
 
-abbrev pub Reads : List ℕ → ℕ → Found → Type 0
+abbrev pub Reads : List ℕ → ℕ → ReadRecord → Type 0
 Reads s i (At r) = RecordAt s i r
 Reads s i Missing = readRecord (drop i s) ≡ no-image
 
@@ -50,7 +50,7 @@ pub record BodyAt (s : List ℕ) (i j : ℕ) (r : Record) : Type 0 where
   pub is-in : RecordIn s r
   pub end : r .end ≡ j
 
-abbrev pub ReadsBody : List ℕ → ℕ → ℕ → Found → Type 0
+abbrev pub ReadsBody : List ℕ → ℕ → ℕ → ReadRecord → Type 0
 ReadsBody s i j (At r) = BodyAt s i j r
 ReadsBody s i j Missing = readBody (between s i j) ≡ none
 

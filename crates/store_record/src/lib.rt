@@ -73,7 +73,7 @@ fn equal(a: &[u8], b: &[u8]) -> bool
 }
 
 // A record, or none that is whole.
-pub enum Found {
+pub enum ReadRecord {
     At(Record),
     Missing,
 }
@@ -86,14 +86,14 @@ pub struct Survey {
 }
 
 // The record that begins at position i.
-pub fn read(s: &[u8], i: usize) -> Found
+pub fn read(s: &[u8], i: usize) -> ReadRecord
     ensures { λ r. ⌜ Reads (now (s .entry)) i r ⌝ }
 {
     match store_varint::read(s, i, s.len()) {
-        Number::Missing => Found::Missing,
+        Number::Missing => ReadRecord::Missing,
         Number::At { value, next } => {
             if s.len() - next < value {
-                return Found::Missing;
+                return ReadRecord::Missing;
             }
             body(s, next, next + value)
         }
@@ -101,24 +101,24 @@ pub fn read(s: &[u8], i: usize) -> Found
 }
 
 // The record whose algorithm's byte stands at position i, and which ends at `end`.
-fn body(s: &[u8], i: usize, end: usize) -> Found
+fn body(s: &[u8], i: usize, end: usize) -> ReadRecord
     requires { ⌜ (i ≤ end) × (end ≤ length (now s)) ⌝ }
     ensures { λ r. ⌜ ReadsBody (now (s .entry)) i end r ⌝ }
 {
     if i == end {
-        return Found::Missing;
+        return ReadRecord::Missing;
     }
     match Algorithm::from_byte(s[i]) {
-        Known::Unknown => Found::Missing,
+        Known::Unknown => ReadRecord::Missing,
         Known::Is(algorithm) => {
             let n = algorithm.digest_bytes();
             let signer = i + 1;
             if end - signer < 2 * n {
-                return Found::Missing;
+                return ReadRecord::Missing;
             }
             let manifest = signer + n;
             let text = manifest + n;
-            Found::At(Record {
+            ReadRecord::At(Record {
                 algorithm,
                 signer,
                 manifest,
@@ -155,8 +155,8 @@ impl Survey {
                 return broken();
             }
             match read(s, i) {
-                Found::Missing => return broken(),
-                Found::At(r) => {
+                ReadRecord::Missing => return broken(),
+                ReadRecord::At(r) => {
                     records[count] = r;
                     count += 1;
                     i = r.end;

@@ -16,7 +16,7 @@ use Rattle.manifest_index.specs.Index.{nameAt, NameIndex}
 use Rattle.manifest_index.proofs.Indexing.{index-rising}
 use Rattle.store_record.proofs.Sharing.{eqb-sym}
 use Rattle.store_names.specs.Shared.{groupOf, shared, Run, RunBefore}
-use Rattle.store_names.proofs.Pairs.{any-places, none-places, pair-last, pair-part}
+use Rattle.laws.proofs.Pairs.{any-places, none-places, pair-last, pair-part}
 
 module _ (b at order : List ℕ) where
   -- the name at a place

@@ -25,7 +25,7 @@ use Rattle.store_names.proofs.Named.{named-sym}
 use Rattle.store_names.specs.Shared.{signedAs, oneSigner, GroupsOf, groupOf, shared, ownNames, haveShared}
 use Rattle.store_shared.proofs.Groups.{groups-equal}
 use Rattle.store_names.proofs.Numbering.{numbers-names, numbers-none, numbers-append}
-use Rattle.store_names.proofs.Pairs.{any-last, pair-both, pair-last, pair-permuted}
+use Rattle.laws.proofs.Pairs.{any-last, pair-both, pair-last, pair-permuted}
 use Rattle.store_shared.proofs.Runs.{shared-sym}
 
 have-sym : (b : List ℕ) (q r : Record) → haveShared b q r ≡ haveShared b r q

@@ -1,4 +1,5 @@
 // Whether images of one signer share a `self` alias. In the index of all of them equal names stand side by side, so that one walk finds out.
+use manifest::MOST_ENTRIES;
 use manifest::Places;
 use reference_digests::algorithm::Algorithm;
 use store_record::MOST_IMAGES;
@@ -67,11 +68,11 @@ fn meets(order: &[u16], groups: &[u16], start: usize, m: usize) -> bool
         (take (m - start) (drop start (now (order .entry)))) ⌝ }
 {
     let e = order[m] as usize;
-    let g = groups[e / 64];
+    let g = groups[e / MOST_ENTRIES];
     let mut k = start;
     while k < m {
         let f = order[k] as usize;
-        if g == groups[f / 64] {
+        if g == groups[f / MOST_ENTRIES] {
             return true;
         }
         k += 1;

@@ -6,7 +6,6 @@ use Rattle.text_utf8.specs.Utf8.{within, table, leadIn, lead, utf8From, utf8}
 use Rattle.text_utf8.specs.Scalar.{encode}
 use Rattle.text_json.specs.Bytes.{between, isSpace, isDigit, isExp, isSign, isHex, hexValue, isUnescaped, isShort, shortValue}
 use Rattle.text_json.specs.Syntax.{elements, members}
-use Rattle.text_json.specs.Grammar.{both}
 use Rattle.text_json.specs.Read.{andThen, spaces, readWord, digitsOf, afterDigits, readSomeDigits, readInt, readFrac, readSigned, readExp, readUnsigned}
 use Rattle.text_json.specs.Read.{readNumber, prepend, readChars, readString, readScalar, afterItem, readItems, readFirst, readListed, readPair, readNested}
 use Rattle.text_json.specs.Read.{read, atEnd, readText}
@@ -31,8 +30,8 @@ use Rattle.manifest_entries.specs.Entries.{isEmpty, beginsWith, isLayer, isRule
 use Rattle.manifest_fields.specs.Fields.{firstNamed, fieldNamed}
 use Rattle.manifest_fields.specs.Members.{find}
 use Rattle.manifest_values.specs.Values.{isArrayOf, isSome, entries, isBoolean, isCount, isPath, isNumber, isVersion, isAmong, repeats, allDifferent}
-use Rattle.manifest_fields.specs.Rules.{membersOf, isObject, countFields, everyMember, isObjectOf, namesPass, groupPasses, policyPasses, fieldPasses}
-use Rattle.manifest_fields.specs.Rules.{memberPasses, isFound, foundEntries, foundMembers, allRequired, wellFielded}
+use Rattle.manifest_fields.specs.FieldTests.{membersOf, isObject, countFields, everyMember, isObjectOf, namesPass, groupPasses, policyPasses, fieldPasses}
+use Rattle.manifest_fields.specs.FieldTests.{memberPasses, isFound, foundEntries, foundMembers, allRequired, wellFielded}
 use Rattle.manifest_fields.specs.Accessors.{fieldOf, acceptsField, rejectsField, contentsField, selfField, layersOf, acceptsOf, contentsOf, selfOf, textOf}
 use Rattle.manifest_fields.specs.Accessors.{texts, namesOf, entrypointOf, envOf, signalsOf, isTrue, rejectsOf, writableOf, noRestartOf, instancesOf}
 use Rattle.manifest_fields.specs.Accessors.{maxInstancesOf, numberOf, numbers}
@@ -65,7 +64,7 @@ use Rattle.test_cases.specs.Cases.{reports, emptyStore, idWith, acceptin
 
 pub all-hold : every cases ≡ true
 unfolding same leq within table leadIn lead utf8From utf8 encode between isSpace isDigit isExp isSign isHex hexValue isUnescaped isShort shortValue
-    elements members both andThen spaces readWord digitsOf afterDigits readSomeDigits readInt readFrac readSigned readExp readUnsigned readNumber
+    elements members andThen spaces readWord digitsOf afterDigits readSomeDigits readInt readFrac readSigned readExp readUnsigned readNumber
     prepend readChars readString readScalar afterItem readItems readFirst readListed readPair readNested read atEnd readText isHigh isLow isSurrogate
     isPair pairValue unescape lone isControl anyControl refusedString escaped quoted decimalFrom decimal limit refusedNumber signed content
     insertField sorted comma write canonical mark stringFault numberFault among repeated keyFault tooLong notUtf8 isStuck notJson faulty badString

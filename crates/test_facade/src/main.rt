@@ -121,7 +121,7 @@ fn show_rules(
 )
     requires { ⌜ Opens (now s) p × SomeNameIndex (now t) (now at) (now order) ⌝ }
 {
-    let mut at_rules = [0usize; 64];
+    let mut at_rules = [0usize; manifest::MOST_ENTRIES];
     let n = manifest_rules::place(s, p, &mut at_rules);
     let mut i = 0;
     while i < n {
@@ -149,11 +149,11 @@ fn index_names(t: &[u8], at: &[usize], n: usize, order: &mut [u16])
 fn show_matches(s: &[u8], p: Places, signer: &[u8], digest: &[u8], t: &[u8], q: Places)
     requires { ⌜ Opens (now s) p × Opens (now t) q ⌝ }
 {
-    let mut own = [0u16; 4096];
-    let mut at = [0usize; 64];
+    let mut own = [0u16; manifest::MOST_NAMES];
+    let mut at = [0usize; manifest::MOST_ENTRIES];
     let end = t.len();
     let n = manifest_index::place_self(t, 0, end, q, &mut own, &mut at);
-    let mut order = [0u16; 64];
+    let mut order = [0u16; manifest::MOST_ENTRIES];
     index_names(t, &at, n, &mut order);
     show_rules(s, p, signer, digest, t, &at, &order[..n]);
 }
@@ -185,20 +185,6 @@ fn show_pair(s: &[u8], p: Places, t: &[u8])
     }
 }
 
-// Where the next tab is; the length where there is none.
-fn tab(s: &[u8]) -> usize
-    ensures { λ r. ⌜ r ≤ length (now (s .entry)) ⌝ }
-{
-    let mut i = 0;
-    while i < s.len() {
-        if s[i] == b'\t' {
-            return i;
-        }
-        i += 1;
-    }
-    i
-}
-
 fn show_two(s: &[u8], t: &[u8]) {
     match manifest::check(s) {
         Checked::Refused(_) => show_bad(),
@@ -211,7 +197,7 @@ fn show_two(s: &[u8], t: &[u8]) {
 }
 
 fn show(line: &[u8]) {
-    let n = tab(line);
+    let n = lines::find(line, 0, b'\t');
     if n < line.len() {
         let second = n + 1;
         show_two(&line[0..n], &line[second..]);
@@ -222,13 +208,10 @@ fn show(line: &[u8]) {
 
 fn show_all(s: &[u8]) {
     let mut start = 0;
-    let mut i = 0;
-    while i < s.len() {
-        if s[i] == b'\n' {
-            show(&s[start..i]);
-            start = i + 1;
-        }
-        i += 1;
+    while start < s.len() {
+        let end = lines::find(s, start, b'\n');
+        show(&s[start..end]);
+        start = end + 1;
     }
 }
 

@@ -49,21 +49,6 @@ pub fn after(line: &[u8], word: &[u8]) -> usize
     word.len()
 }
 
-// Where the first such byte is, from `at` on; the length where there is none.
-pub fn find(s: &[u8], at: usize, mark: u8) -> usize
-    requires { ⌜ at ≤ length (now s) ⌝ }
-    ensures { λ r. ⌜ (at ≤ r) × (r ≤ length (now (s .entry))) ⌝ }
-{
-    let mut i = at;
-    while i < s.len() {
-        if s[i] == mark {
-            return i;
-        }
-        i += 1;
-    }
-    i
-}
-
 // The number that all of s spells in decimal digits. It is read as long as it cannot leave 64 bits.
 pub fn decimal(s: &[u8]) -> Number {
     if s.len() == 0 {
@@ -200,7 +185,7 @@ fn put_at(offset: usize, hex: &[u8], store: &mut [u8]) {
 
 // `put`: an offset, a space, and bytes.
 fn put(words: &[u8], store: &mut [u8]) {
-    let space = find(words, 0, b' ');
+    let space = lines::find(words, 0, b' ');
     if space == words.len() {
         print_bad();
         return;
@@ -218,7 +203,7 @@ fn put(words: &[u8], store: &mut [u8]) {
 
 // `load`: an Image ID, a space, and a manifest. Answers the used count after it.
 fn load(words: &[u8], store: &mut [u8], used: usize) -> usize {
-    let space = find(words, 0, b' ');
+    let space = lines::find(words, 0, b' ');
     if space == words.len() {
         print_bad();
         return used;

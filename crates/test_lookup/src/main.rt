@@ -47,7 +47,7 @@ fn with_list(hex: &[u8], store: &[u8], used: usize, place: usize, out: &mut [u8]
 fn with_buffer(words: &[u8], store: &[u8], used: usize, place: usize) {
     let mut space = [FILL; 4096];
     let out: &mut [u8] = &mut space;
-    let end = test_lines::find(words, 0, b' ');
+    let end = lines::find(words, 0, b' ');
     if end == words.len() {
         test_lines::print_bad();
         return;
@@ -67,7 +67,7 @@ fn with_buffer(words: &[u8], store: &[u8], used: usize, place: usize) {
 
 // `resolve`: the place of an image, a space, and what follows.
 fn resolve(words: &[u8], store: &[u8], used: usize) {
-    let end = test_lines::find(words, 0, b' ');
+    let end = lines::find(words, 0, b' ');
     if end == words.len() {
         test_lines::print_bad();
         return;
@@ -93,15 +93,12 @@ fn obey(line: &[u8], buffer: &mut [u8], t: State) -> State
     t
 }
 
-// Each line of s; what follows the last line end is none.
+// Each line of s.
 fn obey_all(s: &[u8], buffer: &mut [u8]) {
     let mut t = State { size: 0, used: 0 };
     let mut start = 0;
     while start < s.len() {
-        let end = test_lines::find(s, start, b'\n');
-        if end == s.len() {
-            return;
-        }
+        let end = lines::find(s, start, b'\n');
         t = obey(&s[start..end], buffer, t);
         start = end + 1;
     }

@@ -128,22 +128,8 @@ fn show_pair(s: &[u8], t: &[u8]) {
     }
 }
 
-// Where the first tab is; the length where there is none.
-fn tab_of(s: &[u8]) -> usize
-    ensures { λ r. ⌜ r ≤ length (now (s .entry)) ⌝ }
-{
-    let mut i = 0;
-    while i < s.len() {
-        if s[i] == b'\t' {
-            return i;
-        }
-        i += 1;
-    }
-    i
-}
-
 fn show(line: &[u8]) {
-    let tab = tab_of(line);
+    let tab = lines::find(line, 0, b'\t');
     if tab < line.len() {
         let second = tab + 1;
         show_pair(&line[0..tab], &line[second..]);
@@ -154,13 +140,10 @@ fn show(line: &[u8]) {
 
 fn show_all(s: &[u8]) {
     let mut start = 0;
-    let mut i = 0;
-    while i < s.len() {
-        if s[i] == b'\n' {
-            show(&s[start..i]);
-            start = i + 1;
-        }
-        i += 1;
+    while start < s.len() {
+        let end = lines::find(s, start, b'\n');
+        show(&s[start..end]);
+        start = end + 1;
     }
 }
 

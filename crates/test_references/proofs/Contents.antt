@@ -1,26 +1,17 @@
 -- The string that a text is, where the text is one.
 -- Assumes nothing.
 use Prim.Native.Nat.{ℕ, _+_, _<_, _≤_}
-use mathlib.Core.Path.{_≡_, sym, ap, subst, _∙_}
+use mathlib.Core.Path.{_≡_, subst}
 use mathlib.Core.List.{List}
-use mathlib.Core.Bool.{Bool}
 use native.Mathlib.Omega.{arith}
 use lib.ListN.{length}
 use Rattle.text_content.specs.Value.{Value}
 use Rattle.text_strings.specs.InString.{Inside}
 use Rattle.text_strings.proofs.Cursors.{inside-within}
-use Rattle.text.specs.Answer.{checked, numberOf}
-use Rattle.text.specs.declared.Checked.{Checked}
-use Rattle.text.specs.declared.Checked.the-variants.{Accepted}
-use Rattle.text.proofs.Numbers.{number-checked}
-use Rattle.text.proofs.Taken.{Taken, taken}
 use Rattle.text_view.specs.Place.{ValueAt, kindOf}
 use Rattle.text_view.specs.declared.Kind.the-variants.{String}
 use Rattle.text_view.proofs.ByKind.{is-string}
 use Rattle.text_view.proofs.Strings.{string-value}
-
-pub accepted : (s : List ℕ) (r : Checked) (n : ℕ) (c : Bool) → r ≡ checked s → r ≡ Accepted n c → Taken s
-accepted s r n c e f = taken s (sym (number-checked s) ∙ ap numberOf (sym e ∙ f))
 
 pub string-inside : (s : List ℕ) (p d : ℕ) (v : Value) → ValueAt s p d v → kindOf v ≡ String → Inside s (p + 1)
 string-inside s p d v h e =

@@ -52,6 +52,10 @@ fn content_of(s: &[u8]) -> Place
     }
 }
 
+fn show_bad() {
+    io::write_all(1, b"bad");
+}
+
 // A word, and a number after it.
 fn print_at(word: &[u8], n: usize) {
     io::write_all(1, word);
@@ -105,7 +109,15 @@ fn show_digest(s: &[u8], p: usize, a: Algorithm)
     show_is(s, p, a, &bytes[0..n]);
 }
 
-// The same of an Image ID's digest.
+// A word, the position p of a digest after it, and the same of the digest.
+fn show_digest_at(word: &[u8], s: &[u8], p: usize, a: Algorithm)
+    requires { ⌜ DigestAt (now s) p a ⌝ }
+{
+    print_at(word, p);
+    show_digest(s, p, a);
+}
+
+// The bytes of an Image ID's digest.
 fn show_plain_digest(s: &[u8], p: usize, a: Algorithm)
     requires { ⌜ PlainDigest (now s) p a ⌝ }
 {
@@ -119,13 +131,10 @@ fn show_layer(s: &[u8], i: usize)
     requires { ⌜ Inside (now s) i ⌝ }
 {
     match reference::layer::read(s, i) {
-        Layer::Bad => {
-            io::write_all(1, b"bad");
-        }
+        Layer::Bad => show_bad(),
         Layer::Digest(a, p) => {
             print_algorithm(b"digest ", a);
-            print_at(b" at ", p);
-            show_digest(s, p, a);
+            show_digest_at(b" at ", s, p, a);
         }
         Layer::Alias {
             algorithm,
@@ -133,8 +142,7 @@ fn show_layer(s: &[u8], i: usize)
             alias,
         } => {
             print_algorithm(b"alias ", algorithm);
-            print_at(b" signer at ", signer);
-            show_digest(s, signer, algorithm);
+            show_digest_at(b" signer at ", s, signer, algorithm);
             print_at(b" name at ", alias);
         }
     }
@@ -147,10 +155,7 @@ fn show_signer(s: &[u8], a: Algorithm, g: Signer)
         Signer::Any => {
             io::write_all(1, b" any signer");
         }
-        Signer::Digest(p) => {
-            print_at(b" signer at ", p);
-            show_digest(s, p, a);
-        }
+        Signer::Digest(p) => show_digest_at(b" signer at ", s, p, a),
     }
 }
 
@@ -161,13 +166,8 @@ fn show_manifest(s: &[u8], a: Algorithm, m: Manifest)
         Manifest::Any => {
             io::write_all(1, b" any manifest");
         }
-        Manifest::Digest(p) => {
-            print_at(b" digest at ", p);
-            show_digest(s, p, a);
-        }
-        Manifest::Alias(p) => {
-            print_at(b" name at ", p);
-        }
+        Manifest::Digest(p) => show_digest_at(b" digest at ", s, p, a),
+        Manifest::Alias(p) => print_at(b" name at ", p),
     }
 }
 
@@ -175,9 +175,7 @@ fn show_rule(s: &[u8], i: usize)
     requires { ⌜ Inside (now s) i ⌝ }
 {
     match reference::rule::read(s, i) {
-        Rule::Bad => {
-            io::write_all(1, b"bad");
-        }
+        Rule::Bad => show_bad(),
         Rule::Accepts {
             algorithm,
             signer,
@@ -192,9 +190,7 @@ fn show_rule(s: &[u8], i: usize)
 
 fn show_id(id: &[u8]) {
     match reference::id::read(id) {
-        Id::Bad => {
-            io::write_all(1, b"bad");
-        }
+        Id::Bad => show_bad(),
         Id::Image {
             algorithm,
             signer,
@@ -238,7 +234,7 @@ fn print_alias(good: bool) {
     if good {
         io::write_all(1, b"alias");
     } else {
-        io::write_all(1, b"bad");
+        show_bad();
     }
 }
 
@@ -272,13 +268,10 @@ fn show(line: &[u8]) {
 
 fn show_all(s: &[u8]) {
     let mut start = 0;
-    let mut i = 0;
-    while i < s.len() {
-        if s[i] == b'\n' {
-            show(&s[start..i]);
-            start = i + 1;
-        }
-        i += 1;
+    while start < s.len() {
+        let end = lines::find(s, start, b'\n');
+        show(&s[start..end]);
+        start = end + 1;
     }
 }
 

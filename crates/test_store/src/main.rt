@@ -50,15 +50,12 @@ fn obey(line: &[u8], buffer: &mut [u8], t: State) -> State
     t
 }
 
-// Each line of s; what follows the last line end is none.
+// Each line of s.
 fn obey_all(s: &[u8], buffer: &mut [u8]) {
     let mut t = State { size: 0, used: 0 };
     let mut start = 0;
     while start < s.len() {
-        let end = test_lines::find(s, start, b'\n');
-        if end == s.len() {
-            return;
-        }
+        let end = lines::find(s, start, b'\n');
         t = obey(&s[start..end], buffer, t);
         start = end + 1;
     }

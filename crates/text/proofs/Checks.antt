@@ -1,6 +1,6 @@
 -- What a scan of the text says of questions 3 to 6.
 use Prim.Native.Nat.{ℕ, _-_, _<_, _≤_}
-use mathlib.Core.Path.{_≡_, refl, sym, ap, subst, _∙_}
+use mathlib.Core.Path.{_≡_, sym, ap, _∙_}
 use mathlib.Core.List.{List}
 use mathlib.Core.Bool.{Bool, true, false, _&&_}
 use native.Mathlib.Omega.{arith}
@@ -12,7 +12,6 @@ use Rattle.laws.proofs.Order.{by-test, same-eq, same-ne}
 use Rattle.text_utf8.proofs.Ranges.{and-both}
 use Rattle.text_utf8.specs.Utf8.{verdict}
 use Rattle.text_utf8.specs.declared.Verdict.{Verdict}
-use Rattle.text_utf8.specs.declared.Verdict.the-variants.{WellFormed, Bad}
 use Rattle.text_json.specs.Syntax.{Syntax}
 use Rattle.text_json.specs.Grammar.{Text}
 use Rattle.text_json.specs.Read.{Read, found, stuck, readText}
@@ -23,8 +22,8 @@ use Rattle.text_content.specs.Fault.{stringFault, numberFault, keyFault}
 use Rattle.text_content.proofs.OwnForm.{own-form, is-own-form}
 use Rattle.text_tokens.specs.Summary.{summary}
 use Rattle.text_tokens.specs.declared.Summary.{Summary}
-use Rattle.text_tokens.specs.declared.Found.{Found}
-use Rattle.text_scan.proofs.Progress.{IsValue}
+use Rattle.text_tokens.specs.declared.ScannedValue.{ScannedValue}
+use Rattle.text_scan.proofs.Results.{IsValue}
 use Rattle.text.specs.Question.{tooLong}
 use Rattle.text.specs.Answer.{byFaults, byTree, byVerdict, checked, isForm}
 use Rattle.text.specs.declared.Fault.the-variants.{TooLong, NotJson, BadString, BadNumber, SameKeys}
@@ -125,7 +124,8 @@ form-flag s t h =
     none e = let l = ltb-false 0 (stringFault t) e in omega arith
 
 -- For a text that is read, the length and the order of keys give the same answer as comparing the text with its form.
-pub by-tree : (s : List ℕ) (f : Found) (p : IsValue s (readText 8 s) f) → byFaults (length s) (isForm (length s) (p .tree)) (p .tree) ≡ byTree s (readText 8 s)
+pub by-tree : (s : List ℕ) (f : ScannedValue) (p : IsValue s (readText 8 s) f)
+    → byFaults (length s) (isForm (length s) (p .tree)) (p .tree) ≡ byTree s (readText 8 s)
 unfolding byTree
 by-tree s f p =
     let r = text-rest 8 s (p .tree) (drop (f .end) s) (p .reads) in

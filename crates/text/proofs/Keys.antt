@@ -5,15 +5,15 @@ use mathlib.Core.List.{List, [], _∷_}
 use mathlib.Core.Bool.{Bool}
 use native.Mathlib.Omega.{arith}
 use lib.ListN.{drop}
-use Rattle.text_json.specs.Syntax.{Syntax, Member, object as tree, members}
+use Rattle.text_json.specs.Syntax.{Syntax, object as tree, members}
 use Rattle.text_json.specs.Read.{found, andThen, spaces, read, atEnd, readText}
 use Rattle.text_json.specs.Scan.{At}
 use Rattle.text_json.proofs.Grammar.Complete.{read-complete}
 use Rattle.text_content.specs.Value.{Fields, object}
 use Rattle.text_scan.specs.Scanned.{KeysOf}
 use Rattle.text_tokens.specs.Summary.{ownKeys}
-use Rattle.text_tokens.specs.declared.Found.{Found}
-use Rattle.text_scan.proofs.Progress.{IsValue}
+use Rattle.text_tokens.specs.declared.ScannedValue.{ScannedValue}
+use Rattle.text_scan.proofs.Results.{IsValue}
 use Rattle.text_view.specs.Place.{ValueAt}
 use Rattle.text_canonical.specs.Members.{Sorted}
 use Rattle.text_canonical.proofs.Collect.{object-opened}
@@ -22,32 +22,34 @@ use Rattle.text.specs.Keys.{RootKeys, refusedText, withCount}
 use Rattle.text.specs.declared.Fault.{Fault}
 use Rattle.text.specs.declared.Checked.{Checked}
 use Rattle.text.specs.declared.Checked.the-variants.{Accepted, Refused}
-use Rattle.text.specs.declared.Known.{Known}
+use Rattle.text.specs.declared.CheckedWithKeys.{CheckedWithKeys}
 
 -- What is known of a text that is refused has the refusal as its answer, and leaves no keys.
-pub refused-keys : (s keys : List ℕ) (x : Checked) (r : Known) (f : Fault) → r ≡ refusedText f → Refused f ≡ x
+pub refused-keys : (s keys : List ℕ) (x : Checked) (r : CheckedWithKeys) (f : Fault) → r ≡ refusedText f → Refused f ≡ x
     → (r .answer ≡ x) × RootKeys s (r .answer) (r .count) keys
-refused-keys s keys x r f e q = subst (λ (y : Known). (y .answer ≡ x) × RootKeys s (y .answer) (y .count) keys) (sym e) (q, refl)
+refused-keys s keys x r f e q = subst (λ (y : CheckedWithKeys). (y .answer ≡ x) × RootKeys s (y .answer) (y .count) keys) (sym e) (q, refl)
 
 -- the count is kept where the text is taken
-pub taken-count : (x : Checked) (n m : ℕ) (c : Bool) → x ≡ Accepted m c → _≡_ {A = Known} (record { answer = x; count = n }) (withCount x n)
+pub taken-count : (x : Checked) (n m : ℕ) (c : Bool) → x ≡ Accepted m c → _≡_ {A = CheckedWithKeys} (record { answer = x; count = n }) (withCount x n)
 taken-count x n m c e = rw e
 
 -- For a text that is refused, whatever the count of keys, what is known is the refusal without keys.
-pub refused-count : (x : Checked) (n : ℕ) (f : Fault) (r : Known) → x ≡ Refused f → r ≡ refusedText f → r ≡ withCount x n
+pub refused-count : (x : Checked) (n : ℕ) (f : Fault) (r : CheckedWithKeys) → x ≡ Refused f → r ≡ refusedText f → r ≡ withCount x n
 refused-count x n f r e q = q ∙ sym (ap (λ (y : Checked). withCount y n) e)
 
 -- how many keys a text's value has itself, as the scan counts them
-pub own-keys : (s : List ℕ) (f : Found) (p : IsValue s (readText 8 s) f) (t : Syntax) (q : List ℕ) → readText 8 s ≡ found t q → f .count ≡ ownKeys t
+pub own-keys : (s : List ℕ) (f : ScannedValue) (p : IsValue s (readText 8 s) f) (t : Syntax) (q : List ℕ) → readText 8 s ≡ found t q → f .count ≡ ownKeys t
 own-keys s f p t q e =
     let r = p .reads in
     let h : p .tree ≡ t = cc in
     p .count ∙ ap ownKeys h
 
 -- the keys of a text that was read, whatever its faults are
-pub root-keys : (s keys : List ℕ) (x : Checked) (n : ℕ) (r : Known) → r ≡ withCount x n → ((t : Syntax) (q : List ℕ) → readText 8 s ≡ found t q → n ≡ ownKeys t)
+pub root-keys : (s keys : List ℕ) (x : Checked) (n : ℕ) (r : CheckedWithKeys) → r ≡ withCount x n → ((t : Syntax) (q : List ℕ)
+    → readText 8 s ≡ found t q → n ≡ ownKeys t)
     → KeysOf s (readText 8 s) n keys → (r .answer ≡ x) × RootKeys s (r .answer) (r .count) keys
-root-keys s keys (Accepted m c) n r e h k = subst (λ (y : Known). (y .answer ≡ Accepted m c) × RootKeys s (y .answer) (y .count) keys) (sym e) (refl, (h, k))
+root-keys s keys (Accepted m c) n r e h k = subst (λ (y : CheckedWithKeys). (y .answer ≡ Accepted m c)
+    × RootKeys s (y .answer) (y .count) keys) (sym e) (refl, (h, k))
 root-keys s keys (Refused f) n r e h k = refused-keys s keys (Refused f) r f e refl
 
 -- the keys of the object that is a text's value, at its position

@@ -4,3 +4,4 @@ pub mod Keys
 pub mod Numbers
 pub mod Outcome
 pub mod Taken
+pub mod Roots

@@ -1,11 +1,11 @@
 -- The number that checking answers is the lowest of the questions that apply.
 use Prim.Native.Nat.{ℕ}
-use mathlib.Core.Path.{_≡_, refl, sym, ap, _∙_}
+use mathlib.Core.Path.{_≡_, refl, sym, _∙_}
 use mathlib.Core.List.{List}
-use mathlib.Core.Bool.{Bool, true, false, not}
+use mathlib.Core.Bool.{Bool, true, false}
 use native.Mathlib.Omega.{arith}
 use lib.Dec.{ltb}
-use Rattle.laws.proofs.Order.{by-test, false-true}
+use Rattle.laws.proofs.Order.{by-test}
 use Rattle.text_utf8.specs.Utf8.{utf8, verdict}
 use Rattle.text_utf8.specs.declared.Verdict.{Verdict}
 use Rattle.text_utf8.specs.declared.Verdict.the-variants.{WellFormed, Bad}
@@ -13,10 +13,8 @@ use Rattle.text_utf8.proofs.Place.{verdict-well-formed}
 use Rattle.text_json.specs.Syntax.{Syntax}
 use Rattle.text_json.specs.Read.{Read, found, stuck, readText}
 use Rattle.text_content.specs.Fault.{stringFault, numberFault, keyFault}
-use Rattle.text.specs.Question.{tooLong, notUtf8, isStuck, notJson, faulty, badString, badNumber, sameKeys, Question, questions, lowest, textNumber}
+use Rattle.text.specs.Question.{tooLong, notUtf8, isStuck, notJson, faulty, badString, badNumber, sameKeys, questions, lowest, textNumber}
 use Rattle.text.specs.Answer.{byFaults, byTree, byVerdict, checked, numberOf}
-use Rattle.text.specs.declared.Checked.{Checked}
-use Rattle.text.specs.declared.Checked.the-variants.{Accepted, Refused}
 
 -- the questions on the tree, in their order
 byQuestions : Bool → Bool → Bool → Bool → ℕ

@@ -1,6 +1,6 @@
 -- What checking says of the answers of canonical and is_canonical.
 use Prim.Native.Nat.{ℕ, _<_, _≤_}
-use mathlib.Core.Path.{_≡_, refl, sym, ap, subst, _∙_}
+use mathlib.Core.Path.{_≡_, refl, sym, ap, _∙_}
 use mathlib.Core.List.{List, [], _++_}
 use mathlib.Core.Bool.{Bool, true, false}
 use native.Mathlib.Omega.{arith}
@@ -16,8 +16,6 @@ use Rattle.text_utf8.specs.declared.Verdict.{Verdict}
 use Rattle.text_utf8.specs.declared.Verdict.the-variants.{WellFormed, Bad}
 use Rattle.text_json.specs.Syntax.{Syntax}
 use Rattle.text_json.specs.Read.{Read, found, stuck, readText}
-use Rattle.text_content.specs.Value.{content}
-use Rattle.text_content.specs.Canonical.{canonical}
 use Rattle.text_content.specs.Fault.{stringFault, numberFault, keyFault}
 use Rattle.text.specs.Question.{tooLong, textNumber}
 use Rattle.text.specs.Answer.{faultNumber, byFaults, byTree, byVerdict, checked, numberOf, numberWithin, formOf, form, canonicalNumber, canonicalLength}
@@ -103,10 +101,6 @@ module _ (s out : List ℕ) where
     -- A text that checking accepts gets the number 0.
     pub accepted-number : textNumber s ≡ 0
     accepted-number = sym (number-checked s) ∙ ap numberOf e
-
-    -- The length that checking tells of a text that it accepts is that of its form.
-    pub accepted-size : n ≡ length (form s)
-    accepted-size = holds s (form s) (checked s) n c (outcome s) e .0
 
     -- 20
     pub too-small : length out < n → 20 ≡ canonicalNumber s (length out)

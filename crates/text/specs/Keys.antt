@@ -12,7 +12,7 @@ use Rattle.text.specs.Answer.{form}
 use Rattle.text.specs.declared.Fault.{Fault}
 use Rattle.text.specs.declared.Checked.{Checked}
 use Rattle.text.specs.declared.Checked.the-variants.{Accepted, Refused}
-use Rattle.text.specs.declared.Known.{Known}
+use Rattle.text.specs.declared.CheckedWithKeys.{CheckedWithKeys}
 
 -- space for the keys of any text that is not too long
 pub record KeySpace (keys spare : List ℕ) : Type 0 where
@@ -26,11 +26,11 @@ RootKeys s (Accepted m c) n keys = ((t : Syntax) (r : List ℕ) → readText 8 s
 RootKeys s (Refused f) n keys = n ≡ 0
 
 -- what is known of a text that is refused
-abbrev pub refusedText : Fault → Known
+abbrev pub refusedText : Fault → CheckedWithKeys
 refusedText f = record { answer = Refused f; count = 0 }
 
 -- the answer for a text, with n for its count of keys where the text is taken
-abbrev pub withCount : Checked → ℕ → Known
+abbrev pub withCount : Checked → ℕ → CheckedWithKeys
 withCount (Accepted m c) n = record { answer = Accepted m c; count = n }
 withCount (Refused f) n = refusedText f
 

@@ -77,23 +77,23 @@ pub fn check(text: &[u8]) -> Checked
 }
 
 // What checking answers, and how many keys the text's value has itself: 0 where it is no object or the text is refused. The keys are left sorted.
-pub struct Known {
+pub struct CheckedWithKeys {
     pub answer: Checked,
     pub count: usize,
 }
 
 // A refusal leaves no keys.
-fn refusal(fault: Fault) -> Known
+fn refusal(fault: Fault) -> CheckedWithKeys
     ensures { λ r. ⌜ r ≡ refusedText fault ⌝ }
 {
-    Known {
+    CheckedWithKeys {
         answer: Checked::Refused(fault),
         count: 0,
     }
 }
 
 // Checks a text with the arrays that it is lent for the keys of its objects, so that the writer gets the keys that are left in them.
-pub fn check_with(text: &[u8], keys: &mut [u16], spare: &mut [u16]) -> Known
+pub fn check_with(text: &[u8], keys: &mut [u16], spare: &mut [u16]) -> CheckedWithKeys
     requires { ⌜ KeySpace (now keys) (now spare) ⌝ }
     ensures { λ r. ⌜ r .answer ≡ checked (now (text .entry)) ⌝ }
     ensures { λ r. ⌜ RootKeys (now (text .entry)) (r .answer) (r .count) (now (keys .exit)) ⌝ }
@@ -107,7 +107,7 @@ pub fn check_with(text: &[u8], keys: &mut [u16], spare: &mut [u16]) -> Known
     }
 }
 
-fn check_json(text: &[u8], keys: &mut [u16], spare: &mut [u16]) -> Known
+fn check_json(text: &[u8], keys: &mut [u16], spare: &mut [u16]) -> CheckedWithKeys
     requires { ⌜ (length (now text) ≤ 16384) × KeySpace (now keys) (now spare) ⌝ }
     ensures { λ r. ⌜ r .answer ≡ byTree (now (text .entry)) (readText 8 (now (text .entry))) ⌝ }
     ensures { λ r. ⌜ RootKeys (now (text .entry)) (r .answer) (r .count) (now (keys .exit)) ⌝ }
@@ -152,14 +152,14 @@ fn by_faults(len: usize, sum: text_tokens::Summary, canonical: bool) -> Checked
 }
 
 // The answer, with the number of keys where the text is taken.
-fn with_count(answer: Checked, count: usize) -> Known
+fn with_count(answer: Checked, count: usize) -> CheckedWithKeys
     ensures { λ r. ⌜ r ≡ withCount answer count ⌝ }
 {
     match answer {
         Checked::Accepted {
             length: _,
             canonical: _,
-        } => Known { answer, count },
+        } => CheckedWithKeys { answer, count },
         Checked::Refused(fault) => refusal(fault),
     }
 }

@@ -9,20 +9,20 @@ use borrow.Rule.Slice.PartMut.{midOf, putMid}
 use Rattle.text_json.specs.Syntax.{Syntax, elements}
 use Rattle.text_content.specs.Value.{Value, Values, array, content, contents}
 use Rattle.text_content.specs.Canonical.{sortedValues, comma, writeValues, canonical}
-use Rattle.text_printer.specs.Writes.{Writes}
-use Rattle.text_printer.proofs.Written.{same-length, lent-length, byte-written, part-written}
+use Rattle.laws.specs.Writes.{Writes}
+use Rattle.laws.proofs.Writing.{same-length, lent-length, part-written}
 use Rattle.text_view.specs.Place.{ValueAt, kindOf}
-use Rattle.text_view.specs.Listed.{ListAt, SomeList, Gives}
+use Rattle.text_view.specs.Listed.{ListAt, SomeList, GivesItem}
 use Rattle.text_view.specs.declared.value.Item.the-variants.{At, End}
 use Rattle.text_view.proofs.Values.{Opened, opened-kind}
 use Rattle.text_canonical.specs.Space.{WriteSpace, Writable, WritableArray, Written}
 use Rattle.text_canonical.proofs.Forms.{array-form, no-values-form, value-form}
-use Rattle.text_view.proofs.ByKind.{one-value}
+use Rattle.text_canonical.proofs.Marks
 use Rattle.text_canonical.proofs.Marks.{mark-written, space-again}
 
 -- Of the canonical form of the array at position `at`, n bytes are written, and its other elements stand from position i on;
 -- `start` says whether all of them do.
-pub record Progress (s : List ℕ) (at depth : ℕ) (before keys spare out : List ℕ) (n : ℕ) (start : Bool) (i : ℕ) : Type 0 where
+pub record ArrayWritten (s : List ℕ) (at depth : ℕ) (before keys spare out : List ℕ) (n : ℕ) (start : Bool) (i : ℕ) : Type 0 where
   pub all : Values
   pub space : WriteSpace s at depth (array all) before keys spare
   pub some : 0 < depth
@@ -51,7 +51,7 @@ module _ {s : List ℕ} {at depth : ℕ} {out keys spare : List ℕ} (p : Writab
   mark-fits = omega (arith, ap length (array-form (p .values)), p .space .form)
 
   -- With the opening bracket put in the output, one byte of the form is written, and all elements stand from the position after `at` on.
-  pub started : Progress s at depth (set out 0 0x5B) keys spare (set out 0 0x5B) 1 true (at + 1)
+  pub started : ArrayWritten s at depth (set out 0 0x5B) keys spare (set out 0 0x5B) 1 true (at + 1)
   started =
       let v = p .space .here in
       let o = array-opened s at depth (p .values) v in
@@ -71,7 +71,7 @@ module _ {s : List ℕ} {at depth : ℕ} {out keys spare : List ℕ} (p : Writab
 
 -- the next element v stands at position q, and the others from position `next` on
 record Next {s : List ℕ} {at depth : ℕ} {before keys spare out : List ℕ} {n : ℕ} {start : Bool} {i : ℕ}
-    (p : Progress s at depth before keys spare out n start i) (q next : ℕ) : Type 0 where
+    (p : ArrayWritten s at depth before keys spare out n start i) (q next : ℕ) : Type 0 where
   value : Value
   others : List Syntax
   here : ValueAt s q (depth - 1) value
@@ -81,18 +81,18 @@ record Next {s : List ℕ} {at depth : ℕ} {before keys spare out : List ℕ} {
       ≡ canonical (array (p .all))
 
 module _ {s : List ℕ} {at depth : ℕ} {before keys spare out : List ℕ} {n : ℕ} {start : Bool} {i : ℕ}
-    (p : Progress s at depth before keys spare out n start i) where
+    (p : ArrayWritten s at depth before keys spare out n start i) where
   -- From position `i` on stand elements and the end mark of an array.
   pub items-left : SomeList s i (depth - 1) false
   items-left = record { trees = p .trees; rest = p .rest; here = p .left }
 
-  module _ (q v next : ℕ) (g : Gives s i (depth - 1) false (p .trees) (p .rest) (At q v next)) where
+  module _ (q v next : ℕ) (g : GivesItem s i (depth - 1) false (p .trees) (p .rest) (At q v next)) where
     taken : Next p v next
     unfolding elements contents
     taken = go (p .trees) (p .joins) g
       where
         go : (ts : List Syntax) → p .done ++ (writeValues start (sortedValues (contents (elements ts))) ++ (0x5D ∷ [])) ≡ canonical (array (p .all))
-            → Gives s i (depth - 1) false ts (p .rest) (At q v next) → Next p v next
+            → GivesItem s i (depth - 1) false ts (p .rest) (At q v next) → Next p v next
         go [] j f = absurd f
         go (t ∷ ts) j f =
             let x = content t in
@@ -165,7 +165,7 @@ module _ {s : List ℕ} {at depth : ℕ} {before keys spare out : List ℕ} {n :
         next-fits = omega (arith, total, p .space .form, here .0)
 
         -- Once the element is written too, its bytes count as written, and the other elements stand from position `next` on.
-        pub advanced : Progress s at depth before keys spare (putMid m (length mid - m) mid part) (m + r) false next
+        pub advanced : ArrayWritten s at depth before keys spare (putMid m (length mid - m) mid part) (m + r) false next
         advanced =
             let k = taken in
             let d = p .done ++ comma start in
@@ -183,26 +183,20 @@ module _ {s : List ℕ} {at depth : ℕ} {before keys spare out : List ℕ} {n :
             }
 
   -- the end mark
-  module _ (e : ℕ) (g : Gives s i (depth - 1) false (p .trees) (p .rest) (End e)) where
+  module _ (e : ℕ) (g : GivesItem s i (depth - 1) false (p .trees) (p .rest) (End e)) where
     ended : p .done ++ (0x5D ∷ []) ≡ canonical (array (p .all))
     unfolding elements contents
     ended = go (p .trees) (p .joins) g
       where
         go : (ts : List Syntax) → p .done ++ (writeValues start (sortedValues (contents (elements ts))) ++ (0x5D ∷ [])) ≡ canonical (array (p .all))
-            → Gives s i (depth - 1) false ts (p .rest) (End e) → p .done ++ (0x5D ∷ []) ≡ canonical (array (p .all))
+            → GivesItem s i (depth - 1) false ts (p .rest) (End e) → p .done ++ (0x5D ∷ []) ≡ canonical (array (p .all))
         go [] j f = rw (no-values-form start) at j
         go (t ∷ ts) j f = absurd f
 
-    last-fits : n < length before
-    last-fits = omega (arith, p .size, ap length ended, length-append (p .done) (0x5D ∷ []), p .space .form)
-
     -- Where no element is left, there is space for the closing bracket.
     pub end-fits : n < length out
-    end-fits = omega (arith, last-fits, same-length (p .written))
+    end-fits = Marks.end-fits (p .space) (p .size) (p .written) 0x5D ended
 
     -- With the closing bracket, the canonical form of the value at position `at` is written.
     pub finished : (v : Value) → ValueAt s at depth v → Written before (set out n 0x5D) (n + 1) (canonical v)
-    finished v h =
-        let same : array (p .all) ≡ v = one-value s at depth _ v (p .space .here) h in
-        let form : canonical v ≡ p .done ++ (0x5D ∷ []) = ap canonical (sym same) ∙ sym ended in
-        rw form (omega (arith, p .size, length-append (p .done) (0x5D ∷ [])), byte-written (p .written) n 0x5D (p .size) last-fits)
+    finished = Marks.finished (p .space) (p .size) (p .written) 0x5D ended

@@ -16,7 +16,7 @@ use Rattle.text_strings.specs.InString.{keyLe}
 use Rattle.text_keys.specs.Keys.{KeysAt, no-keys, key-at}
 use Rattle.text_keys.proofs.Keys.{keys-append}
 use Rattle.text_view.specs.Place.{ValueAt, kindOf}
-use Rattle.text_view.specs.Listed.{ListAt, SomeList, FirstAt, Gives}
+use Rattle.text_view.specs.Listed.{ListAt, SomeList, FirstAt, GivesItem}
 use Rattle.text_view.specs.declared.value.Item.the-variants.{At, End}
 use Rattle.text_view.proofs.Values.{Opened, opened-kind}
 use Rattle.text_view.proofs.Items.{item-within}
@@ -27,7 +27,7 @@ use Rattle.text_view.proofs.ByKind.{one-value}
 use Rattle.text_canonical.proofs.Members.{member-key, members-sort, no-members-sort}
 
 -- Of the object at position `at`, the first n keys are collected, and its other members stand from position i on.
-pub record Progress (s : List ℕ) (at depth : ℕ) (keys : List ℕ) (n i : ℕ) : Type 0 where
+pub record KeysGathered (s : List ℕ) (at depth : ℕ) (keys : List ℕ) (n i : ℕ) : Type 0 where
   pub all : Fields
   pub here : ValueAt s at depth (object all)
   pub some : 0 < depth
@@ -54,7 +54,7 @@ opened-fields s at depth fs v =
     cc
 
 -- Where the keys of an object fit, none is collected yet and all members stand from the position after the opening brace on.
-pub started : (s : List ℕ) (at depth : ℕ) (keys : List ℕ) → KeysFit s at depth keys → Progress s at depth keys 0 (at + 1)
+pub started : (s : List ℕ) (at depth : ℕ) (keys : List ℕ) → KeysFit s at depth keys → KeysGathered s at depth keys 0 (at + 1)
 started s at depth keys p =
     let o = object-opened s at depth (p .fields) (p .here) in
     let e = opened-fields s at depth (p .fields) (p .here) in
@@ -70,7 +70,7 @@ started s at depth keys p =
       joins = λ us h. rw e at h;
     }
 
-module _ {s : List ℕ} {at depth : ℕ} {keys : List ℕ} {n i : ℕ} (p : Progress s at depth keys n i) where
+module _ {s : List ℕ} {at depth : ℕ} {keys : List ℕ} {n i : ℕ} (p : KeysGathered s at depth keys n i) where
   -- From position `i` on stand members and the end mark of an object.
   pub items-left : SomeList s i (depth - 1) true
   items-left = record { trees = p .trees; rest = p .rest; here = p .left }
@@ -82,21 +82,21 @@ module _ {s : List ℕ} {at depth : ℕ} {keys : List ℕ} {n i : ℕ} (p : Prog
     member m ms f = record { tree = m; rest = f .after; derives = f .derives; stops = f .stops; key = refl; means = refl }
 
     -- The next member stands at a position within the text.
-    pub position : (ms : List Member) → Gives s i (depth - 1) true ms (p .rest) (At q v next) → q < length s
+    pub position : (ms : List Member) → GivesItem s i (depth - 1) true ms (p .rest) (At q v next) → q < length s
     position [] g = absurd g
     position (m ∷ ms) g = item-within s q true (depth - 1) m (g .after) (g .derives)
 
     -- The position from which the other members stand is after `i` and within the text.
-    pub later : (ms : List Member) → Gives s i (depth - 1) true ms (p .rest) (At q v next) → (i < next) × (next ≤ length s)
+    pub later : (ms : List Member) → GivesItem s i (depth - 1) true ms (p .rest) (At q v next) → (i < next) × (next ≤ length s)
     later [] g = absurd g
     later (m ∷ ms) g = (g .later, g .within)
 
-    key-space : (ms : List Member) → n + count (fields (members ms)) ≤ length keys → Gives s i (depth - 1) true ms (p .rest) (At q v next) → n < length keys
+    key-space : (ms : List Member) → n + count (fields (members ms)) ≤ length keys → GivesItem s i (depth - 1) true ms (p .rest) (At q v next) → n < length keys
     unfolding members fields count
     key-space [] h g = absurd g
     key-space (m ∷ ms) h g = omega arith
 
-    module _ (g : Gives s i (depth - 1) true (p .trees) (p .rest) (At q v next)) where
+    module _ (g : GivesItem s i (depth - 1) true (p .trees) (p .rest) (At q v next)) where
       -- Where another member is read, there is space for its key.
       pub fits : n < length keys
       fits = key-space (p .trees) (p .space) g
@@ -105,14 +105,14 @@ module _ {s : List ℕ} {at depth : ℕ} {keys : List ℕ} {n i : ℕ} (p : Prog
       stored = rw add-one (take-suc-set keys n q fits)
 
       -- With the member's position stored, one more key is collected, and the other members stand from position `next` on.
-      pub collected : Progress s at depth (set keys n q) (n + 1) next
+      pub collected : KeysGathered s at depth (set keys n q) (n + 1) next
       unfolding members fields count
       collected = go (p .trees) (p .space) (p .joins) g
         where
           go : (ms : List Member) → n + count (fields (members ms)) ≤ length keys
               → ((us : List ℕ) → MembersAt s (depth - 1) (sort (keyLe s) us) (sortedFields (fields (members ms)))
               → MembersAt s (depth - 1) (sort (keyLe s) (take n keys ++ us)) (sortedFields (p .all)))
-              → Gives s i (depth - 1) true ms (p .rest) (At q v next) → Progress s at depth (set keys n q) (n + 1) next
+              → GivesItem s i (depth - 1) true ms (p .rest) (At q v next) → KeysGathered s at depth (set keys n q) (n + 1) next
           go [] r j f = absurd f
           go (m ∷ ms) r j f =
               let k = unescape (m .key) in
@@ -132,14 +132,14 @@ module _ {s : List ℕ} {at depth : ℕ} {keys : List ℕ} {n i : ℕ} (p : Prog
               }
 
   -- no member is left
-  pub finished : (e : ℕ) → Gives s i (depth - 1) true (p .trees) (p .rest) (End e) → Collected s at depth (take n keys)
+  pub finished : (e : ℕ) → GivesItem s i (depth - 1) true (p .trees) (p .rest) (End e) → Collected s at depth (take n keys)
   unfolding members fields
   finished e g = record { keys = p .known; members = λ fs h. go (p .trees) (p .joins) g fs h }
     where
       go : (ms : List Member)
           → ((us : List ℕ) → MembersAt s (depth - 1) (sort (keyLe s) us) (sortedFields (fields (members ms)))
           → MembersAt s (depth - 1) (sort (keyLe s) (take n keys ++ us)) (sortedFields (p .all)))
-          → Gives s i (depth - 1) true ms (p .rest) (End e) → (fs : Fields) → ValueAt s at depth (object fs)
+          → GivesItem s i (depth - 1) true ms (p .rest) (End e) → (fs : Fields) → ValueAt s at depth (object fs)
           → MembersAt s (depth - 1) (sort (keyLe s) (take n keys)) (sortedFields fs)
       go (m ∷ ms) j f fs h = absurd f
       go [] j f fs h =

@@ -92,16 +92,9 @@ fields-size (field k v fs) =
     )
 
 first-size : (fs : Fields) → 4 * count fs ≤ length (writeFields true fs) + 1
-unfolding count writeFields comma quoted
+unfolding count writeFields comma
 first-size no-fields = omega arith
-first-size (field k v fs) =
-    omega (
-      arith,
-      fields-size fs,
-      length-append (quoted k) (0x3A ∷ (write v ++ writeFields false fs)),
-      length-append (escaped k) (0x22 ∷ []),
-      length-append (write v) (writeFields false fs),
-    )
+first-size (field k v fs) = omega (arith, fields-size (field k v fs))
 
 -- The canonical form of an object has at least four bytes for each of its members.
 pub keys-fit : (fs : Fields) → 4 * count fs ≤ length (canonical (object fs))

@@ -1,7 +1,7 @@
 -- The keys of an object that are given by the places of its members: sorted, they are in canonical order.
 use Prim.Native.Nat.{ℕ, _-_, _≤_}
 use mathlib.Core.Path.{_≡_, refl, sym, ap, subst, _∙_}
-use mathlib.Core.List.{List, [], _∷_}
+use mathlib.Core.List.{List, []}
 use lib.ListN.{length, take, drop}
 use Rattle.laws.specs.Sort.{sort}
 use Rattle.text_json.specs.Syntax.{Syntax, Member, object as tree, members}

@@ -4,9 +4,13 @@ use mathlib.Core.Path.{_≡_, refl, sym, ap, subst, _∙_}
 use mathlib.Core.List.{List, [], _∷_, _++_}
 use native.Mathlib.Omega.{arith}
 use native.Mathlib.Numerals.{add-one}
-use lib.ListN.{length, drop, set, length-set}
+use lib.ListN.{length, drop, set, length-set, length-append}
 use Rattle.text_content.specs.Value.{Value}
-use Rattle.text_printer.specs.Writes.{Writes}
+use Rattle.text_content.specs.Canonical.{canonical}
+use Rattle.text_view.specs.Place.{ValueAt}
+use Rattle.text_view.proofs.ByKind.{one-value}
+use Rattle.laws.proofs.Writing.{same-length, byte-written}
+use Rattle.laws.specs.Writes.{Writes}
 use Rattle.text_canonical.specs.Space.{WriteSpace, Written}
 
 -- A slice that is not empty, once its first byte is `b`, counts as one in which the byte `b` is written.
@@ -46,3 +50,20 @@ space-again out′ keys′ spare′ e f g r =
 pub space-of : {s : List ℕ} {at depth : ℕ} {v w : Value} {out keys spare : List ℕ} → v ≡ w → WriteSpace s at depth v out keys spare
     → WriteSpace s at depth w out keys spare
 space-of {s} {at} {depth} {out = out} {keys = keys} {spare = spare} e r = subst (λ (x : Value). WriteSpace s at depth x out keys spare) e r
+
+-- The end mark of a value of which all else is written, and which fits: there is space for the mark, and with it the canonical form is written.
+module _ {s : List ℕ} {at depth : ℕ} {w : Value} {before keys spare out : List ℕ} (space : WriteSpace s at depth w before keys spare) {n : ℕ}
+    {done : List ℕ} (size : n ≡ length done) (written : Writes before out done) (mark : ℕ) (ended : done ++ (mark ∷ []) ≡ canonical w) where
+  last-fits : n < length before
+  last-fits = omega (arith, size, ap length ended, length-append done (mark ∷ []), space .form)
+
+  -- There is space for the end mark.
+  pub end-fits : n < length out
+  end-fits = omega (arith, last-fits, same-length written)
+
+  -- With the end mark, the canonical form of the value at position `at` is written.
+  pub finished : (v : Value) → ValueAt s at depth v → Written before (set out n mark) (n + 1) (canonical v)
+  finished v h =
+      let same : w ≡ v = one-value s at depth w v (space .here) h in
+      let form : canonical v ≡ done ++ (mark ∷ []) = ap canonical (sym same) ∙ sym ended in
+      rw form (omega (arith, size, length-append done (mark ∷ [])), byte-written written n mark size last-fits)

@@ -10,8 +10,8 @@ use Rattle.text_json.specs.Content.{quoted}
 use Rattle.text_content.specs.Value.{Value}
 use Rattle.text_content.specs.Canonical.{canonical}
 use Rattle.text_strings.specs.InString.{Inside, contentFrom}
-use Rattle.text_printer.specs.Writes.{Writes}
-use Rattle.text_printer.proofs.Written.{same-length, lent-length, byte-written, part-written}
+use Rattle.laws.specs.Writes.{Writes}
+use Rattle.laws.proofs.Writing.{same-length, lent-length, byte-written, part-written}
 use Rattle.text_view.specs.Place.{ValueAt}
 use Rattle.text_view.specs.Listed.{SomeItem, ItemValue}
 use Rattle.text_canonical.specs.Members.{MemberAt, memberForm}

@@ -13,19 +13,19 @@ use borrow.Author.Tests.{ne-eqb, eqb-true}
 use Rattle.laws.proofs.Order.{by-test}
 use Rattle.text_content.specs.Value.{Value, Fields, object}
 use Rattle.text_content.specs.Canonical.{sortedFields, comma, writeFields, canonical}
-use Rattle.text_printer.specs.Writes.{Writes}
-use Rattle.text_printer.proofs.Written.{same-length, lent-length, byte-written, part-written}
+use Rattle.laws.specs.Writes.{Writes}
+use Rattle.laws.proofs.Writing.{same-length, lent-length, part-written}
 use Rattle.text_view.specs.Place.{ValueAt}
 use Rattle.text_canonical.specs.Members.{MemberAt, MembersAt, no-members, member-at, Sorted, memberForm}
 use Rattle.text_canonical.specs.Space.{WriteSpace, WritableObject, WritableMembers, WritableMember, KeysFit, Written}
 use Rattle.text_canonical.proofs.Forms.{object-form, no-fields-form, field-form, comma-one, member-size, count, fields-size}
-use Rattle.text_view.proofs.ByKind.{one-value}
+use Rattle.text_canonical.proofs.Marks
 use Rattle.text_canonical.proofs.Marks.{mark-written, space-again}
 use Rattle.text_canonical.proofs.Members.{members-count}
 use Rattle.text_canonical.proofs.Collect.{object-opened}
 
 -- Of the canonical form of the object at position `at`, n bytes are written: its first i members, in the order of the `total` keys.
-pub record Progress (s : List ℕ) (at depth : ℕ) (before keys₀ spare out keys : List ℕ) (total n i : ℕ) : Type 0 where
+pub record ObjectWritten (s : List ℕ) (at depth : ℕ) (before keys₀ spare out keys : List ℕ) (total n i : ℕ) : Type 0 where
   pub all : Fields
   pub space : WriteSpace s at depth (object all) before keys₀ spare
   pub some : 0 < depth
@@ -58,7 +58,7 @@ module _ {s : List ℕ} {at depth total : ℕ} {out keys spare : List ℕ} (p : 
   mark-fits = omega (arith, ap length (object-form (p .fields)), p .space .form)
 
   -- With the opening brace put in the output, one byte of the form is written, and no member.
-  pub started : Progress s at depth (set out 0 0x7B) keys spare (set out 0 0x7B) keys total 1 0
+  pub started : ObjectWritten s at depth (set out 0 0x7B) keys spare (set out 0 0x7B) keys total 1 0
   started =
       record {
         all = p .fields;
@@ -78,7 +78,7 @@ module _ {s : List ℕ} {at depth total : ℕ} {out keys spare : List ℕ} (p : 
 
 -- the next member, and the others after it
 record Next {s : List ℕ} {at depth : ℕ} {before keys₀ spare out keys : List ℕ} {total n i : ℕ}
-    (p : Progress s at depth before keys₀ spare out keys total n i) : Type 0 where
+    (p : ObjectWritten s at depth before keys₀ spare out keys total n i) : Type 0 where
   key : List ℕ
   value : Value
   others : Fields
@@ -87,7 +87,7 @@ record Next {s : List ℕ} {at depth : ℕ} {before keys₀ spare out keys : Lis
   joins : p .done ++ (comma (eqb i 0) ++ (memberForm key value ++ (writeFields false others ++ (0x7D ∷ [])))) ≡ canonical (object (p .all))
 
 module _ {s : List ℕ} {at depth : ℕ} {before keys₀ spare out keys : List ℕ} {total n i : ℕ}
-    (p : Progress s at depth before keys₀ spare out keys total n i) where
+    (p : ObjectWritten s at depth before keys₀ spare out keys total n i) where
   module _ (t : i < total) where
     first-key : drop i (take total keys) ≡ getD keys i 0 ∷ drop (i + 1) (take total keys)
     first-key =
@@ -179,7 +179,8 @@ module _ {s : List ℕ} {at depth : ℕ} {before keys₀ spare out keys : List �
 
         -- the rest of the keys was lent, and comes back as ks
         pub advanced : (ks : List ℕ) → length ks ≡ length (midOf total (length keys - total) keys)
-            → Progress s at depth before keys₀ spare (putMid m (length mid - m) mid part) (putMid total (length keys - total) keys ks) total (m + r) (i + 1)
+            → ObjectWritten s at depth before keys₀ spare (putMid m (length mid - m) mid part) (putMid total (length keys - total) keys ks) total
+            (m + r) (i + 1)
         advanced ks lent =
             let k = taken in
             let e = same-len-mid total (length keys - total) keys ks lent in
@@ -210,16 +211,10 @@ module _ {s : List ℕ} {at depth : ℕ} {before keys₀ spare out keys : List �
             → p .done ++ (0x7D ∷ []) ≡ canonical (object (p .all))
         go fs j no-members = rw (no-fields-form (eqb i 0)) at j
 
-    last-fits : n < length before
-    last-fits = omega (arith, p .size, ap length ended, length-append (p .done) (0x7D ∷ []), p .space .form)
-
     -- Where no member is left, there is space for the closing brace.
     pub end-fits : n < length out
-    end-fits = omega (arith, last-fits, same-length (p .written))
+    end-fits = Marks.end-fits (p .space) (p .size) (p .written) 0x7D ended
 
     -- With the closing brace, the canonical form of the value at position `at` is written.
     pub finished : (v : Value) → ValueAt s at depth v → Written before (set out n 0x7D) (n + 1) (canonical v)
-    finished v h =
-        let same : object (p .all) ≡ v = one-value s at depth _ v (p .space .here) h in
-        let form : canonical v ≡ p .done ++ (0x7D ∷ []) = ap canonical (sym same) ∙ sym ended in
-        rw form (omega (arith, p .size, length-append (p .done) (0x7D ∷ [])), byte-written (p .written) n 0x7D (p .size) last-fits)
+    finished = Marks.finished (p .space) (p .size) (p .written) 0x7D ended

@@ -19,7 +19,7 @@ use Rattle.text_content.specs.Value.{Value, null, boolean, number, string}
 use Rattle.text_content.specs.Canonical.{sorted, write, canonical}
 use Rattle.text_strings.specs.InString.{Inside, contentFrom}
 use Rattle.text_strings.proofs.Contents.{content-from}
-use Rattle.text_printer.specs.Writes.{Writes}
+use Rattle.laws.specs.Writes.{Writes}
 use Rattle.text_view.specs.Place.{ValueAt, kindOf}
 use Rattle.text_view.specs.declared.Kind.the-variants.{Null, Boolean, Number, String}
 use Rattle.text_view.proofs.Values.{kind-at}

@@ -1,16 +1,18 @@
 -- The kind of a value tells its form.
 use Prim.Native.Nat.{ℕ, _<_}
-use mathlib.Core.Path.{_≡_, refl, sym, ap, subst, _∙_}
+use mathlib.Core.Path.{_≡_, refl, sym, ap, subst}
 use mathlib.Core.List.{List}
 use mathlib.Core.Bool.{Bool}
 use mathlib.Core.Logic.{_⊎_, ⊎-elim}
 use native.Mathlib.Omega.{arith}
 use denote.Enum.Declared.{tagOf}
 use Rattle.text_content.specs.Value.{Value, Values, Fields, null, boolean, number, string, array, object}
-use Rattle.text_view.specs.Place.{ValueAt, kindOf}
+use Rattle.text_view.specs.Place.{kindOf}
 use Rattle.text_view.specs.declared.Kind.{Kind}
 use Rattle.text_view.proofs.Kind
 use Rattle.text_view.specs.declared.Kind.the-variants.{Null, Boolean, Number, String, Array, Object}
+use Rattle.text_canonical.specs.Space.{Writable, WritableArray, WritableObject}
+use Rattle.text_canonical.proofs.Marks.{space-of}
 
 data IsKind : Kind → Value → Type 0 where
   is-null : IsKind Null null
@@ -93,3 +95,12 @@ object-value v e = go (told Object v e)
   where
     go : {v : Value} → IsKind Object v → (fs : Fields) × (v ≡ object fs)
     go (is-object fs) = (fs, refl)
+
+module _ {s : List ℕ} {at depth : ℕ} {out keys spare : List ℕ} (p : Writable s at depth out keys spare) where
+  -- A value of the kind of an array that may be written may be written as an array.
+  pub writable-array : Array ≡ kindOf (p .value) → WritableArray s at depth out keys spare
+  writable-array e = let v = array-value (p .value) e in record { values = v .0; space = space-of (v .1) (p .space) }
+
+  -- A value of the kind of an object that may be written may be written as an object.
+  pub writable-object : Object ≡ kindOf (p .value) → WritableObject s at depth out keys spare
+  writable-object e = let v = object-value (p .value) e in record { fields = v .0; space = space-of (v .1) (p .space) }

@@ -7,7 +7,7 @@ use lib.ListN.{length, take, drop}
 use Rattle.text_json.specs.Content.{signed}
 use Rattle.text_content.specs.Value.{Value, Values, Fields, number, array, object}
 use Rattle.text_content.specs.Canonical.{canonical}
-use Rattle.text_printer.specs.Writes.{Writes}
+use Rattle.laws.specs.Writes.{Writes}
 use Rattle.text_view.specs.Place.{ValueAt, kindOf}
 use Rattle.text_view.specs.declared.Kind.{Kind}
 use Rattle.text_view.specs.declared.Kind.the-variants.{Array, Object}

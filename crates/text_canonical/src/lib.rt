@@ -8,7 +8,7 @@ ghost use Prim.Native.Nat.{ℕ, _+_, _≤_};
 ghost use lib.ListN.{length, take};
 ghost use Rattle.text_content.specs.Value.{boolean};
 ghost use Rattle.text_content.specs.Canonical.{canonical, comma};
-ghost use Rattle.text_printer.specs.Writes.{Writes};
+ghost use Rattle.laws.specs.Writes.{Writes};
 ghost use Rattle.text_canonical.specs.Members.{Collected, Sorted};
 ghost use Rattle.text_canonical.specs.Space.{Writable, WritableArray, WritableObject, WritableMembers, WritableRoot, KeysFit, WritableScalar};
 ghost use Rattle.text_canonical.specs.Space.{WritableMember, Written, WritesValue, WritesMember, NumberAt, DigitsEnd};

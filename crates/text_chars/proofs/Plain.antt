@@ -6,11 +6,11 @@ use native.Mathlib.Numerals.{add-one, one-add}
 use native.Mathlib.Omega.{arith}
 use mathlib.Core.Path.{_≡_, refl, ap, sym, _∙_}
 use mathlib.Core.List.{List, [], _∷_, _++_}
-use mathlib.Core.Bool.{Bool, true, false, not, _&&_, or-false, and-true, and-eq-true-iff}
+use mathlib.Core.Bool.{Bool, true, false, not, _&&_, or-false, and-true, and-assoc, and-eq-true-iff}
 use borrow.Author.Tests.{leb-true, eqb-false, ne-eqb, not-true}
 use lib.Dec.{leb, eqb}
-use lib.ListN.{length, take, drop, getD, length-drop, drop-of-length-le}
-use lib.Seq.{take-suc, getD-drop, drop-drop}
+use lib.ListN.{length, take, drop, getD, length-drop, length-take, drop-of-length-le}
+use lib.Seq.{take-suc, getD-drop, getD-take, drop-drop}
 use Rattle.text_json.specs.Read.{Read, readChars, char}
 use Rattle.text_json.specs.Bytes.{isPlain}
 use Rattle.text_chars.specs.Measure.{Weight, measure, add, plainLength, every, isNot, isUnmarked}
@@ -40,10 +40,6 @@ itself b e =
       no-delete = eqb-false b 0x7F (not-true (eqb b 0x7F) (p .1));
     }
 
-and-assoc : (a b c : Bool) → a && (b && c) ≡ (a && b) && c
-and-assoc true b c = refl
-and-assoc false b c = refl
-
 and-swap : (a b c d : Bool) → (a && b) && (c && d) ≡ (a && c) && (b && d)
 and-swap true true c d = refl
 and-swap true false true d = refl
@@ -54,7 +50,7 @@ module _ (p : ℕ → Bool) where
   every-snoc : (xs : List ℕ) (a : ℕ) → every p (xs ++ (a ∷ [])) ≡ every p xs && p a
   unfolding every
   every-snoc [] a = and-true (p a)
-  every-snoc (x ∷ xs) a = ap (λ (t : Bool). p x && t) (every-snoc xs a) ∙ and-assoc (p x) (every p xs) (p a)
+  every-snoc (x ∷ xs) a = ap (λ (t : Bool). p x && t) (every-snoc xs a) ∙ sym (and-assoc (p x) (every p xs) (p a))
 
   -- a test of n bytes from the place i on and of the next is one of n + 1 bytes
   pub every-next : (s : List ℕ) (i n : ℕ) (all : Bool) → i + n < length s → all ≡ every p (take n (drop i s))
@@ -90,6 +86,13 @@ unfolding isUnmarked
 unmarked b e =
     let p = and-eq-true-iff (not (eqb b 0x22)) (not (eqb b 0x5C)) .0 e in
     (eqb-false b 0x22 (not-true (eqb b 0x22) (p .0)), eqb-false b 0x5C (not-true (eqb b 0x5C) (p .1)))
+
+-- Where each of `n` bytes of a text is unmarked, the byte at each place among them is neither a quotation mark nor a backslash.
+pub unmarked-at : (s : List ℕ) (i n : ℕ) → n ≤ length (drop i s) → every isUnmarked (take n (drop i s)) ≡ true
+    → (m : ℕ) → m < n → (getD s (i + m) 0 ≡ 0x22 → ⊥) × (getD s (i + m) 0 ≡ 0x5C → ⊥)
+unmarked-at s i n h e m l =
+    let w : m < length (take n (drop i s)) = omega (arith, length-take n (drop i s)) in
+    unmarked (getD s (i + m) 0) (rw (getD-take n (drop i s) m 0 l, getD-drop i s m 0) at (every-at isUnmarked (take n (drop i s)) m e w))
 
 -- the four tests of a plain byte, each made of all bytes
 pub every-plain : (xs : List ℕ)

@@ -12,7 +12,7 @@ use Rattle.text_utf8.specs.Scalar.{encode}
 use Rattle.text_json.specs.Syntax.{Char, byte, unit}
 use Rattle.text_json.specs.Read.{Read, found, stuck, prepend}
 use Rattle.text_json.specs.Content.{isHigh, isLow, isPair, isSurrogate, pairValue, unescape, lone, isControl, anyControl, refusedString, escaped, quoted}
-use Rattle.text_json.specs.Scan.{Scans}
+use Rattle.text_json.specs.Scan.{ScansToken}
 use Rattle.text_json.specs.Size.{contentSize, stringSize}
 use Rattle.text_chars.specs.Measure.{Weight, weight, measure, add, paired}
 use Rattle.text_json.specs.declared.Scan.the-variants.{Token, NoToken}
@@ -156,13 +156,13 @@ measure-surrogates u v x h l =
 module _ (s : List ℕ) (e : ℕ) (inside : e ≤ length s) where
   -- Chars whose measure is found, with the rest from `e` on, are a token with that end, refusal and length.
   pub scans-token : (x : Read (List Char)) (f : Bool) (n : ℕ) → measure x ≡ found (weight f n) (drop e s)
-      → Scans refusedString contentSize s x (Token e f n)
+      → ScansToken refusedString contentSize s x (Token e f n)
   unfolding measure
   scans-token (found cs r) f n m = ((inside, cc), cc, cc)
   scans-token (stuck r) f n m = let z : _≡_ {A = ℕ} 0 1 = cc in omega arith
 
   -- Chars whose measure is stuck at `e` are no token, and reading them is stuck at `e`.
-  pub scans-none : (x : Read (List Char)) → measure x ≡ stuck (drop e s) → Scans refusedString contentSize s x (NoToken e)
+  pub scans-none : (x : Read (List Char)) → measure x ≡ stuck (drop e s) → ScansToken refusedString contentSize s x (NoToken e)
   unfolding measure
   scans-none (found cs r) m = let z : _≡_ {A = ℕ} 0 1 = cc in omega arith
   scans-none (stuck r) m = (inside, cc)
@@ -171,13 +171,13 @@ module _ (s : List ℕ) (e : ℕ) (inside : e ≤ length s) where
 
 -- A token of a string's content is a token of the string, two bytes longer in canonical form.
 pub scans-quoted : (s : List ℕ) (x : Read (List Char)) (e : ℕ) (f : Bool) (n : ℕ)
-    → Scans refusedString contentSize s x (Token e f n) → Scans refusedString stringSize s x (Token e f (n + 2))
+    → ScansToken refusedString contentSize s x (Token e f n) → ScansToken refusedString stringSize s x (Token e f (n + 2))
 unfolding stringSize quoted contentSize
 scans-quoted s (found cs r) e f n h = (h .0, h .1, omega (arith, h .2, length-append (escaped (unescape cs)) (0x22 ∷ [])))
 scans-quoted s (stuck r) e f n h = h
 
 -- Where reading a string's content is stuck, the string is no token, and reading it is stuck at the same position.
 pub scans-unquoted : (s : List ℕ) (x : Read (List Char)) (e : ℕ)
-    → Scans refusedString contentSize s x (NoToken e) → Scans refusedString stringSize s x (NoToken e)
+    → ScansToken refusedString contentSize s x (NoToken e) → ScansToken refusedString stringSize s x (NoToken e)
 scans-unquoted s (found cs r) e h = h
 scans-unquoted s (stuck r) e h = h

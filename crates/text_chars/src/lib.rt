@@ -17,7 +17,7 @@ ghost use Rattle.text_utf8.specs.Scalar.{encode};
 ghost use Rattle.text_json.specs.Syntax.{unit};
 ghost use Rattle.text_json.specs.Read.{readChars, char, escape, prepend, readString};
 ghost use Rattle.text_json.specs.Content.{isSurrogate, anyControl, escaped, refusedString};
-ghost use Rattle.text_json.specs.Scan.{Scans};
+ghost use Rattle.text_json.specs.Scan.{ScansToken};
 ghost use Rattle.text_json.specs.Size.{contentSize, stringSize, Within, Closed};
 ghost use Rattle.text_json.specs.Bytes.{isPlain};
 ghost use Rattle.text_chars.specs.Measure.{Hexes, Escapes, Lows, plainLength, every, isNot, isUnmarked};
@@ -184,48 +184,26 @@ fn none_below_space(s: &[u8], at: usize) -> bool
     all
 }
 
-// None of the sixteen bytes at `at` is m.
-pub fn none_is(s: &[u8], at: usize, m: u8) -> bool
-    requires { ⌜ at + 16 ≤ length (now s) ⌝ }
-    ensures { λ r. ⌜ r ≡ every (isNot m) (take 16 (drop at (now (s .entry)))) ⌝ }
+// None of the `count` bytes at `at` is m. Where `count` is a numeral the compiler unrolls the loop, and the tests are done at once.
+pub fn none_is(s: &[u8], at: usize, count: usize, m: u8) -> bool
+    requires { ⌜ at + count ≤ length (now s) ⌝ }
+    ensures { λ r. ⌜ r ≡ every (isNot m) (take count (drop at (now (s .entry)))) ⌝ }
 {
     let mut all = true;
     let mut n = 0;
-    while n < 16 {
+    while n < count {
         all &= s[at + n] != m;
         n += 1;
     }
     all
 }
 
-// None of the sixteen bytes at `at` is a quotation mark or a backslash.
-pub fn unmarked16(s: &[u8], at: usize) -> bool
-    requires { ⌜ at + 16 ≤ length (now s) ⌝ }
-    ensures { λ r. ⌜ r ≡ every isUnmarked (take 16 (drop at (now (s .entry)))) ⌝ }
+// None of the `count` bytes at `at` is a quotation mark or a backslash.
+pub fn unmarked(s: &[u8], at: usize, count: usize) -> bool
+    requires { ⌜ at + count ≤ length (now s) ⌝ }
+    ensures { λ r. ⌜ r ≡ every isUnmarked (take count (drop at (now (s .entry)))) ⌝ }
 {
-    none_is(s, at, b'"') & none_is(s, at, b'\\')
-}
-
-// None of the eight bytes at `at` is m.
-fn none_is_of8(s: &[u8], at: usize, m: u8) -> bool
-    requires { ⌜ at + 8 ≤ length (now s) ⌝ }
-    ensures { λ r. ⌜ r ≡ every (isNot m) (take 8 (drop at (now (s .entry)))) ⌝ }
-{
-    let mut all = true;
-    let mut n = 0;
-    while n < 8 {
-        all &= s[at + n] != m;
-        n += 1;
-    }
-    all
-}
-
-// None of the eight bytes at `at` is a quotation mark or a backslash.
-pub fn unmarked8(s: &[u8], at: usize) -> bool
-    requires { ⌜ at + 8 ≤ length (now s) ⌝ }
-    ensures { λ r. ⌜ r ≡ every isUnmarked (take 8 (drop at (now (s .entry)))) ⌝ }
-{
-    none_is_of8(s, at, b'"') & none_is_of8(s, at, b'\\')
+    none_is(s, at, count, b'"') & none_is(s, at, count, b'\\')
 }
 
 // The sixteen bytes at `at` are plain.
@@ -233,7 +211,10 @@ fn plain16(s: &[u8], at: usize) -> bool
     requires { ⌜ at + 16 ≤ length (now s) ⌝ }
     ensures { λ r. ⌜ r ≡ every isPlain (take 16 (drop at (now (s .entry)))) ⌝ }
 {
-    none_below_space(s, at) & none_is(s, at, b'"') & none_is(s, at, b'\\') & none_is(s, at, 0x7F)
+    none_below_space(s, at)
+        & none_is(s, at, 16, b'"')
+        & none_is(s, at, 16, b'\\')
+        & none_is(s, at, 16, 0x7F)
 }
 
 // Where the plain bytes from `at` on end, one byte at a time.
@@ -269,7 +250,7 @@ pub fn plain_end(s: &[u8], at: usize) -> usize
 // The chars of a string and its closing quotation mark.
 pub fn chars(s: &[u8], at: usize) -> Scan
     requires { ⌜ at ≤ length (now s) ⌝ }
-    ensures { λ r. ⌜ Closed at r × Scans refusedString contentSize (now (s .entry)) (readChars char (drop at (now (s .entry)))) r ⌝ }
+    ensures { λ r. ⌜ Closed at r × ScansToken refusedString contentSize (now (s .entry)) (readChars char (drop at (now (s .entry)))) r ⌝ }
 {
     let mut i = at;
     let mut refused = false;
@@ -311,7 +292,7 @@ pub fn chars(s: &[u8], at: usize) -> Scan
 // The string whose opening quotation mark stands at a position.
 pub fn string(s: &[u8], at: usize) -> Scan
     requires { ⌜ at ≤ length (now s) ⌝ }
-    ensures { λ r. ⌜ Within at r × Scans refusedString stringSize (now (s .entry)) (readString (drop at (now (s .entry)))) r ⌝ }
+    ensures { λ r. ⌜ Within at r × ScansToken refusedString stringSize (now (s .entry)) (readString (drop at (now (s .entry)))) r ⌝ }
 {
     if s.len() <= at {
         return Scan::NoToken(at);

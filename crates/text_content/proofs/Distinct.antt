@@ -10,7 +10,7 @@ use Rattle.laws.proofs.Order.{by-test, false-true, same-refl, same-eq}
 use Rattle.text_json.specs.Syntax.{Syntax, Elements, Members, no-elements, element, no-members, member}
 use Rattle.text_json.specs.Grammar
 use Rattle.text_json.specs.Content.{unescape}
-use Rattle.text_content.specs.Value.{Value, Values, Fields, null, boolean, number, string, array, object, no-values, value, no-fields, field, content}
+use Rattle.text_content.specs.Value.{Value, Values, Fields, null, boolean, number, string, array, object, value, no-fields, field, content}
 use Rattle.text_content.specs.Value.{contents, fields, Same, SameValues, SameFields, Inserted, same-null, same-boolean, same-number, same-string}
 use Rattle.text_content.specs.Value.{same-array, same-object, same-none, same-value, same-empty, same-field, here, there}
 use Rattle.text_content.specs.Distinct.{Fresh, fresh-none, fresh-field, Distinct, distinct-null, distinct-boolean, distinct-number, distinct-string}
@@ -19,6 +19,8 @@ use Rattle.text_content.specs.Distinct.{distinct-field}
 use Rattle.text_content.specs.Canonical.{insertField, sorted, sortedValues, sortedFields}
 use Rattle.text_content.specs.Fault.{mark, among, repeated, keyFault, keyFaults, memberKeyFaults}
 use Rattle.text_content.proofs.Basic.{max-left, max-right}
+use Rattle.text_content.proofs.Each.{Each, EachValue, EachField, each-null, each-boolean, each-number, each-string, each-array, each-object, each-none}
+use Rattle.text_content.proofs.Each.{each-value, each-empty, each-field}
 use Rattle.text_content.proofs.Formed.{Formed, FormedElements, FormedMembers, formed-null, formed-boolean, formed-number, formed-string, formed-array}
 use Rattle.text_content.proofs.Formed.{formed-object, formed-none, formed-element, formed-empty, formed-member, formed, unmarked}
 use Rattle.text_content.proofs.Same.{same-sorted, same-sorted-fields, insert-swap, insert-before, insert-after, strictly}
@@ -92,22 +94,11 @@ pub data Below (k : List ℕ) : Fields → Type 0 where
   below-none : Below k no-fields
   below-field : {j : List ℕ} {v : Value} {fs : Fields} → leq j k ≡ false → Below k (field j v fs)
 
-mutual
-  pub data Rising : Value → Type 0 where
-    rising-null : Rising null
-    rising-boolean : {b : Bool} → Rising (boolean b)
-    rising-number : {n : Bool} {ds : List ℕ} → Rising (number n ds)
-    rising-string : {s : List ℕ} → Rising (string s)
-    rising-array : {vs : Values} → RisingValues vs → Rising (array vs)
-    rising-object : {fs : Fields} → RisingFields fs → Rising (object fs)
+abbrev RisingFields : Fields → Type 0
+RisingFields = EachField (λ n ds. Unit {0}) Below
 
-  pub data RisingValues : Values → Type 0 where
-    rising-none : RisingValues no-values
-    rising-value : {v : Value} {vs : Values} → Rising v → RisingValues vs → RisingValues (value v vs)
-
-  pub data RisingFields : Fields → Type 0 where
-    rising-empty : RisingFields no-fields
-    rising-field : {k : List ℕ} {v : Value} {fs : Fields} → Below k fs → Rising v → RisingFields fs → RisingFields (field k v fs)
+abbrev pub Rising : Value → Type 0
+Rising = Each (λ n ds. Unit {0}) Below
 
 below-insert : {j : List ℕ} (k : List ℕ) (v : Value) {fs : Fields} → leq k j ≡ false → Below j fs → Below j (insertField k v fs)
 unfolding insertField
@@ -117,33 +108,33 @@ below-insert k v e (below-field {j = i} {v = w} {fs = fs} f) =
 
 rising-insert : {k : List ℕ} {v : Value} {fs : Fields} → Fresh k fs → Rising v → RisingFields fs → RisingFields (insertField k v fs)
 unfolding insertField
-rising-insert f p rising-empty = rising-field below-none p rising-empty
-rising-insert {k} {v} (fresh-field n f) p (rising-field {k = j} {v = w} {fs = fs} b q h) = go (rising-insert f p h)
+rising-insert f p each-empty = each-field below-none p each-empty
+rising-insert {k} {v} (fresh-field n f) p (each-field {k = j} {v = w} {fs = fs} b q h) = go (rising-insert f p h)
   where
     go : RisingFields (insertField k v fs) → RisingFields (insertField k v (field j w fs))
     go ih =
         by-test (leq k j)
-        (λ e. rw (insert-before k j v w fs e) (rising-field (below-field (strictly k j e n)) p (rising-field b q h)))
-        (λ e. rw (insert-after k j v w fs e) (rising-field (below-insert k v e b) q ih))
+        (λ e. rw (insert-before k j v w fs e) (each-field (below-field (strictly k j e n)) p (each-field b q h)))
+        (λ e. rw (insert-after k j v w fs e) (each-field (below-insert k v e b) q ih))
 
 mutual
   unfolding sorted
 
   -- If no object of a content has a key twice, the sorted content has the keys of every object in strictly rising order.
   pub rising-sorted : {v : Value} → Distinct v → Rising (sorted v)
-  rising-sorted distinct-null = rising-null
-  rising-sorted distinct-boolean = rising-boolean
-  rising-sorted distinct-number = rising-number
-  rising-sorted distinct-string = rising-string
-  rising-sorted (distinct-array d) = rising-array (rising-sorted-values d)
-  rising-sorted (distinct-object d) = rising-object (rising-sorted-fields d)
+  rising-sorted distinct-null = each-null
+  rising-sorted distinct-boolean = each-boolean
+  rising-sorted distinct-number = each-number tt
+  rising-sorted distinct-string = each-string
+  rising-sorted (distinct-array d) = each-array (rising-sorted-values d)
+  rising-sorted (distinct-object d) = each-object (rising-sorted-fields d)
 
-  rising-sorted-values : {vs : Values} → DistinctValues vs → RisingValues (sortedValues vs)
-  rising-sorted-values distinct-none = rising-none
-  rising-sorted-values (distinct-value d ds) = rising-value (rising-sorted d) (rising-sorted-values ds)
+  rising-sorted-values : {vs : Values} → DistinctValues vs → EachValue (λ n ds. Unit {0}) Below (sortedValues vs)
+  rising-sorted-values distinct-none = each-none
+  rising-sorted-values (distinct-value d ds) = each-value (rising-sorted d) (rising-sorted-values ds)
 
   rising-sorted-fields : {fs : Fields} → DistinctFields fs → RisingFields (sortedFields fs)
-  rising-sorted-fields distinct-empty = rising-empty
+  rising-sorted-fields distinct-empty = each-empty
   rising-sorted-fields (distinct-field {fs = fs} f d ds) = rising-insert (fresh-same (same-sorted-fields fs) f) (rising-sorted d) (rising-sorted-fields ds)
 
 -- a key among others

@@ -2,6 +2,7 @@ pub mod Basic
 pub mod Size
 pub mod NotLonger
 pub mod Formed
+pub mod Each
 pub mod InRange
 pub mod ReadBack
 pub mod Same

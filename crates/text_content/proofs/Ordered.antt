@@ -1,8 +1,8 @@
 -- Sorting puts the keys of every object in rising order, and changes nothing where they are.
 use Prim.Native.Nat.{ℕ}
-use mathlib.Core.Path.{_≡_, refl, sym, ap, _∙_}
+use mathlib.Core.Path.{_≡_, refl, ap, _∙_}
 use mathlib.Core.List.{List}
-use mathlib.Core.Bool.{Bool, true, false, _&&_}
+use mathlib.Core.Bool.{Bool, true, _&&_}
 use Rattle.laws.specs.Order.{leq}
 use Rattle.laws.proofs.Order.{by-test, leq-total}
 use Rattle.text_utf8.proofs.Ranges.{and-both}

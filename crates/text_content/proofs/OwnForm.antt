@@ -14,17 +14,17 @@ use Rattle.laws.proofs.Order.{by-test}
 use Rattle.text_json.specs.Bytes.{shortValue}
 use Rattle.text_json.specs.Syntax.{Char, unit, Numeral, Syntax, Member, elements, members}
 use Rattle.text_json.specs.Grammar
-use Rattle.text_json.specs.Grammar.{hexNumber, Space, Word, Digits, SomeDigits, Int, Frac, Exp, Unsigned, Number, Chars, String, Scalar, Items, Listed, Pair}
+use Rattle.text_json.specs.Grammar.{hexNumber, Space, Word, Digits, Int, Frac, Exp, Unsigned, Number, Chars, String, Scalar, Items, Listed, Pair}
 use Rattle.text_json.specs.Grammar.{Nested, Text}
 use Rattle.text_json.specs.Content.{unescape, escaped, quoted, signed}
 use Rattle.text_json.proofs.Grammar.Agree.{one-tree}
 use Rattle.text_json.proofs.Grammar.Bytes.{or-cases}
 use Rattle.text_content.specs.Value.{content, contents, fields}
-use Rattle.text_content.specs.Canonical.{sorted, comma, write, writeValues, writeFields, canonical, ordered}
+use Rattle.text_content.specs.Canonical.{comma, write, writeValues, writeFields, canonical, ordered}
 use Rattle.text_content.specs.Fault.{stringFault}
 use Rattle.text_content.proofs.Size.{enclosed, sizeOf, size-canonical}
 use Rattle.text_content.proofs.NotLonger.{space-length, word-length, some-digits-length, int-length, frac-length, exp-length, unsigned-sign}
-use Rattle.text_content.proofs.NotLonger.{escaped-unescaped, escaped-plain, charSize, charsSize, escaped-size, chars-size, string-length, totalSize}
+use Rattle.text_content.proofs.NotLonger.{escaped-unescaped, charSize, charsSize, escaped-size, chars-size, string-length, totalSize}
 use Rattle.text_content.proofs.NotLonger.{memberSize, elements-size, members-size, items-length, pair-length, value-length}
 use Rattle.text_content.proofs.Ordered.{sorted-ordered, ordered-sorted}
 use Rattle.text_content.proofs.Laws.{text-reads-back}

@@ -11,7 +11,7 @@ use Rattle.laws.proofs.Order.{by-test}
 use Rattle.text_json.specs.Bytes.{isUnescaped, isShort, shortValue}
 use Rattle.text_json.specs.Syntax.{Char, byte, Syntax, Elements, Members, Member, elements, members}
 use Rattle.text_json.specs.Grammar
-use Rattle.text_json.specs.Grammar.{Space, Word, Int, Frac, Exp, Unsigned, Number, Chars, String, Scalar, Items, Listed, Pair, Nested, Text, both}
+use Rattle.text_json.specs.Grammar.{Space, Word, Int, Frac, Exp, Unsigned, Number, Chars, String, Scalar, Items, Listed, Pair, Nested, Text}
 use Rattle.text_json.specs.Content.{unescape, lone, isControl, anyControl, refusedString, escaped, quoted, signed}
 use Rattle.text_content.specs.Value.{Value, Values, Fields, null, boolean, number, string, array, object, no-values, value, no-fields, field, content}
 use Rattle.text_content.specs.Value.{contents, fields}
@@ -171,7 +171,7 @@ quoted-string s r e = rw append-assoc (String.quoted refl (escaped-chars s r e))
 
 signed-number : (negative : Bool) (ds r : List ℕ) → Int ds ds []
     → Number (signed negative ds ++ r) (record { negative = negative; digits = ds; whole = true }) r
-unfolding signed both
+unfolding signed
 signed-number true ds r i = Number.minus refl (Unsigned.unsigned (int-again i r) Frac.absent Exp.absent)
 signed-number false ds r i = Number.plain (Unsigned.unsigned (int-again i r) Frac.absent Exp.absent)
 
@@ -184,9 +184,9 @@ unfolding mark
 bytes-accepted s p c = rw (accepted-bytes s c, mark)
 
 -- values and members that each can be read, whatever follows
-data Readable (d : ℕ) : Values → Type 0 where
-  none : Readable d no-values
-  more : (v : Value) {vs : Values} → ((r : List ℕ) → Reads d (write v ++ r) v r) → Readable d vs → Readable d (value v vs)
+data ReadsBack (d : ℕ) : Values → Type 0 where
+  none : ReadsBack d no-values
+  more : (v : Value) {vs : Values} → ((r : List ℕ) → Reads d (write v ++ r) v r) → ReadsBack d vs → ReadsBack d (value v vs)
 
 data ReadableFields (d : ℕ) : Fields → Type 0 where
   none : ReadableFields d no-fields
@@ -242,7 +242,7 @@ written-empty : (r : List ℕ) → writeFields false no-fields ++ r ≡ r
 unfolding writeFields
 written-empty r = refl
 
-values-read : {d : ℕ} {vs : Values} → Readable d vs → (v : Value) → ((r : List ℕ) → Reads d (write v ++ r) v r) → (r : List ℕ)
+values-read : {d : ℕ} {vs : Values} → ReadsBack d vs → (v : Value) → ((r : List ℕ) → Reads d (write v ++ r) v r) → (r : List ℕ)
     → ReadsValues d (write v ++ (writeValues false vs ++ 0x5D ∷ r)) (value v vs) r
 unfolding contents stringFaults numberFaults elements
 values-read none v first r =
@@ -265,25 +265,19 @@ values-read (more w {vs = vs} second h) v first r =
       numbers = λ x. omega (arith, f .numbers (range-of-value x .0), rest .numbers (range-of-value x .1));
     })
 
-array-reads : {d : ℕ} {vs : Values} → Readable d vs → (r : List ℕ) → Reads (suc d) (write (array vs) ++ r) (array vs) r
+reads-as : (d : ℕ) {s r : List ℕ} (t : Syntax) {v : Value} → Grammar.Value d s t r → content t ≡ v
+    → stringFault t ≡ 0 → (InRange v → numberFault t ≡ 0) → Reads d s v r
+reads-as d t h m c n = record { tree = t; reads = h; means = m; strings = c; numbers = n }
+
+array-reads : {d : ℕ} {vs : Values} → ReadsBack d vs → (r : List ℕ) → Reads (suc d) (write (array vs) ++ r) (array vs) r
 unfolding content stringFault numberFault elements
-array-reads none r = unfold write in
-    record {
-      tree = Syntax.array (elements []);
-      reads = Nested.is-array refl (Listed.empty Space.end (Word.more refl Word.end));
-      means = refl;
-      strings = refl;
-      numbers = λ x. refl;
-    }
-array-reads (more v {vs = vs} first h) r =
+array-reads {d} none r = unfold write in
+    reads-as (suc d) (Syntax.array (elements [])) (Nested.is-array refl (Listed.empty Space.end (Word.more refl Word.end))) refl refl (λ x. refl)
+array-reads {d} (more v {vs = vs} first h) r =
     let rest = values-read h v first r in
-    rw (written-array v vs r) (record {
-      tree = Syntax.array (elements (rest .trees));
-      reads = Nested.is-array refl (Listed.items Space.end (rest .reads));
-      means = ap array (rest .means);
-      strings = rest .strings;
-      numbers = λ x. rest .numbers (range-of-array x);
-    })
+    rw (written-array v vs r)
+    (reads-as (suc d) (Syntax.array (elements (rest .trees))) (Nested.is-array refl (Listed.items Space.end (rest .reads))) (ap array (rest .means))
+    (rest .strings) (λ x. rest .numbers (range-of-array x)))
 
 pair-read : {d : ℕ} (k : List ℕ) (v : Value) (r : List ℕ) → anyControl k ≡ false → (f : Reads d (write v ++ r) v r)
     → Pair (Grammar.Value d) (quoted k ++ (0x3A ∷ (write v ++ r))) (record { place = quoted k ++ (0x3A ∷ (write v ++ r)); key = bytes k; value = f .tree }) r
@@ -316,27 +310,17 @@ fields-read (more j c′ w {fs = fs} second h) k c v first r =
 
 object-reads : {d : ℕ} {fs : Fields} → ReadableFields d fs → (r : List ℕ) → Reads (suc d) (write (object fs) ++ r) (object fs) r
 unfolding content stringFault numberFault members
-object-reads none r = unfold write in
-    record {
-      tree = Syntax.object (members []);
-      reads = Nested.is-object refl (Listed.empty Space.end (Word.more refl Word.end));
-      means = refl;
-      strings = refl;
-      numbers = λ x. refl;
-    }
-object-reads (more k c v {fs = fs} first h) r =
+object-reads {d} none r = unfold write in
+    reads-as (suc d) (Syntax.object (members [])) (Nested.is-object refl (Listed.empty Space.end (Word.more refl Word.end))) refl refl (λ x. refl)
+object-reads {d} (more k c v {fs = fs} first h) r =
     let rest = fields-read h k c v first r in
-    rw (written-object k v fs r) (record {
-      tree = Syntax.object (members (rest .pairs));
-      reads = Nested.is-object refl (Listed.items Space.end (rest .reads));
-      means = ap object (rest .means);
-      strings = rest .strings;
-      numbers = λ x. rest .numbers (range-of-object x);
-    })
+    rw (written-object k v fs r)
+    (reads-as (suc d) (Syntax.object (members (rest .pairs))) (Nested.is-object refl (Listed.items Space.end (rest .reads))) (ap object (rest .means))
+    (rest .strings) (λ x. rest .numbers (range-of-object x)))
 
 scalar-reads : (d : ℕ) {s r : List ℕ} (t : Syntax) {v : Value} → Scalar s t r → content t ≡ v
     → stringFault t ≡ 0 → (InRange v → numberFault t ≡ 0) → Reads d s v r
-scalar-reads d t h m c n = record { tree = t; reads = scalar-value d h; means = m; strings = c; numbers = n }
+scalar-reads d t h m c n = reads-as d t (scalar-value d h) m c n
 
 boolean-reads : (d : ℕ) (b : Bool) (r : List ℕ) → Reads d (write (boolean b) ++ r) (boolean b) r
 unfolding write content stringFault numberFault
@@ -367,7 +351,7 @@ mutual
   write-reads (plain-array h) r = array-reads (values-readable h) r
   write-reads (plain-object h) r = object-reads (fields-readable h) r
 
-  values-readable : {d : ℕ} {vs : Values} → PlainValues d vs → Readable d vs
+  values-readable : {d : ℕ} {vs : Values} → PlainValues d vs → ReadsBack d vs
   values-readable plain-none = none
   values-readable (plain-value {v = v} p h) = more v (λ r. write-reads p r) (values-readable h)
 

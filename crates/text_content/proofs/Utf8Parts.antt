@@ -19,7 +19,7 @@ use Rattle.text_json.specs.Bytes.{between, isSpace, isDigit, isExp, isSign, isH
 use Rattle.text_json.specs.Syntax.{Char, byte, unit, Numeral}
 use Rattle.text_json.specs.Grammar.{Space, Word, Digits, SomeDigits, Int, Frac, Exp, Unsigned, Number, Chars, String, hexNumber}
 use Rattle.text_json.specs.Content.{isHigh, isLow, isSurrogate, isPair, pairValue, unescape, lone}
-use Rattle.text_json.proofs.ByteTests.{or-cases, between-true, hex-cases, hex-below}
+use Rattle.text_json.proofs.ByteTests.{or-cases, between-true, hex-cases, number-below}
 use Rattle.text_content.proofs.Basic.{or-left, or-right}
 
 -- the bytes that the grammar names are below 80
@@ -130,10 +130,6 @@ number-utf8 (Number.plain h) w = unsigned-utf8 h w
 number-utf8 (Number.minus {b = b} {s = s} e h) w = unsigned-utf8 h (mark-utf8 b 0x2D s e (omega arith) w)
 
 -- a \u escape that is no surrogate's is a scalar value's, and so is a pair's
-number-below : (a b c d : ℕ) → isHex a ≡ true → isHex b ≡ true → isHex c ≡ true → isHex d ≡ true → hexNumber a b c d < 0x10000
-unfolding hexNumber
-number-below a b c d e f g h = omega (arith, hex-below a e, hex-below b f, hex-below c g, hex-below d h)
-
 unit-scalar : (u : ℕ) → u < 0x10000 → isSurrogate u ≡ false → isScalar u ≡ true
 unfolding isSurrogate between
 unit-scalar u h e =

@@ -1,7 +1,7 @@
 -- The content of a JSON text: strings as the bytes that they stand for, whole numbers as a sign and decimal digits, arrays in
 -- their order, and objects with their members as they stand in the text.
 use Prim.Native.Nat.{ℕ}
-use mathlib.Core.List.{List, [], _∷_}
+use mathlib.Core.List.{List}
 use mathlib.Core.Bool.{Bool}
 use Rattle.text_json.specs.Syntax.{Syntax, Elements, Members, no-elements, element, no-members, member}
 use Rattle.text_json.specs.Content.{unescape}

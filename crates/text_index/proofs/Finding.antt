@@ -6,7 +6,7 @@ use mathlib.Core.Bool.{true, false}
 use native.Mathlib.Omega.{arith}
 use borrow.Author.Tests.{ltb-true, ltb-false}
 use lib.Dec.{ltb}
-use lib.ListN.{length, getD}
+use lib.ListN.{getD}
 use Rattle.laws.specs.Order.{leq, same}
 use Rattle.laws.proofs.Order.{by-test, false-true, leq-refl, leq-antisym, leq-total, same-refl, same-eq}
 use Rattle.text_index.specs.Index.{entryText, comesBefore, Before, Holds}

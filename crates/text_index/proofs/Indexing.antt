@@ -8,11 +8,10 @@ use lib.ListN.{length, getD}
 use Rattle.laws.specs.Any.{anyOf}
 use Rattle.laws.specs.Order.{leq}
 use Rattle.laws.specs.Sort.{sort, Orders}
-use Rattle.laws.proofs.Order.{leq-refl, leq-total, leq-trans}
-use Rattle.laws.proofs.Rising.{Rising, sort-rising}
+use Rattle.laws.proofs.Inserting.{any-sorted}
+use Rattle.laws.proofs.Order.{leq-total, leq-trans}
+use Rattle.laws.proofs.Rising.{Rising, sort-rising, rising-at}
 use Rattle.text_index.specs.Index.{entryText, entryLe, Index}
-use Rattle.text_index.proofs.Lists.{any-sorted}
-use Rattle.text_index.proofs.Rising.{rising-at}
 
 -- No string has an empty index.
 pub no-index : (b at : List ℕ) → Index b at [] []
@@ -31,15 +30,11 @@ module _ (b at : List ℕ) where
     trans = λ e f g. leq-trans (entryText b at e) (entryText b at f) (entryText b at g);
   }
 
-  entries-refl : (e : ℕ) → entryLe b at e e ≡ true
-  unfolding entryLe
-  entries-refl e = leq-refl (entryText b at e)
-
   -- The content of a string of the index does not come after that of a later one.
   pub index-rising : {es order : List ℕ} → Index b at es order → (i j : ℕ) → i ≤ j → j < length order
       → leq (entryText b at (getD order i 0)) (entryText b at (getD order j 0)) ≡ true
   unfolding entryLe
-  index-rising {es} {order} x i j l h = rising-at (entryLe b at) entries-order entries-refl rising i j l h
+  index-rising {es} {order} x i j l h = rising-at (entryLe b at) entries-order 0 rising i j l h
     where
       rising : Rising (entryLe b at) order
       rising = rw (x .sorted) (sort-rising (entryLe b at) entries-order es)

@@ -8,8 +8,8 @@ use native.Mathlib.Numerals.{add-one}
 use lib.ListN.{length, getD, take, drop, set, length-append, length-set, length-drop}
 use lib.Seq.{length-take-le, take-at, take-take, take-add, take-set-le, drop-at, drop-cons, drop-set-lt, set-split, getD-take, getD-set-same}
 use Rattle.laws.specs.Sort.{insert, sort}
+use Rattle.laws.proofs.Inserting.{insert-at, insert-each}
 use Rattle.text_index.specs.Index.{entryText, entryLe, Entry, Index, Before, Moved}
-use Rattle.text_index.proofs.Lists.{insert-at, insert-each}
 use Rattle.text_index.proofs.Searching.{before-false, after-false}
 
 -- At first nothing is moved.
@@ -98,11 +98,11 @@ pub index-more : (b at xs : List ℕ) (k n : ℕ) (ys : List ℕ) (e : ℕ) → 
     → (es : List ℕ) → Index b at es (take n xs) → Index b at (e ∷ es) (take (n + 1) (set ys k e))
 unfolding sort entryLe
 index-more b at xs k n ys e h x c m es i =
-    record { sorted = is ∙ ap (insert (entryLe b at) e) (i .sorted); entries = rw is (insert-each (entryLe b at) e (Entry b at) x (take n xs) (i .entries)) }
+    record { sorted = is ∙ ap (insert (entryLe b at) e) (i .sorted); entries = rw is (insert-each (entryLe b at) 0 e (Entry b at) x (take n xs) (i .entries)) }
   where
     inserted : insert (entryLe b at) e (take n xs) ≡ take k (take n xs) ++ e ∷ drop k (take n xs)
     inserted =
-        insert-at (entryLe b at) e (take n xs) k (c .within)
+        insert-at (entryLe b at) 0 e (take n xs) k (c .within)
         (λ j l. before-false (entryText b at (getD (take n xs) j 0)) (entryText b at e) (c .before j l))
         (λ j l g. after-false (entryText b at (getD (take n xs) j 0)) (entryText b at e) (c .after j l g))
 

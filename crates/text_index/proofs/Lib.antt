@@ -1,4 +1,3 @@
-pub mod Rising
 pub mod Lists
 pub mod Searching
 pub mod Inserting

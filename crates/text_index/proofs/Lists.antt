@@ -1,66 +1,13 @@
--- Laws of inserting into a sorted list, and of the elements that pass a test. Assumes nothing.
+-- Laws of the elements that pass a test. Assumes nothing.
 use Prim.Native.Nat.{ℕ, zero, suc, _-_, _<_, _≤_}
 use mathlib.Core.Path.{_≡_, refl, sym, ap, _∙_}
-use mathlib.Core.List.{List, [], _∷_, _++_}
+use mathlib.Core.List.{List, [], _∷_}
 use mathlib.Core.Bool.{Bool, true, false, _&&_, _||_}
 use native.Mathlib.Omega.{arith}
 use lib.ListN.{length, getD, take, drop}
 use Rattle.laws.specs.Any.{anyOf}
-use Rattle.laws.specs.Sort.{insert, sort}
-use Rattle.laws.proofs.Any.{or-exchanged}
 use Rattle.laws.proofs.Order.{by-test}
-use Rattle.laws.proofs.Sort.{insert-before, insert-after}
 use Rattle.text_index.specs.Index.{filter}
-
-module _ (le : ℕ → ℕ → Bool) (x : ℕ) where
-  -- An element that comes after the first k of a list and not after the others is inserted at place k.
-  pub insert-at : (xs : List ℕ) (k : ℕ) → k ≤ length xs → ((i : ℕ) → i < k → le x (getD xs i 0) ≡ false)
-      → ((i : ℕ) → k ≤ i → i < length xs → le x (getD xs i 0) ≡ true) → insert le x xs ≡ take k xs ++ x ∷ drop k xs
-  unfolding insert
-  insert-at [] zero h f g = refl
-  insert-at [] (suc k) h f g = absurd (omega arith)
-  insert-at (y ∷ ys) zero h f g = insert-before le x y ys (g 0 (omega arith) (omega arith))
-  insert-at (y ∷ ys) (suc k) h f g =
-      insert-after le x y ys (f 0 (omega arith))
-      ∙ ap (λ (l : List ℕ). y ∷ l) (insert-at ys k (omega arith) (λ i l. f (suc i) (omega arith)) (λ i l m. g (suc i) (omega arith) (omega arith)))
-
-  -- What holds of an element and of all those of a list holds of all when it is inserted.
-  pub insert-each : (P : ℕ → Type 0) → P x → (xs : List ℕ) → ((i : ℕ) → i < length xs → P (getD xs i 0))
-      → (i : ℕ) → i < length (insert le x xs) → P (getD (insert le x xs) i 0)
-  unfolding insert
-  insert-each P p [] f zero h = p
-  insert-each P p [] f (suc i) h = absurd (omega arith)
-  insert-each P p (y ∷ ys) f j k = go (insert-each P p ys (λ i h. f (suc i) (omega arith))) j k
-    where
-      first : (i : ℕ) → i < length (x ∷ y ∷ ys) → P (getD (x ∷ y ∷ ys) i 0)
-      first zero h = p
-      first (suc i) h = f i (omega arith)
-
-      later : ((i : ℕ) → i < length (insert le x ys) → P (getD (insert le x ys) i 0))
-          → (i : ℕ) → i < length (y ∷ insert le x ys) → P (getD (y ∷ insert le x ys) i 0)
-      later ih zero h = f 0 (omega arith)
-      later ih (suc i) h = ih i (omega arith)
-
-      go : ((i : ℕ) → i < length (insert le x ys) → P (getD (insert le x ys) i 0))
-          → (i : ℕ) → i < length (insert le x (y ∷ ys)) → P (getD (insert le x (y ∷ ys)) i 0)
-      go ih = by-test (le x y) (λ e. rw (insert-before le x y ys e) first) (λ e. rw (insert-after le x y ys e) (later ih))
-
-  any-insert : (p : ℕ → Bool) (xs : List ℕ) → anyOf p (insert le x xs) ≡ (p x || anyOf p xs)
-  unfolding insert anyOf
-  any-insert p [] = refl
-  any-insert p (y ∷ ys) = go (any-insert p ys)
-    where
-      go : anyOf p (insert le x ys) ≡ (p x || anyOf p ys) → anyOf p (insert le x (y ∷ ys)) ≡ (p x || (p y || anyOf p ys))
-      go ih =
-          by-test (le x y)
-          (λ e. ap (anyOf p) (insert-before le x y ys e))
-          (λ e. ap (anyOf p) (insert-after le x y ys e) ∙ ap (λ (b : Bool). p y || b) ih ∙ or-exchanged (p y) (p x) (anyOf p ys))
-
--- A sorted list has an element that passes exactly if the list has.
-pub any-sorted : (le : ℕ → ℕ → Bool) (p : ℕ → Bool) (xs : List ℕ) → anyOf p (sort le xs) ≡ anyOf p xs
-unfolding sort anyOf
-any-sorted le p [] = refl
-any-sorted le p (x ∷ xs) = any-insert le x p (sort le xs) ∙ ap (λ (b : Bool). p x || b) (any-sorted le p xs)
 
 module _ {A : Type 0} (q : A → Bool) where
   filter-taken : (x : A) (xs : List A) → q x ≡ true → filter q (x ∷ xs) ≡ x ∷ filter q xs

@@ -8,6 +8,7 @@ use native.Mathlib.Omega.{arith}
 use borrow.Author.Tests.{leb-true, le-leb, lt-leb}
 use lib.Dec.{leb}
 use Rattle.text_json.specs.Bytes.{between, isHex, hexValue}
+use Rattle.text_json.specs.Grammar.{hexNumber}
 
 -- Where the disjunction of two tests is true, one of the two is true.
 pub or-cases : (x y : Bool) → x || y ≡ true → (x ≡ true) ⊎ (y ≡ true)
@@ -46,3 +47,8 @@ hex-below b e =
     (⊎-elim (λ h. rw (hexValue, lt-leb b 0x39 (omega arith), le-leb b 0x46 (h .1)) (omega arith))
     (λ h. rw (hexValue, lt-leb b 0x39 (omega arith), lt-leb b 0x46 (omega arith)) (omega arith)))
     (hex-cases b e)
+
+-- Four hexadecimal digits stand for a number below 10000 (hex).
+pub number-below : (a b c d : ℕ) → isHex a ≡ true → isHex b ≡ true → isHex c ≡ true → isHex d ≡ true → hexNumber a b c d < 0x10000
+unfolding hexNumber
+number-below a b c d e f g h = omega (arith, hex-below a e, hex-below b f, hex-below c g, hex-below d h)

@@ -3,6 +3,7 @@
 --     Sound      what is read is in the grammar
 --     Complete   what is in the grammar is read, where the text after it does not go on as a number does
 --     ReadEnds   the rest of every reading function is an end of its text
+--     AsBytes    a text of the grammar stays one where numbers that are no bytes are replaced by a byte
 --     Start      where reading is stuck, the longest start ends that some JSON text begins with
 pub mod Ends
 pub mod Answer
@@ -14,4 +15,5 @@ pub mod Agree
 pub mod ReadEnds
 pub mod Local
 pub mod Open
+pub mod AsBytes
 pub mod Start

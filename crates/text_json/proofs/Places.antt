@@ -8,7 +8,7 @@ use native.Mathlib.Numerals.{add-one}
 use lib.ListN.{length, drop, getD}
 use lib.Seq.{drop-cons}
 use Rattle.text_json.specs.Read.{Read, found, stuck}
-use Rattle.text_json.specs.Scan.{Steps, Scans}
+use Rattle.text_json.specs.Scan.{Steps, ScansToken}
 use Rattle.text_json.specs.declared.Step.the-variants.{End, Stuck}
 use Rattle.text_json.specs.declared.Scan.the-variants.{Token, NoToken}
 
@@ -31,16 +31,16 @@ module _ {A : Type 0} (s : List ℕ) (i : ℕ) (inside : i ≤ length s) (x : Re
   steps-stuck e = rw e (inside, refl)
 
   -- A reading that is stuck at a position of the text is a scan that found no token and is stuck at this position.
-  pub scans-stuck : (refused : A → Bool) (size : A → ℕ) → x ≡ stuck (drop i s) → Scans refused size s x (NoToken i)
+  pub scans-stuck : (refused : A → Bool) (size : A → ℕ) → x ≡ stuck (drop i s) → ScansToken refused size s x (NoToken i)
   scans-stuck refused size e = rw e (inside, refl)
 
   -- A reading that found something is a scan of a token that has its end, its refusal and its length.
   pub scans-found : (refused : A → Bool) (size : A → ℕ) (a : A) (f : Bool) (n : ℕ) → x ≡ found a (drop i s) → f ≡ refused a → n ≡ size a
-      → Scans refused size s x (Token i f n)
+      → ScansToken refused size s x (Token i f n)
   scans-found refused size a f n e p q = rw e ((inside, refl), p, q)
 
 -- a token ends within the text
 pub token-inside : {A : Type 0} (refused : A → Bool) (size : A → ℕ) (s : List ℕ) (x : Read A) (e : ℕ) (f : Bool) (n : ℕ)
-    → Scans refused size s x (Token e f n) → e ≤ length s
+    → ScansToken refused size s x (Token e f n) → e ≤ length s
 token-inside refused size s (found a r) e f n h = h .0 .0
 token-inside refused size s (stuck r) e f n h = absurd h

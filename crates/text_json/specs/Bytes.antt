@@ -1,8 +1,14 @@
 -- The sets of bytes that RFC 8259's grammar names. Bytes from 80 (hex) up are parts of characters from U+0080 up: the text is
 -- asked for UTF-8 apart from the grammar, and every character that the grammar names is one byte.
-use Prim.Native.Nat.{ℕ, _-_}
+use Prim.Native.Nat.{ℕ, _-_, _<_}
+use mathlib.Core.List.{List}
 use mathlib.Core.Bool.{Bool, true, false, not, _&&_, _||_}
 use lib.Dec.{leb, eqb}
+use lib.ListN.{getD}
+
+-- a list of bytes; past its end stands 0
+abbrev pub AllBytes : List ℕ → Type 0
+AllBytes s = (k : ℕ) → getD s k 0 < 256
 
 -- low to high, both included
 unfoldable pub between : ℕ → ℕ → ℕ → Bool

@@ -3,7 +3,7 @@
 use Prim.Native.Nat.{ℕ, zero, suc, _+_, _*_}
 use mathlib.Core.Path.{_≡_}
 use mathlib.Core.List.{List, [], _∷_}
-use mathlib.Core.Bool.{Bool, true, false}
+use mathlib.Core.Bool.{Bool, true, false, _&&_}
 use Rattle.text_json.specs.Bytes.{isSpace, isDigit, isPoint, isExp, isSign, isHex, hexValue, isUnescaped, isShort, shortValue}
 use Rattle.text_json.specs.Syntax.{Char, byte, unit, Numeral, Syntax, null, boolean, number, string, array, object, Member, elements, members}
 
@@ -42,14 +42,10 @@ pub data Exp : List ℕ → Bool → List ℕ → Type 0 where
   unsigned : {b : ℕ} {s r : List ℕ} → isExp b ≡ true → SomeDigits s r → Exp (b ∷ s) false r
   signed : {b c : ℕ} {s r : List ℕ} → isExp b ≡ true → isSign c ≡ true → SomeDigits s r → Exp (b ∷ c ∷ s) false r
 
-unfoldable pub both : Bool → Bool → Bool
-both true b = b
-both false b = false
-
 -- int [ frac ] [ exp ], with the sign before it
 pub data Unsigned (negative : Bool) : List ℕ → Numeral → List ℕ → Type 0 where
   unsigned : {s s₁ s₂ r ds : List ℕ} {f e : Bool} → Int s ds s₁ → Frac s₁ f s₂ → Exp s₂ e r
-      → Unsigned negative s (record { negative = negative; digits = ds; whole = both f e }) r
+      → Unsigned negative s (record { negative = negative; digits = ds; whole = f && e }) r
 
 -- number = [ minus ] int [ frac ] [ exp ]
 pub data Number : List ℕ → Numeral → List ℕ → Type 0 where

@@ -2,12 +2,11 @@
 -- on as this one does, the rest from the first byte that does not fit: `stuck []` where the text ends too early.
 use Prim.Native.Nat.{ℕ, zero, suc, _+_, _*_}
 use mathlib.Core.List.{List, [], _∷_}
-use mathlib.Core.Bool.{Bool, true, false}
+use mathlib.Core.Bool.{Bool, true, false, _&&_}
 use lib.ListN.{length}
 use lib.Dec.{eqb}
 use Rattle.text_json.specs.Bytes.{isSpace, isDigit, isExp, isSign, isHex, hexValue, isUnescaped, isShort, shortValue}
 use Rattle.text_json.specs.Syntax.{Char, byte, unit, Numeral, Syntax, null, boolean, number, string, array, object, Member, elements, members}
-use Rattle.text_json.specs.Grammar.{both}
 
 pub data Read (A : Type 0) : Type 0 where
   found : A → List ℕ → Read A
@@ -66,7 +65,7 @@ readUnsigned negative s =
     andThen (readInt s) (λ ds s₁.
     andThen (readFrac s₁) (λ f s₂.
     andThen (readExp s₂) (λ e r.
-    found (record { negative = negative; digits = ds; whole = both f e }) r)))
+    found (record { negative = negative; digits = ds; whole = f && e }) r)))
 
 unfoldable pub readNumber : List ℕ → Read Numeral
 readNumber [] = stuck []

@@ -22,8 +22,8 @@ Steps s (stuck r) (End e) = ⊥
 Steps s (stuck r) (Stuck e) = At s e r
 
 -- the scan says where the token ends, whether it is refused, and how long its canonical form is; or where reading is stuck
-abbrev pub Scans : {A : Type 0} → (A → Bool) → (A → ℕ) → List ℕ → Read A → Scan → Type 0
-Scans refused size s (found x r) (Token e f n) = At s e r × (f ≡ refused x) × (n ≡ size x)
-Scans refused size s (found x r) (NoToken e) = ⊥
-Scans refused size s (stuck r) (Token e f n) = ⊥
-Scans refused size s (stuck r) (NoToken e) = At s e r
+abbrev pub ScansToken : {A : Type 0} → (A → Bool) → (A → ℕ) → List ℕ → Read A → Scan → Type 0
+ScansToken refused size s (found x r) (Token e f n) = At s e r × (f ≡ refused x) × (n ≡ size x)
+ScansToken refused size s (found x r) (NoToken e) = ⊥
+ScansToken refused size s (stuck r) (Token e f n) = ⊥
+ScansToken refused size s (stuck r) (NoToken e) = At s e r

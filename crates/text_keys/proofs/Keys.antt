@@ -1,7 +1,7 @@
 -- Laws of key places: of their parts, of sorting them and of comparing two of them.
 use Prim.Native.Nat.{ℕ, zero, suc, _+_, _<_}
 use mathlib.Core.Path.{_≡_, sym, ap, subst, _∙_}
-use mathlib.Core.List.{List, [], _∷_, _++_}
+use mathlib.Core.List.{List, _∷_, _++_}
 use mathlib.Core.Bool.{true, false}
 use native.Mathlib.Omega.{arith}
 use mathlib.Core.Logic.{_⊎_, ⊎-elim}
@@ -24,11 +24,6 @@ pub keys-get : {s ks : List ℕ} → KeysAt s ks → (i : ℕ) → i < length ks
 keys-get no-keys i h = absurd (omega arith)
 keys-get (key-at p q) zero h = p
 keys-get (key-at p q) (suc i) h = keys-get q i (omega arith)
-
--- A list of which each position, by its index, is the place of a key is a list of key places.
-pub keys-all : {s : List ℕ} (ks : List ℕ) → ((i : ℕ) → i < length ks → Inside s (getD ks i 0 + 1)) → KeysAt s ks
-keys-all [] f = no-keys
-keys-all (k ∷ ks) f = key-at (f zero (omega arith)) (keys-all ks (λ i h. f (suc i) (omega arith)))
 
 -- Two lists of key places, one after the other, are a list of key places.
 pub keys-append : {s ks ls : List ℕ} → KeysAt s ks → KeysAt s ls → KeysAt s (ks ++ ls)

@@ -12,13 +12,13 @@ use lib.Seq.{getD-drop}
 use Rattle.laws.proofs.Order.{by-test, Step, less, equal, more, step}
 use Rattle.text_utf8.specs.Scalar.{encode}
 use Rattle.text_utf8.proofs.Forms.{encode-1, encode-2, encode-3, encode-4}
-use Rattle.text_json.specs.Bytes.{isHex, shortValue, between}
+use Rattle.text_json.specs.Bytes.{shortValue, between}
 use Rattle.text_json.specs.Syntax.{Char, byte, unit}
 use Rattle.text_json.specs.Grammar.{Chars, close, unescaped, short, hex, hexNumber}
-use Rattle.text_json.proofs.ByteTests.{hex-below, between-true}
+use Rattle.text_json.proofs.ByteTests.{number-below, between-true}
 use Rattle.text_json.specs.Content.{unescape, isPair, isHigh, isLow, pairValue}
 use Rattle.text_strings.specs.InString.{Inside, contentFrom}
-use Rattle.text_strings.specs.Cursor.{Left, Gives}
+use Rattle.text_strings.specs.Cursor.{Left, GivesByte}
 use Rattle.text_order.specs.Compare.{order}
 use Rattle.text_names.specs.Head.{headFrom, headOf, headBound}
 use Rattle.text_strings.specs.declared.Next.{Next}
@@ -146,10 +146,6 @@ data Smalls : List Char → Type 0 where
   no-small : Smalls []
   small : {c : Char} {cs : List Char} → SmallChar c → Smalls cs → Smalls (c ∷ cs)
 
-number-below : (a b c d : ℕ) → isHex a ≡ true → isHex b ≡ true → isHex c ≡ true → isHex d ≡ true → hexNumber a b c d < 0x10000
-unfolding hexNumber
-number-below a b c d e f g h = omega (arith, hex-below a e, hex-below b f, hex-below c g, hex-below d h)
-
 chars-small : {s r : List ℕ} {cs : List Char} → Chars s cs r → Bytes s → Smalls cs
 unfolding SmallChar
 chars-small (close e) f = no-small
@@ -245,7 +241,7 @@ Continues P Q n h m g = (x : List ℕ) → P x → (y : List ℕ) × Q y × (hea
 
 -- what a loop over a cursor keeps
 module _ (s : List ℕ) (x : Next) {P Q : List ℕ → Type 0} (n₀ h₀ n h : ℕ) (keep : Continues P Q n₀ h₀ n h) (l : 0 < n) (g : (c : List ℕ) → Q c
-    → Gives s c x) where
+    → GivesByte s c x) where
   -- Where the cursor gives no byte, a byte 0 is added to the head.
   pub cursor-end : x .found ≡ false → Continues P Q n₀ h₀ (n - 1) (h * 256)
   cursor-end e c p =

@@ -12,7 +12,7 @@ use lib.Dec.{eqb}
 use Rattle.laws.specs.Order.{same, leq}
 use Rattle.laws.proofs.Order.{by-test, false-true, same-refl, same-eq, leq-refl}
 use Rattle.text_strings.specs.InString.{Inside, contentFrom}
-use Rattle.text_strings.specs.Cursor.{Left, Gives}
+use Rattle.text_strings.specs.Cursor.{Left, GivesByte}
 use Rattle.text_order.specs.Compare.{order}
 use Rattle.text_strings.specs.declared.Next.{Next}
 use Rattle.text_order.specs.declared.Order.{Order}
@@ -91,7 +91,7 @@ Follows P Q xs ys = (x : List ℕ) → P x → (y : List ℕ) × Q y × (same x 
 
 -- at a cursor
 module _ (s : List ℕ) (n : Next) {P Q : List ℕ → Type 0} (xs name : List ℕ) (k : ℕ) (keep : Follows P Q xs (drop k name)) (g : (c : List ℕ) → Q c
-    → Gives s c n) where
+    → GivesByte s c n) where
   -- Where the cursor gives no byte and bytes of the name are left, a content that fits `P` is not `xs`.
   pub cursor-ends : k < length name → n .found ≡ false → (x : List ℕ) → P x → false ≡ same x xs
   cursor-ends h e x p =

@@ -4,14 +4,14 @@ ghost use mathlib.Core.List.{List};
 ghost use Prim.Native.Nat.{ℕ, _<_, _≤_};
 ghost use Rattle.text_strings.specs.InString.{Inside, contentFrom};
 ghost use Rattle.text_order.specs.Compare.{order};
-ghost use Rattle.text_strings.specs.Cursor.{Left, Readable};
+ghost use Rattle.text_strings.specs.Cursor.{Left, ReadableCursor};
 ghost use Rattle.text_names.specs.Head.{headFrom, headOf, headBound};
 use text_order::Order;
 use text_strings::Cursor;
 
 // The number that the first n bytes before the cursor make up behind those of `start`.
 fn head_left(s: &[u8], from: Cursor, n: usize, start: u32) -> u32
-    requires { ⌜ Readable (now s) from × (n ≤ 4) × (start < headBound n) ⌝ }
+    requires { ⌜ ReadableCursor (now s) from × (n ≤ 4) × (start < headBound n) ⌝ }
     ensures { λ r. ⌜ ((c : List ℕ) → Left (now (s .entry)) from c → r ≡ headFrom n start c) ⌝ }
 {
     let mut c = from;

@@ -5,7 +5,7 @@ ghost use Prim.Native.Nat.{ℕ, _≤_};
 ghost use lib.ListN.{length, drop};
 ghost use Rattle.laws.specs.Order.{same};
 ghost use Rattle.text_strings.specs.InString.{Inside, contentFrom};
-ghost use Rattle.text_strings.specs.Cursor.{Left, Readable};
+ghost use Rattle.text_strings.specs.Cursor.{Left, ReadableCursor};
 use text_order::Order;
 use text_strings::Cursor;
 
@@ -34,7 +34,7 @@ pub fn is_name(s: &[u8], i: usize, name: &[u8]) -> bool
 
 // What is left before the cursor is `name` from `at` on.
 fn cursor_is(s: &[u8], from: Cursor, name: &[u8], at: usize) -> bool
-    requires { ⌜ Readable (now s) from × (at ≤ length (now name)) ⌝ }
+    requires { ⌜ ReadableCursor (now s) from × (at ≤ length (now name)) ⌝ }
     ensures { λ r. ⌜ ((c : List ℕ) → Left (now (s .entry)) from c → r ≡ same c (drop at (now (name .entry)))) ⌝ }
 {
     let mut c = from;

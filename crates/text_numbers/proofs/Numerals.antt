@@ -13,10 +13,9 @@ use lib.Dec.{eqb, ltb}
 use Rattle.text_json.specs.Bytes.{isDigit}
 use Rattle.text_json.specs.Read.{Read, found, stuck, andThen, readInt, readFrac, readExp, readUnsigned}
 use Rattle.text_json.specs.Syntax.{Numeral}
-use Rattle.text_json.specs.Grammar.{both}
 use Rattle.text_json.specs.Content.{decimal, decimalFrom, limit, signed, refusedNumber}
-use Rattle.text_json.specs.Scan.{Scans}
-use Rattle.text_numbers.specs.Parts.{Near, IntAt, ReadTo, Reaches, readTail, refusedParts, signs, WithSign}
+use Rattle.text_json.specs.Scan.{ScansToken}
+use Rattle.text_numbers.specs.Parts.{Near, IntAt, ReadTo, Reaches, Parts, partOf, readTail, refusedParts, signs, WithSign}
 use Rattle.text_json.specs.Size.{Within, numeralSize}
 use Rattle.text_json.specs.declared.Scan.{Scan}
 use Rattle.text_json.specs.declared.Scan.the-variants.{Token, NoToken}
@@ -96,37 +95,27 @@ reaches-from s at next x y (End e) l p h = read-to-from s at next e x y _ l p h
 reaches-from s at next x y (Stuck e) l p h = read-to-from s at next e x y _ l p h
 
 -- a fraction or an exponent that is there, of which digits must be read after its first byte
-module _ (s : List ℕ) (at e : ℕ) (x : Read (Unit {0})) (y : Read Bool) (here : y ≡ andThen x (λ _ r. found false r)) where
-  -- If the digits after the first byte are found, the part is found, as one that is there, with the same end.
-  pub part-found : ReadTo s (at + 1) e x (found tt (drop e s)) → ReadTo s at e y (found false (drop e s))
-  unfolding andThen
-  part-found h = record { past = omega (arith, h .past); inside = h .inside; read = here ∙ rw (h .read) }
-
-  -- If reading those digits is stuck, reading the part is stuck at the same position.
-  pub part-stuck : ReadTo s (at + 1) e x (stuck (drop e s)) → ReadTo s at e y (stuck (drop e s))
-  unfolding andThen
-  part-stuck h = record { past = omega (arith, h .past); inside = h .inside; read = here ∙ rw (h .read) }
+-- Where the digits after the first byte were stepped over, the part is found, as one that is there, or stuck where they are.
+pub part-read : (s : List ℕ) (at : ℕ) (x : Read (Unit {0})) (y : Read Bool) → y ≡ andThen x (λ _ r. found false r)
+    → (w : Step) → Reaches s (at + 1) x w → Parts s at y (partOf w)
+unfolding andThen
+part-read s at x y here (End e) h = record { past = omega (arith, h .past); inside = h .inside; read = here ∙ rw (h .read) }
+part-read s at x y here (Stuck e) h = record { past = omega (arith, h .past); inside = h .inside; read = here ∙ rw (h .read) }
 
 -- an int and what follows it
 
 abbrev numeral : Bool → List ℕ → Bool → List ℕ → Read Numeral
 numeral negative ds whole r = found (record { negative = negative; digits = ds; whole = whole }) r
 
--- The function `both` is the conjunction of two tests.
-pub both-and : (f e : Bool) → both f e ≡ f && e
-unfolding both
-both-and true e = refl
-both-and false e = refl
-
 tail-exp : (negative : Bool) (ds : List ℕ) (f : Bool) (y : Read Bool)
-    → andThen y (λ e r. numeral negative ds (both f e) r) ≡ andThen (andThen y (λ e r. found (both f e) r)) (numeral negative ds)
+    → andThen y (λ e r. numeral negative ds (f && e) r) ≡ andThen (andThen y (λ e r. found (f && e) r)) (numeral negative ds)
 unfolding andThen
 tail-exp negative ds f (found e r) = refl
 tail-exp negative ds f (stuck r) = refl
 
 tail-frac : (negative : Bool) (ds : List ℕ) (x : Read Bool)
-    → andThen x (λ f q. andThen (readExp q) (λ e r. numeral negative ds (both f e) r))
-    ≡ andThen (andThen x (λ f q. andThen (readExp q) (λ e r. found (both f e) r))) (numeral negative ds)
+    → andThen x (λ f q. andThen (readExp q) (λ e r. numeral negative ds (f && e) r))
+    ≡ andThen (andThen x (λ f q. andThen (readExp q) (λ e r. found (f && e) r))) (numeral negative ds)
 unfolding andThen
 tail-frac negative ds (found f q) = tail-exp negative ds f (readExp q)
 tail-frac negative ds (stuck r) = refl
@@ -145,7 +134,7 @@ module _ (negative : Bool) (s : List ℕ) where
 module _ (negative whole : Bool) (s : List ℕ) (at m e v : ℕ) where
   -- An integer part with what is found after it is a token, with its end, its refusal and the length of its canonical form.
   pub unsigned-token : IntAt s at m v → ReadTo s m e (readTail (drop m s)) (found whole (drop e s))
-      → Scans refusedNumber numeralSize s (readUnsigned negative (drop at s)) (Token e (refusedParts negative v whole) (signs negative + (m - at)))
+      → ScansToken refusedNumber numeralSize s (readUnsigned negative (drop at s)) (Token e (refusedParts negative v whole) (signs negative + (m - at)))
   unfolding andThen refusedNumber refusedParts numeralSize
   unsigned-token int rest =
       let n : Numeral = record { negative = negative; digits = int .digits; whole = whole } in

@@ -6,7 +6,6 @@ use mathlib.Core.Bool.{Bool, true, false, not, _&&_, _||_}
 use lib.ListN.{length, drop}
 use lib.Dec.{eqb, ltb}
 use Rattle.text_json.specs.Read.{Read, found, stuck, andThen, digitsOf, afterDigits, readInt, readFrac, readExp}
-use Rattle.text_json.specs.Grammar.{both}
 use Rattle.text_json.specs.Content.{decimal, decimalFrom, limit}
 use Rattle.text_json.specs.declared.Step.{Step}
 use Rattle.text_json.specs.declared.Step.the-variants.{End, Stuck}
@@ -15,8 +14,8 @@ use Rattle.text_json.specs.declared.Scan.the-variants.{Token, NoToken}
 use Rattle.text_numbers.specs.declared.Run.{Run}
 use Rattle.text_numbers.specs.declared.Int.{Int}
 use Rattle.text_numbers.specs.declared.Int.the-variants.{Digits, NoInt}
-use Rattle.text_numbers.specs.declared.Part.{Part}
-use Rattle.text_numbers.specs.declared.Part.the-variants.{Past, NoPart}
+use Rattle.text_numbers.specs.declared.NumberPart.{NumberPart}
+use Rattle.text_numbers.specs.declared.NumberPart.the-variants.{Past, NoPart}
 
 -- both numbers are the same, or both are above every number of 32 bits
 abbrev pub Near : ℕ → ℕ → Type 0
@@ -48,7 +47,7 @@ abbrev pub Ints : List ℕ → ℕ → Int → Type 0
 Ints s at (Digits e v) = IntAt s at e v
 Ints s at (NoInt e) = ReadTo s at e (readInt (drop at s)) (stuck (drop e s))
 
-abbrev pub Parts : List ℕ → ℕ → Read Bool → Part → Type 0
+abbrev pub Parts : List ℕ → ℕ → Read Bool → NumberPart → Type 0
 Parts s at x (Past e f) = ReadTo s at e x (found f (drop e s))
 Parts s at x (NoPart e) = ReadTo s at e x (stuck (drop e s))
 
@@ -56,9 +55,14 @@ abbrev pub Reaches : List ℕ → ℕ → Read (Unit {0}) → Step → Type 0
 Reaches s at x (End e) = ReadTo s at e x (found tt (drop e s))
 Reaches s at x (Stuck e) = ReadTo s at e x (stuck (drop e s))
 
+-- the part whose digits were stepped over
+abbrev pub partOf : Step → NumberPart
+partOf (End e) = Past e false
+partOf (Stuck e) = NoPart e
+
 -- [ frac ] [ exp ]
 unfoldable pub readTail : List ℕ → Read Bool
-readTail s = andThen (readFrac s) (λ f r. andThen (readExp r) (λ e q. found (both f e) q))
+readTail s = andThen (readFrac s) (λ f r. andThen (readExp r) (λ e q. found (f && e) q))
 
 -- what document 01 refuses, of a number's parts
 unfoldable pub refusedParts : Bool → ℕ → Bool → Bool

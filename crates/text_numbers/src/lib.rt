@@ -9,9 +9,9 @@ ghost use Prim.Native.Nat.{_+_, _*_, _≤_, _<_};
 ghost use lib.ListN.{length, drop};
 ghost use Rattle.text_json.specs.Read.{readSomeDigits, readSigned, readFrac, readExp, readUnsigned, readNumber};
 ghost use Rattle.text_json.specs.Content.{refusedNumber};
-ghost use Rattle.text_json.specs.Scan.{Scans};
+ghost use Rattle.text_json.specs.Scan.{ScansToken};
 ghost use Rattle.text_json.specs.Size.{numeralSize, Within};
-ghost use Rattle.text_numbers.specs.Parts.{Near, Runs, Ints, Parts, Reaches, readTail, refusedParts, signs, WithSign};
+ghost use Rattle.text_numbers.specs.Parts.{Near, Runs, Ints, Parts, partOf, Reaches, readTail, refusedParts, signs, WithSign};
 
 // A run of digits: where it ends, and the number that it makes up, which stops growing above 32 bits.
 pub struct Run {
@@ -26,7 +26,7 @@ pub enum Int {
 }
 
 // A part that may be absent: where reading goes on, and whether it is absent; or the first byte that does not fit.
-pub enum Part {
+pub enum NumberPart {
     Past { end: usize, whole: bool },
     NoPart(usize),
 }
@@ -97,30 +97,34 @@ pub fn int_part(s: &[u8], at: usize) -> Int
     }
 }
 
+// A fraction or an exponent that is there, where its digits were stepped over.
+fn stepped(step: Step) -> NumberPart
+    ensures { λ r. ⌜ r ≡ partOf step ⌝ }
+{
+    match step {
+        Step::End(end) => NumberPart::Past { end, whole: false },
+        Step::Stuck(at) => NumberPart::NoPart(at),
+    }
+}
+
 // A point and digits, or nothing.
-pub fn frac(s: &[u8], at: usize) -> Part
+pub fn frac(s: &[u8], at: usize) -> NumberPart
     requires { ⌜ at ≤ length (now s) ⌝ }
     ensures { λ r. ⌜ Parts (now (s .entry)) at (readFrac (drop at (now (s .entry)))) r ⌝ }
 {
     if s.len() <= at {
-        return Part::Past {
+        return NumberPart::Past {
             end: at,
             whole: true,
         };
     }
     if s[at] != b'.' {
-        return Part::Past {
+        return NumberPart::Past {
             end: at,
             whole: true,
         };
     }
-    match some_digits(s, at + 1) {
-        Step::End(e) => Part::Past {
-            end: e,
-            whole: false,
-        },
-        Step::Stuck(e) => Part::NoPart(e),
-    }
+    stepped(some_digits(s, at + 1))
 }
 
 // Digits with a sign before them or none.
@@ -139,48 +143,42 @@ pub fn signed(s: &[u8], at: usize) -> Step
 }
 
 // An exponent, or nothing.
-pub fn exp(s: &[u8], at: usize) -> Part
+pub fn exp(s: &[u8], at: usize) -> NumberPart
     requires { ⌜ at ≤ length (now s) ⌝ }
     ensures { λ r. ⌜ Parts (now (s .entry)) at (readExp (drop at (now (s .entry)))) r ⌝ }
 {
     if s.len() <= at {
-        return Part::Past {
+        return NumberPart::Past {
             end: at,
             whole: true,
         };
     }
     if !is_exp(s[at]) {
-        return Part::Past {
+        return NumberPart::Past {
             end: at,
             whole: true,
         };
     }
-    match signed(s, at + 1) {
-        Step::End(e) => Part::Past {
-            end: e,
-            whole: false,
-        },
-        Step::Stuck(e) => Part::NoPart(e),
-    }
+    stepped(signed(s, at + 1))
 }
 
 // What follows a number's int.
-pub fn tail(s: &[u8], at: usize) -> Part
+pub fn tail(s: &[u8], at: usize) -> NumberPart
     requires { ⌜ at ≤ length (now s) ⌝ }
     ensures { λ r. ⌜ Parts (now (s .entry)) at (readTail (drop at (now (s .entry)))) r ⌝ }
 {
     match frac(s, at) {
-        Part::Past { end, whole } => match exp(s, end) {
-            Part::Past {
+        NumberPart::Past { end, whole } => match exp(s, end) {
+            NumberPart::Past {
                 end: last,
                 whole: plain,
-            } => Part::Past {
+            } => NumberPart::Past {
                 end: last,
                 whole: whole & plain,
             },
-            Part::NoPart(e) => Part::NoPart(e),
+            NumberPart::NoPart(e) => NumberPart::NoPart(e),
         },
-        Part::NoPart(e) => Part::NoPart(e),
+        NumberPart::NoPart(e) => NumberPart::NoPart(e),
     }
 }
 
@@ -207,16 +205,16 @@ pub fn sign_size(negative: bool) -> usize
 // A number without the sign before it, of which `negative` tells.
 pub fn unsigned(s: &[u8], at: usize, negative: bool) -> Scan
     requires { ⌜ at ≤ length (now s) ⌝ }
-    ensures { λ r. ⌜ WithSign negative at r × Scans refusedNumber numeralSize (now (s .entry)) (readUnsigned negative (drop at (now (s .entry)))) r ⌝ }
+    ensures { λ r. ⌜ WithSign negative at r × ScansToken refusedNumber numeralSize (now (s .entry)) (readUnsigned negative (drop at (now (s .entry)))) r ⌝ }
 {
     match int_part(s, at) {
         Int::Digits { end, value } => match tail(s, end) {
-            Part::Past { end: last, whole } => Scan::Token {
+            NumberPart::Past { end: last, whole } => Scan::Token {
                 end: last,
                 refused: refuses(negative, value, whole),
                 size: sign_size(negative) + (end - at),
             },
-            Part::NoPart(e) => Scan::NoToken(e),
+            NumberPart::NoPart(e) => Scan::NoToken(e),
         },
         Int::NoInt(e) => Scan::NoToken(e),
     }
@@ -225,7 +223,7 @@ pub fn unsigned(s: &[u8], at: usize, negative: bool) -> Scan
 // The number at a position.
 pub fn number(s: &[u8], at: usize) -> Scan
     requires { ⌜ at ≤ length (now s) ⌝ }
-    ensures { λ r. ⌜ Within at r × Scans refusedNumber numeralSize (now (s .entry)) (readNumber (drop at (now (s .entry)))) r ⌝ }
+    ensures { λ r. ⌜ Within at r × ScansToken refusedNumber numeralSize (now (s .entry)) (readNumber (drop at (now (s .entry)))) r ⌝ }
 {
     if s.len() <= at {
         return Scan::NoToken(at);

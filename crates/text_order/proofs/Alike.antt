@@ -12,7 +12,7 @@ use lib.Dec.{leb, eqb}
 use lib.ListN.{length, take, drop, getD, length-drop, length-take}
 use lib.Seq.{take-suc, getD-drop, getD-take}
 use Rattle.text_chars.specs.Measure.{isUnmarked, every}
-use Rattle.text_chars.proofs.Plain.{every-at, unmarked}
+use Rattle.text_chars.proofs.Plain.{unmarked-at}
 use Rattle.laws.specs.Order.{same}
 use Rattle.laws.proofs.Order.{by-test, same-eq}
 use Rattle.text_strings.specs.InString.{InString, Inside}
@@ -85,12 +85,6 @@ module _ (s t : List ℕ) (i j n : ℕ) (e : alike n (drop i s) (drop j t) ≡ t
       ∙ ap (λ (l : List ℕ). getD l m 0) (parts .1)
       ∙ (getD-take n (drop j t) m 0 h ∙ getD-drop j t m 0)
 
-  unmarked-at : (m : ℕ) → m < n → (getD s (i + m) 0 ≡ 0x22 → ⊥) × (getD s (i + m) 0 ≡ 0x5C → ⊥)
-  unmarked-at m h =
-      let l : m < length (take n (drop i s)) = omega (arith, length-take n (drop i s), parts .0) in
-      unmarked (getD s (i + m) 0)
-      (rw (getD-take n (drop i s) m 0 h, getD-drop i s m 0) at (every-at isUnmarked (take n (drop i s)) m (parts .2) l))
-
   -- A run of `n` bytes that are alike ends within the first text.
   pub fits : i ≤ length s → i + n ≤ length s
   fits h = let l = rw (length-drop i s) at (parts .0) in omega arith
@@ -101,7 +95,7 @@ module _ (s t : List ℕ) (i j n : ℕ) (e : alike n (drop i s) (drop j t) ≡ t
     upto zero h = subst₂ (λ (k l : ℕ). Both P Q s k t l) (sym (add-zero i)) (sym (add-zero j)) b
     upto (suc m) h =
         let c = upto m (omega arith) in
-        let w = unmarked-at m (omega arith) in
+        let w = unmarked-at s i n (parts .0) (parts .2) m (omega arith) in
         let q = equal-at m (omega arith) in
         let next : (k : ℕ) → k + m + 1 ≡ k + suc m = λ k. omega arith in
         subst₂ (λ (k l : ℕ). Both P Q s k t l) (next i) (next j) (

@@ -11,7 +11,7 @@ use Rattle.laws.specs.Order.{leq}
 use Rattle.laws.proofs.Order.{by-test, false-true, leq-less, leq-same, leq-more, Step, less, equal, more, step}
 use Rattle.text_utf8.specs.Scalar.{encode}
 use Rattle.text_strings.specs.InString.{InString, Escapes}
-use Rattle.text_strings.specs.Cursor.{Left, Gives}
+use Rattle.text_strings.specs.Cursor.{Left, GivesByte}
 use Rattle.text_order.specs.Compare.{order, differs}
 use Rattle.text_strings.specs.declared.Next.{Next}
 use Rattle.text_order.specs.declared.Order.{Order}
@@ -39,7 +39,7 @@ Tracks P Q P′ Q′ = (x y : List ℕ) → P x → Q y → (x′ : List ℕ) ×
 
 -- how the loop over two cursors ends, and how it goes on
 module _ (s t : List ℕ) {P Q P′ Q′ : List ℕ → Type 0} (keep : Tracks P Q P′ Q′) (n m : Next)
-    (gn : (c : List ℕ) → P′ c → Gives s c n) (gm : (c : List ℕ) → Q′ c → Gives t c m) where
+    (gn : (c : List ℕ) → P′ c → GivesByte s c n) (gm : (c : List ℕ) → Q′ c → GivesByte t c m) where
   -- Where neither cursor gives a byte, the order of the contents is equal.
   pub both-end : n .found ≡ false → m .found ≡ false → (x y : List ℕ) → P x → Q y → Equal ≡ order x y
   unfolding order

@@ -8,15 +8,12 @@ use borrow.Author.Tests.{eqb-true, eqb-false, eq-eqb, ne-eqb, not-true}
 use lib.Dec.{eqb}
 use lib.ListN.{length, getD}
 use Rattle.text_json.specs.Bytes.{shortValue}
-use Rattle.text_strings.specs.InString.{Inside, EscapeAt, Escapes}
+use Rattle.text_strings.specs.InString.{Inside, Escapes}
 use Rattle.text_order.specs.Compare.{sameEscape}
 use Rattle.text_order.proofs.Alike.{Both}
 use Rattle.text_strings.proofs.Escapes.{letter-within, short-escapes}
-use Rattle.text_strings.proofs.Cursors.{inside-within}
+use Rattle.text_strings.proofs.Cursors.{inside-within, escape-here}
 use Rattle.text_order.proofs.Orders.{both-escaped}
-
-escape-here : (s : List ℕ) (i : ℕ) → Inside s i → getD s i 0 ≡ 0x5C → EscapeAt s i
-escape-here s i p e = record { left = p .bytes; inside = p .here; backslash = e }
 
 -- The position after a backslash inside a string is below the text's length.
 pub letter-after : (s : List ℕ) (i : ℕ) → Inside s i → getD s i 0 ≡ 0x5C → i + 1 < length s

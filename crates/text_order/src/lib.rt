@@ -9,7 +9,7 @@ ghost use lib.ListN.{length, take, drop};
 ghost use Rattle.laws.specs.Order.{same};
 ghost use Rattle.text_strings.specs.InString.{InString, Inside};
 ghost use Rattle.text_order.specs.Compare.{order, differs, alike, sameEscape};
-ghost use Rattle.text_strings.specs.Cursor.{Left, Readable};
+ghost use Rattle.text_strings.specs.Cursor.{Left, ReadableCursor};
 
 // How one string's content stands to another's, byte by byte.
 pub enum Order {
@@ -20,7 +20,7 @@ pub enum Order {
 
 // The order of what is left before two cursors, one byte at a time.
 fn compare_cursors(s: &[u8], a: Cursor, t: &[u8], b: Cursor) -> Order
-    requires { ⌜ Readable (now s) a × Readable (now t) b ⌝ }
+    requires { ⌜ ReadableCursor (now s) a × ReadableCursor (now t) b ⌝ }
     ensures { λ r. ⌜ ((x y : List ℕ) → Left (now (s .entry)) a x → Left (now (t .entry)) b y → r ≡ order x y) ⌝ }
 {
     let mut i = a;
@@ -103,7 +103,7 @@ fn alike16(s: &[u8], i: usize, t: &[u8], j: usize) -> bool
     if !same16(s, i, t, j) {
         return false;
     }
-    text_chars::unmarked16(s, i)
+    text_chars::unmarked(s, i, 16)
 }
 
 // The order of two strings' contents from position i of s and position j of t on: sixteen bytes at a time while they are alike. Most

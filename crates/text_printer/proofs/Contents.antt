@@ -12,13 +12,13 @@ use Rattle.text_chars.specs.Measure.{plainLength}
 use Rattle.text_strings.specs.InString.{InString, Inside, Escapes, EscapeAt, contentFrom}
 use Rattle.text_strings.proofs.Contents.{inside-content}
 use Rattle.text_strings.proofs.Cursors.{closes, inside-within}
-use Rattle.text_printer.specs.Writes.{Writes}
-use Rattle.text_printer.proofs.Written.{nothing-written, same-length, lent-length, byte-written, part-written}
+use Rattle.laws.specs.Writes.{Writes}
+use Rattle.laws.proofs.Writing.{nothing-written, same-length, lent-length, byte-written, part-written}
 use Rattle.text_printer.proofs.Runs.{Run, runs-after}
 use Rattle.text_printer.proofs.Escaped.{escaped-append}
 
 -- Of the content from position i on, n bytes of its canonical form are written, and position k is where the rest of it begins.
-pub record Progress (s : List ℕ) (i : ℕ) (before out : List ℕ) (k n : ℕ) : Type 0 where
+pub record ContentWritten (s : List ℕ) (i : ℕ) (before out : List ℕ) (k n : ℕ) : Type 0 where
   pub done : List ℕ
   pub left : List ℕ
   pub inside : InString s k left
@@ -27,10 +27,10 @@ pub record Progress (s : List ℕ) (i : ℕ) (before out : List ℕ) (k n : ℕ)
   pub written : Writes before out done
 
 -- At the start nothing of the content is written.
-pub started : (s : List ℕ) (i : ℕ) (l : List ℕ) → Inside s i → Progress s i l l i 0
+pub started : (s : List ℕ) (i : ℕ) (l : List ℕ) → Inside s i → ContentWritten s i l l i 0
 started s i l p = record { done = []; left = contentFrom s i; inside = inside-content s i p; joins = refl; size = refl; written = nothing-written l }
 
-module _ {s : List ℕ} {i : ℕ} {before out : List ℕ} {k n : ℕ} (p : Progress s i before out k n) where
+module _ {s : List ℕ} {i : ℕ} {before out : List ℕ} {k n : ℕ} (p : ContentWritten s i before out k n) where
   -- The position that is reached lies within the text.
   pub within : k < length s
   within = inside-within s k (record { bytes = p .left; here = p .inside })
@@ -88,7 +88,7 @@ module _ {s : List ℕ} {i : ℕ} {before out : List ℕ} {k n : ℕ} (p : Progr
 
       -- With these bytes written to that part, the content is written up to the position after them.
       pub after-run : (m : ℕ) (part : List ℕ) → m ≡ e - k → Writes (midOf n (length out - n) out) part (take (e - k) (drop k s))
-          → Progress s i before (putMid n (length out - n) out part) e (n + m)
+          → ContentWritten s i before (putMid n (length out - n) out part) e (n + m)
       after-run m part g w =
           let q : k + (e - k) ≡ e = omega arith in
           record {
@@ -115,7 +115,7 @@ module _ {s : List ℕ} {i : ℕ} {before out : List ℕ} {k n : ℕ} (p : Progr
 
       -- With that form written to that part, the content is written up to the position after the escape.
       pub after-escape : (m : ℕ) (part : List ℕ) → m ≡ length (escaped (encode scalar)) → Writes (midOf n (length out - n) out) part (escaped (encode scalar))
-          → Progress s i before (putMid n (length out - n) out part) next (n + m)
+          → ContentWritten s i before (putMid n (length out - n) out part) next (n + m)
       after-escape m part f w =
           record {
             done = p .done ++ escaped (encode scalar);

@@ -11,8 +11,12 @@ use lib.Dec.{ltb, eqb}
 use Rattle.laws.proofs.Order.{by-test}
 use Rattle.text_utf8.specs.Scalar.{encode, encode1, encode2, encode3, encode4}
 use Rattle.text_json.specs.Content.{escaped}
-use Rattle.text_printer.specs.Writes.{Writes}
-use Rattle.text_printer.proofs.Written.{two-written}
+use Rattle.laws.specs.Writes.{Writes}
+use Rattle.laws.proofs.Writing.{nothing-written, byte-written}
+
+-- two bytes that are set at the start of a slice of at least two bytes
+two-written : (l : List ℕ) (a b : ℕ) → 2 ≤ length l → Writes l (set (set l 0 a) 1 b) (a ∷ b ∷ [])
+two-written l a b h = byte-written (byte-written (nothing-written l) 0 a refl (omega arith)) 1 b refl (omega arith)
 
 -- A byte that is neither a quotation mark nor a backslash stands for itself in the canonical form.
 pub escaped-plain : (b : ℕ) (s : List ℕ) → (b ≡ 0x22 → ⊥) → (b ≡ 0x5C → ⊥) → escaped (b ∷ s) ≡ b ∷ escaped s

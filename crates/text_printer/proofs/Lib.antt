@@ -1,4 +1,3 @@
 pub mod Contents
 pub mod Escaped
 pub mod Runs
-pub mod Written

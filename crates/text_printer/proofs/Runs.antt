@@ -5,11 +5,11 @@ use mathlib.Core.List.{List, [], _∷_, _++_, append-assoc}
 use native.Mathlib.Omega.{arith}
 use native.Mathlib.Nat.{add-zero}
 use native.Mathlib.Numerals.{add-one}
-use lib.ListN.{length, take, drop, getD, length-drop}
+use lib.ListN.{length, take, drop, getD}
 use lib.Seq.{take-suc, getD-drop, drop-cons}
 use Rattle.text_json.specs.Content.{escaped}
 use Rattle.text_chars.specs.Measure.{plainLength}
-use Rattle.text_chars.proofs.Plain.{Itself, plain-at, plain-fits}
+use Rattle.text_chars.proofs.Plain.{plain-at, plain-fits}
 use Rattle.text_strings.specs.InString.{InString}
 use Rattle.text_strings.proofs.Cursors.{plain}
 use Rattle.text_printer.proofs.Escaped.{escaped-plain}

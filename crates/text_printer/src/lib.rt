@@ -6,7 +6,7 @@ ghost use lib.ListN.{length, take, drop};
 ghost use Rattle.text_utf8.specs.Scalar.{encode};
 ghost use Rattle.text_json.specs.Content.{escaped, quoted};
 ghost use Rattle.text_strings.specs.InString.{Inside, contentFrom};
-ghost use Rattle.text_printer.specs.Writes.{Writes};
+ghost use Rattle.laws.specs.Writes.{Writes};
 
 // The bytes of s from `from` to `to`.
 pub fn copy(s: &[u8], from: usize, to: usize, out: &mut [u8]) -> usize

@@ -15,14 +15,14 @@ use Rattle.text_content.specs.Canonical.{canonical, ordered, orderedValues}
 use Rattle.text_content.specs.Fault.{stringFault, stringFaults, numberFault, numberFaults, keyFault, keyFaults}
 use Rattle.text_content.proofs.Size.{sizeOf, sizeOfElements, enclosed, size-canonical, size-empty, size-enclosed, size-elements-append}
 use Rattle.text_tokens.specs.Summary.{summary, plainSummary, plus, ownKeys}
-use Rattle.text_tokens.specs.Scanned.{Scans, Follows, plainValue}
+use Rattle.text_tokens.specs.Scanned.{ScansValue, Follows, plainValue}
 use Rattle.text_scan.specs.Scanned.{readArray}
 use Rattle.text_tokens.specs.declared.Summary.{Summary}
-use Rattle.text_tokens.specs.declared.Found.{Found}
+use Rattle.text_tokens.specs.declared.ScannedValue.{ScannedValue}
 use Rattle.text_tokens.specs.declared.After.{After}
 use Rattle.text_tokens.specs.declared.Scanned.the-variants.{Value, Stuck}
-use Rattle.text_scan.proofs.Progress.{IsValue, scans-stuck, value-later, value-size, read-nothing, listed-empty, listed-items, item-stuck, item-ends}
-use Rattle.text_scan.proofs.Progress.{item-sticks, item-more}
+use Rattle.text_scan.proofs.Results.{IsValue, scans-stuck, value-later, value-size, read-nothing, listed-empty, listed-items, item-stuck, item-ends}
+use Rattle.text_scan.proofs.Results.{item-sticks, item-more}
 
 -- the faults, the length and the order of the elements so far, with the array's opening mark
 pub arraySum : List Syntax → Summary
@@ -136,7 +136,7 @@ sum-empty = λ i. record { string = 0; number = 0; key = 0; size = (sym (size-ca
     none = ap enclosed no-size ∙ size-empty
 
 -- Reading goes on at i with these elements done, after the opening mark at `at`.
-pub record Progress (s : List ℕ) (at depth i : ℕ) (sum : Summary) : Type 0 where
+pub record ArrayScanned (s : List ℕ) (at depth i : ℕ) (sum : Summary) : Type 0 where
   pub done : List Syntax
   pub reads : readListed (read depth) 0x5D (drop at s) ≡ prependAll done (itemsFrom (read depth) 0x5D (drop i s))
   pub holds : sum ≡ arraySum done
@@ -146,13 +146,14 @@ pub record Progress (s : List ℕ) (at depth i : ℕ) (sum : Summary) : Type 0 w
 
 module _ (s : List ℕ) (at depth : ℕ) where
   -- If only spaces stand before the closing bracket, the array ends after it and has a canonical form of two bytes.
-  pub empty : (i : ℕ) → (at ≤ i) × At s i (spaces (drop at s)) → i < length s → getD s i 0 ≡ 0x5D → Scans s (readArray depth (drop at s)) (plainValue (i + 1) 2)
+  pub empty : (i : ℕ) → (at ≤ i) × At s i (spaces (drop at s)) → i < length s → getD s i 0 ≡ 0x5D
+      → ScansValue s (readArray depth (drop at s)) (plainValue (i + 1) 2)
   unfolding readArray andThen elements ownKeys
   empty i p w e = rw (listed-empty (read depth) 0x5D s at i (p .1) w e) ((omega arith, refl), sym sum-empty, refl)
 
   -- If no closing bracket stands after the first spaces, reading goes on there with no element done.
   pub start : (i : ℕ) → (at ≤ i) × At s i (spaces (drop at s)) → (i < length s → getD s i 0 ≡ 0x5D → ⊥)
-      → Progress s at depth i (plainSummary 1)
+      → ArrayScanned s at depth i (plainSummary 1)
   unfolding prependAll arraySum elements stringFaults numberFaults keyFaults contents orderedValues
   start i p n =
       record {
@@ -164,16 +165,16 @@ module _ (s : List ℕ) (at depth : ℕ) where
         small = omega (arith, p .0);
       }
 
-module _ {s : List ℕ} {at depth i : ℕ} {sum : Summary} (p : Progress s at depth i sum) where
+module _ {s : List ℕ} {at depth i : ℕ} {sum : Summary} (p : ArrayScanned s at depth i sum) where
   -- the element at i is stuck
-  pub stuck-element : (e : ℕ) → Scans s (read depth (drop i s)) (Stuck e) → Scans s (readArray depth (drop at s)) (Stuck e)
+  pub stuck-element : (e : ℕ) → ScansValue s (read depth (drop i s)) (Stuck e) → ScansValue s (readArray depth (drop at s)) (Stuck e)
   unfolding readArray andThen
   stuck-element e q =
       let r = scans-stuck s (read depth (drop i s)) e q in
       rw (item-stuck (read depth) 0x5D (read-shorter depth) (read-nothing depth) s i (p .done) (readListed (read depth) 0x5D (drop at s)) (p .reads) e (r .1))
       (r .0, refl)
 
-  module _ {f : Found} (q : IsValue s (read depth (drop i s)) f) where
+  module _ {f : ScannedValue} (q : IsValue s (read depth (drop i s)) f) where
     -- An element that is read at position `i` ends after `i`.
     pub later : i < f .end
     later = value-later s depth i f (p .within) q
@@ -187,7 +188,7 @@ module _ {s : List ℕ} {at depth i : ℕ} {sum : Summary} (p : Progress s at de
 
     -- If the closing bracket follows the element, the array is read, and its summary is that of the elements done and this one.
     pub ends : (e : ℕ) → Follows s (f .end) 0x5D (After.End e)
-        → Scans s (readArray depth (drop at s)) (Value (record { end = e; count = 0; sum = plus sum (f .sum) }))
+        → ScansValue s (readArray depth (drop at s)) (Value (record { end = e; count = 0; sum = plus sum (f .sum) }))
     unfolding readArray andThen ownKeys
     ends e w =
         rw (item-ends (read depth) 0x5D (read-shorter depth) (read-nothing depth) s i (p .done) (readListed (read depth) 0x5D (drop at s)) (p .reads)
@@ -195,7 +196,7 @@ module _ {s : List ℕ} {at depth i : ℕ} {sum : Summary} (p : Progress s at de
         ((w .1, refl), now-holds ∙ sum-array (p .done ++ (q .tree ∷ [])) (omega (arith, length-append (p .done) (q .tree ∷ []))), refl)
 
     -- If neither a comma nor the closing bracket follows the element, reading the array is stuck there.
-    pub sticks : (e : ℕ) → Follows s (f .end) 0x5D (After.Stuck e) → Scans s (readArray depth (drop at s)) (Stuck e)
+    pub sticks : (e : ℕ) → Follows s (f .end) 0x5D (After.Stuck e) → ScansValue s (readArray depth (drop at s)) (Stuck e)
     unfolding readArray andThen
     sticks e w =
         rw (item-sticks (read depth) 0x5D (read-shorter depth) (read-nothing depth) s i (p .done) (readListed (read depth) 0x5D (drop at s)) (p .reads)
@@ -203,7 +204,7 @@ module _ {s : List ℕ} {at depth i : ℕ} {sum : Summary} (p : Progress s at de
         (w .0 .0, refl)
 
     -- If a comma follows the element, reading goes on at the next one with this element done.
-    pub goes-on : (j : ℕ) → Follows s (f .end) 0x5D (After.More j) → Progress s at depth j (plus sum (f .sum))
+    pub goes-on : (j : ℕ) → Follows s (f .end) 0x5D (After.More j) → ArrayScanned s at depth j (plus sum (f .sum))
     unfolding plus
     goes-on j w =
         record {

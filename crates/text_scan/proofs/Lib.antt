@@ -1,5 +1,5 @@
 pub mod Arrays
 pub mod Keys
 pub mod Objects
-pub mod Progress
+pub mod Results
 pub mod Values

@@ -12,7 +12,7 @@ use Rattle.text_json.specs.Syntax.{Syntax, Char, Members, no-members, object, m
 use Rattle.text_json.specs.Read.{Read, found, stuck, andThen, spaces, readListed, readPair, readString, readWord, read}
 use Rattle.text_json.specs.Content.{refusedString, unescape, quoted}
 use Rattle.text_json.specs.Size.{stringSize}
-use Rattle.text_json.specs.Scan.{At, Scans as TokenScans}
+use Rattle.text_json.specs.Scan.{At, ScansToken as TokenScans}
 use Rattle.text_json.specs.declared.Scan.the-variants.{Token, NoToken}
 use Rattle.text_json.proofs.Items.{itemsFrom, prependAll}
 use Rattle.text_json.proofs.Grammar.Ends.{inside-length}
@@ -33,15 +33,15 @@ use Rattle.text_keys.proofs.Keys.{keys-append}
 use Rattle.text_keys.proofs.Repeats.{repeated-places}
 use Rattle.text_keys.proofs.Orders.{rising-places}
 use Rattle.text_tokens.specs.Summary.{summary, plainSummary, plus, memberSummary, memberCount, ownKeys}
-use Rattle.text_tokens.specs.Scanned.{Scans, Follows, KeyWithin, readKey, plainValue, closedSummary, closedValue}
+use Rattle.text_tokens.specs.Scanned.{ScansValue, Follows, KeyWithin, readKey, plainValue, closedSummary, closedValue}
 use Rattle.text_scan.specs.Scanned.{readObject, KeysOf}
 use Rattle.text_tokens.specs.declared.Summary.{Summary}
-use Rattle.text_tokens.specs.declared.Found.{Found}
+use Rattle.text_tokens.specs.declared.ScannedValue.{ScannedValue}
 use Rattle.text_tokens.specs.declared.After.{After}
 use Rattle.text_tokens.specs.declared.Scanned.{Scanned}
 use Rattle.text_tokens.specs.declared.Scanned.the-variants.{Stuck}
-use Rattle.text_scan.proofs.Progress.{IsValue, scans-stuck, value-later, value-size, listed-empty, listed-items, item-stuck, item-ends, item-sticks}
-use Rattle.text_scan.proofs.Progress.{item-more}
+use Rattle.text_scan.proofs.Results.{IsValue, scans-stuck, value-later, value-size, listed-empty, listed-items, item-stuck, item-ends, item-sticks}
+use Rattle.text_scan.proofs.Results.{item-more}
 use Rattle.text_tokens.proofs.Tokens.{mark-at}
 use Rattle.text_scan.proofs.Keys.{keys-of, no-keys-left}
 
@@ -258,7 +258,7 @@ name-inside s i v fault size p = go (readString (drop i s)) refl (p .reads)
     go (stuck r) q e = let z : _≡_ {A = ℕ} 0 1 = cc in absurd (omega arith)
 
 -- Reading goes on at i with these members done, after the opening mark at `at`; their keys stand at the positions ks.
-pub record Progress (s : List ℕ) (at depth i : ℕ) (ks : List ℕ) (sum : Summary) : Type 0 where
+pub record ObjectScanned (s : List ℕ) (at depth i : ℕ) (ks : List ℕ) (sum : Summary) : Type 0 where
   pub done : List Member
   pub reads : readListed (readPair (read depth)) 0x7D (drop at s) ≡ prependAll done (itemsFrom (readPair (read depth)) 0x7D (drop i s))
   pub holds : sum ≡ objectSum done
@@ -282,7 +282,7 @@ module _ (s : List ℕ) (at depth : ℕ) where
 
   -- If only spaces stand before the closing brace, the object ends after it and has a canonical form of two bytes.
   pub empty : (i : ℕ) → (at ≤ i) × At s i (spaces (drop at s)) → i < length s → getD s i 0 ≡ 0x7D
-      → Scans s (readObject depth (drop at s)) (plainValue (i + 1) 2)
+      → ScansValue s (readObject depth (drop at s)) (plainValue (i + 1) 2)
   unfolding members ownKeys memberCount
   empty i p w e = rw (nothing i p w e) ((omega arith, refl), sym sum-empty, refl)
 
@@ -293,7 +293,7 @@ module _ (s : List ℕ) (at depth : ℕ) where
 
   -- If no closing brace stands after the first spaces, reading goes on there with no member done.
   pub start : (i : ℕ) → (at ≤ i) × At s i (spaces (drop at s)) → (i < length s → getD s i 0 ≡ 0x7D → ⊥)
-      → Progress s at depth i [] (plainSummary 1)
+      → ObjectScanned s at depth i [] (plainSummary 1)
   unfolding prependAll objectSum members keyStringFaults memberNumberFaults memberKeyFaults fields orderedFields
   start i p n =
       record {
@@ -307,22 +307,22 @@ module _ (s : List ℕ) (at depth : ℕ) where
         small = omega (arith, p .0);
       }
 
-module _ {s : List ℕ} {at depth i : ℕ} {ks : List ℕ} {sum : Summary} (p : Progress s at depth i ks sum) where
+module _ {s : List ℕ} {at depth i : ℕ} {ks : List ℕ} {sum : Summary} (p : ObjectScanned s at depth i ks sum) where
   -- no member can be read at i
-  stuck-pair : (e : ℕ) → e ≤ length s → readPair (read depth) (drop i s) ≡ stuck (drop e s) → Scans s (readObject depth (drop at s)) (Stuck e)
+  stuck-pair : (e : ℕ) → e ≤ length s → readPair (read depth) (drop i s) ≡ stuck (drop e s) → ScansValue s (readObject depth (drop at s)) (Stuck e)
   unfolding readObject andThen
   stuck-pair e w q =
       rw (item-stuck (readPair (read depth)) 0x7D (pair-shorter depth) (pair-nothing depth) s i (p .done)
       (readListed (readPair (read depth)) 0x7D (drop at s)) (p .reads) e q) (w, refl)
 
   -- If reading a key at position `i` is stuck, reading the object is stuck at the same position.
-  pub stuck-key : (e : ℕ) → TokenScans refusedString stringSize s (readKey (drop i s)) (NoToken e) → Scans s (readObject depth (drop at s)) (Stuck e)
+  pub stuck-key : (e : ℕ) → TokenScans refusedString stringSize s (readKey (drop i s)) (NoToken e) → ScansValue s (readObject depth (drop at s)) (Stuck e)
   unfolding andThen
   stuck-key e q = let r = none-stuck s i e q in stuck-pair e (r .0) (pair-by-key (read depth) (drop i s) ∙ rw (r .1))
 
   module _ {v fault size : ℕ} (q : IsName s i v fault size) where
     -- If reading the member's value is stuck, reading the object is stuck at the same position.
-    pub stuck-value : (e : ℕ) → Scans s (read depth (drop v s)) (Stuck e) → Scans s (readObject depth (drop at s)) (Stuck e)
+    pub stuck-value : (e : ℕ) → ScansValue s (read depth (drop v s)) (Stuck e) → ScansValue s (readObject depth (drop at s)) (Stuck e)
     unfolding andThen
     stuck-value e z =
         let r = scans-stuck s (read depth (drop v s)) e z in
@@ -344,7 +344,7 @@ module _ {s : List ℕ} {at depth i : ℕ} {ks : List ℕ} {sum : Summary} (p : 
     pub value-space : (l : ℕ) → length s < at + 4 * l → length s ≤ v + 4 * (l - (length ks + 1))
     value-space l h = omega (arith, p .from, q .later, key-space l h)
 
-    module _ {f : Found} (z : IsValue s (read depth (drop v s)) f) where
+    module _ {f : ScannedValue} (z : IsValue s (read depth (drop v s)) f) where
       tree : Member
       tree = record { place = drop i s; key = q .chars; value = z .tree }
 
@@ -382,7 +382,7 @@ module _ {s : List ℕ} {at depth i : ℕ} {ks : List ℕ} {sum : Summary} (p : 
 
       -- If the closing brace follows the member, the object is read, and its summary is that of the members done and this one.
       pub ends : (e : ℕ) → Follows s (f .end) 0x7D (After.End e)
-          → Scans s (readObject depth (drop at s)) (closedValue s e (plus sum (memberSummary fault size (f .sum))) (ks ++ (i ∷ [])))
+          → ScansValue s (readObject depth (drop at s)) (closedValue s e (plus sum (memberSummary fault size (f .sum))) (ks ++ (i ∷ [])))
       ends e w = rw (whole-reads e w) ((w .1, refl), closing, own-places s now-places)
         where
           closing : closedSummary s (plus sum (memberSummary fault size (f .sum))) (ks ++ (i ∷ [])) ≡ summary (object (members (p .done ++ (tree ∷ []))))
@@ -398,7 +398,7 @@ module _ {s : List ℕ} {at depth i : ℕ} {ks : List ℕ} {sum : Summary} (p : 
           (record { places = ks ++ (i ∷ []); here = now-places; within = h; sorted = k })
 
       -- If neither a comma nor the closing brace follows the member, reading the object is stuck there.
-      pub sticks : (e : ℕ) → Follows s (f .end) 0x7D (After.Stuck e) → Scans s (readObject depth (drop at s)) (Stuck e)
+      pub sticks : (e : ℕ) → Follows s (f .end) 0x7D (After.Stuck e) → ScansValue s (readObject depth (drop at s)) (Stuck e)
       unfolding readObject andThen
       sticks e w =
           rw (item-sticks (readPair (read depth)) 0x7D (pair-shorter depth) (pair-nothing depth) s i (p .done)
@@ -406,7 +406,8 @@ module _ {s : List ℕ} {at depth i : ℕ} {ks : List ℕ} {sum : Summary} (p : 
           (w .0 .0, refl)
 
       -- If a comma follows the member, reading goes on at the next one with this member done.
-      pub goes-on : (j : ℕ) → Follows s (f .end) 0x7D (After.More j) → Progress s at depth j (ks ++ (i ∷ [])) (plus sum (memberSummary fault size (f .sum)))
+      pub goes-on : (j : ℕ) → Follows s (f .end) 0x7D (After.More j)
+          → ObjectScanned s at depth j (ks ++ (i ∷ [])) (plus sum (memberSummary fault size (f .sum)))
       unfolding plus memberSummary
       goes-on j w =
           record {
@@ -448,6 +449,6 @@ member-size fault size v x e = ap (λ (y : Summary). y .size) e
 
 -- an object's end and what it holds, by equal parts
 pub closed-same : (s : List ℕ) (r : Read Syntax) (e : ℕ) (x m n sum : Summary) (ks ls : List ℕ) (z : Scanned)
-    → z ≡ closedValue s e x ks → x ≡ plus sum m → m ≡ n → ks ≡ ls → Scans s r (closedValue s e (plus sum n) ls) → Scans s r z
+    → z ≡ closedValue s e x ks → x ≡ plus sum m → m ≡ n → ks ≡ ls → ScansValue s r (closedValue s e (plus sum n) ls) → ScansValue s r z
 closed-same s r e x m n sum ks ls z a b c d p =
-    subst (Scans s r) (sym (a ∙ ap (λ (w : Summary). closedValue s e w ks) (b ∙ ap (plus sum) c) ∙ ap (closedValue s e (plus sum n)) d)) p
+    subst (ScansValue s r) (sym (a ∙ ap (λ (w : Summary). closedValue s e w ks) (b ∙ ap (plus sum) c) ∙ ap (closedValue s e (plus sum n)) d)) p

@@ -2,9 +2,9 @@
 // and are the keys of its objects in rising order.
 use text_json::MOST_NESTING;
 use text_tokens::After;
-use text_tokens::Found;
 use text_tokens::Name;
 use text_tokens::Scanned;
+use text_tokens::ScannedValue;
 use text_tokens::Summary;
 use text_tokens::added;
 use text_tokens::after_item;
@@ -18,13 +18,13 @@ use text_tokens::stands;
 ghost use Prim.Native.Nat.{_+_, _*_, _<_};
 ghost use lib.ListN.{length, drop};
 ghost use Rattle.text_json.specs.Read.{read, readText};
-ghost use Rattle.text_tokens.specs.Scanned.{Scans};
+ghost use Rattle.text_tokens.specs.Scanned.{ScansValue};
 ghost use Rattle.text_scan.specs.Scanned.{ScanSpace, LeavesKeys, readArray, readObject};
 
 // A value with arrays and objects nested at most `depth` deep. The keys of its objects are kept in `keys` while they are read.
 fn value(s: &[u8], at: usize, depth: usize, keys: &mut [u16], spare: &mut [u16]) -> Scanned
     requires { ⌜ ScanSpace (now s) at (now keys) (now spare) ⌝ }
-    ensures { λ r. ⌜ Scans (now (s .entry)) (read depth (drop at (now (s .entry)))) r ⌝ }
+    ensures { λ r. ⌜ ScansValue (now (s .entry)) (read depth (drop at (now (s .entry)))) r ⌝ }
 {
     if at < s.len() {
         if 0 < depth {
@@ -43,7 +43,7 @@ fn value(s: &[u8], at: usize, depth: usize, keys: &mut [u16], spare: &mut [u16])
 // What follows the opening mark of an array.
 fn array(s: &[u8], at: usize, depth: usize, keys: &mut [u16], spare: &mut [u16]) -> Scanned
     requires { ⌜ ScanSpace (now s) at (now keys) (now spare) ⌝ }
-    ensures { λ r. ⌜ Scans (now (s .entry)) (readArray depth (drop at (now (s .entry)))) r ⌝ }
+    ensures { λ r. ⌜ ScansValue (now (s .entry)) (readArray depth (drop at (now (s .entry)))) r ⌝ }
 {
     let mut i = text_json::space::skip_spaces(s, at);
     if stands(s, i, b']') {
@@ -65,7 +65,7 @@ fn array(s: &[u8], at: usize, depth: usize, keys: &mut [u16], spare: &mut [u16])
         sum = added(sum, part);
         match after_item(s, v.end, b']') {
             After::End(end) => {
-                return Scanned::Value(Found { end, count: 0, sum });
+                return Scanned::Value(ScannedValue { end, count: 0, sum });
             }
             After::More(j) => i = j,
             After::Stuck(e) => return Scanned::Stuck(e),
@@ -78,7 +78,7 @@ fn array(s: &[u8], at: usize, depth: usize, keys: &mut [u16], spare: &mut [u16])
 fn object(s: &[u8], at: usize, depth: usize, keys: &mut [u16], spare: &mut [u16]) -> Scanned
     requires { ⌜ ScanSpace (now s) at (now keys) (now spare) ⌝ }
     requires { ⌜ length (now s) < at + 4 * length (now keys) ⌝ }
-    ensures { λ r. ⌜ Scans (now (s .entry)) (readObject depth (drop at (now (s .entry)))) r ⌝ }
+    ensures { λ r. ⌜ ScansValue (now (s .entry)) (readObject depth (drop at (now (s .entry)))) r ⌝ }
     ensures { λ r. ⌜ LeavesKeys (now (s .entry)) (readObject depth (drop at (now (s .entry)))) (now (keys .exit)) r ⌝ }
 {
     let mut i = text_json::space::skip_spaces(s, at);
@@ -120,7 +120,7 @@ fn object(s: &[u8], at: usize, depth: usize, keys: &mut [u16], spare: &mut [u16]
 // The value of a whole text. An object is read here, not by `value`, which says nothing of the keys that it leaves.
 fn root(s: &[u8], at: usize, keys: &mut [u16], spare: &mut [u16]) -> Scanned
     requires { ⌜ ScanSpace (now s) at (now keys) (now spare) ⌝ }
-    ensures { λ r. ⌜ Scans (now (s .entry)) (read 8 (drop at (now (s .entry)))) r ⌝ }
+    ensures { λ r. ⌜ ScansValue (now (s .entry)) (read 8 (drop at (now (s .entry)))) r ⌝ }
     ensures { λ r. ⌜ LeavesKeys (now (s .entry)) (read 8 (drop at (now (s .entry)))) (now (keys .exit)) r ⌝ }
 {
     if stands(s, at, b'{') {
@@ -133,7 +133,7 @@ fn root(s: &[u8], at: usize, keys: &mut [u16], spare: &mut [u16]) -> Scanned
 // objects while they are read. Where the value is an object, its own keys are left at the start of `keys`, sorted.
 pub fn text(s: &[u8], keys: &mut [u16], spare: &mut [u16]) -> Scanned
     requires { ⌜ ScanSpace (now s) 0 (now keys) (now spare) ⌝ }
-    ensures { λ r. ⌜ Scans (now (s .entry)) (readText 8 (now (s .entry))) r ⌝ }
+    ensures { λ r. ⌜ ScansValue (now (s .entry)) (readText 8 (now (s .entry))) r ⌝ }
     ensures { λ r. ⌜ LeavesKeys (now (s .entry)) (readText 8 (now (s .entry))) (now (keys .exit)) r ⌝ }
 {
     let at = text_json::space::skip_spaces(s, 0);
@@ -147,5 +147,5 @@ pub fn text(s: &[u8], keys: &mut [u16], spare: &mut [u16]) -> Scanned
     }
     let count = v.count;
     let sum = v.sum;
-    Scanned::Value(Found { end, count, sum })
+    Scanned::Value(ScannedValue { end, count, sum })
 }

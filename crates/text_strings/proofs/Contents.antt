@@ -1,9 +1,7 @@
 -- The content from a position on is the one that the grammar finds there.
 use Prim.Native.Nat.{ℕ}
-use mathlib.Core.Path.{_≡_, refl, sym, ap, _∙_}
+use mathlib.Core.Path.{_≡_, sym, ap, _∙_}
 use mathlib.Core.List.{List}
-use lib.ListN.{drop}
-use Rattle.text_json.specs.Read.{found, char, readChars}
 use Rattle.text_json.proofs.Grammar.Complete.{chars-complete}
 use Rattle.text_strings.specs.InString.{InString, Inside, contentOf, contentFrom}
 

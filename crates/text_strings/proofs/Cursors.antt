@@ -13,8 +13,8 @@ use Rattle.text_utf8.specs.Scalar.{encode}
 use Rattle.text_json.specs.Bytes.{isUnescaped}
 use Rattle.text_json.specs.Syntax.{byte}
 use Rattle.text_json.specs.Content.{unescape}
-use Rattle.text_strings.specs.InString.{InString, Escapes, Inside}
-use Rattle.text_strings.specs.Cursor.{heldBytes, Left, Given, Gives, Encodes, weight}
+use Rattle.text_strings.specs.InString.{InString, Escapes, EscapeAt, Inside}
+use Rattle.text_strings.specs.Cursor.{heldBytes, Left, Given, GivesByte, Encodes, weight}
 use Rattle.text_strings.specs.declared.Cursor.{Cursor}
 use Rattle.text_strings.specs.declared.Next.{Next}
 use Rattle.text_strings.proofs.Views.{View, at-close, at-byte, at-short, at-hex, view}
@@ -80,7 +80,7 @@ module _ (s : List ℕ) (k : Cursor) where
     gives-end c l q = let i = left-inside c l in closes s (k .at) c i q
 
     -- At an escape, the first byte of its character is given, with the character's other bytes held.
-    pub gives-escape : (c : List ℕ) (next scalar : ℕ) (x : Next) → Left s k c → Escapes s (k .at) next scalar → Encodes next scalar x → Gives s c x
+    pub gives-escape : (c : List ℕ) (next scalar : ℕ) (x : Next) → Left s k c → Escapes s (k .at) next scalar → Encodes next scalar x → GivesByte s c x
     gives-escape c next scalar x l e q =
         let r = e .stands c (left-inside c l) in
         subst (λ (f : Bool). Given s c f (x .byte) (x .rest)) (sym (q .found)) (
@@ -130,11 +130,11 @@ escape-lighter s k next scalar x e q =
     omega arith
 
 -- what is given at the end, and at a byte
-pub given-end : (s c : List ℕ) (n : Next) → n .found ≡ false → Gives s c n → c ≡ []
+pub given-end : (s c : List ℕ) (n : Next) → n .found ≡ false → GivesByte s c n → c ≡ []
 given-end s c n e g = subst (λ (f : Bool). Given s c f (n .byte) (n .rest)) e g
 
 -- Where a byte is given, it is the first of the content, and the rest of the content lies before the new cursor.
-pub given-byte : (s c : List ℕ) (n : Next) → n .found ≡ true → Gives s c n → (d : List ℕ) × (c ≡ n .byte ∷ d) × Left s (n .rest) d
+pub given-byte : (s c : List ℕ) (n : Next) → n .found ≡ true → GivesByte s c n → (d : List ℕ) × (c ≡ n .byte ∷ d) × Left s (n .rest) d
 given-byte s c n e g = subst (λ (f : Bool). Given s c f (n .byte) (n .rest)) e g
 
 -- a new cursor has the string's content before it
@@ -155,6 +155,10 @@ new-left s i k c e p =
 -- a position in a string is below the text's length
 pub inside-within : (s : List ℕ) (i : ℕ) → Inside s i → i < length s
 inside-within s i p = let h = p .here in char-within s i (h .chars) (h .rest) (view s i (h .chars) (h .rest) (h .reads))
+
+-- At a backslash inside a string stands an escape.
+pub escape-here : (s : List ℕ) (i : ℕ) → Inside s i → getD s i 0 ≡ 0x5C → EscapeAt s i
+escape-here s i p e = record { left = p .bytes; inside = p .here; backslash = e }
 
 -- After a byte that is no quotation mark and no backslash, the next position is inside the string too.
 pub inside-next : (s : List ℕ) (i : ℕ) → Inside s i → (getD s i 0 ≡ 0x22 → ⊥) → (getD s i 0 ≡ 0x5C → ⊥) → Inside s (i + 1)

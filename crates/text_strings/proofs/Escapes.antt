@@ -1,12 +1,12 @@
 -- What the escapes of a string stand for.
-use Prim.Native.Nat.{ℕ, suc, _+_, _*_, _-_, _<_, _≤_}
+use Prim.Native.Nat.{ℕ, _+_, _*_, _-_, _<_, _≤_}
 use mathlib.Core.Path.{_≡_, refl, sym, ap, subst, _∙_}
 use mathlib.Core.List.{List, [], _∷_, _++_, append-nil}
-use mathlib.Core.Bool.{Bool, true, false, _&&_, _||_}
-use mathlib.Core.Logic.{_⊎_, inl, inr, ⊎-elim}
+use mathlib.Core.Bool.{Bool, true, false}
+use mathlib.Core.Logic.{_⊎_, ⊎-elim}
 use native.Mathlib.Omega.{arith}
 use native.Mathlib.Nat.{add-assoc}
-use borrow.Author.Tests.{leb-true, leb-false, le-leb, lt-leb, eqb-true, eqb-false, eq-eqb, lt-ltb}
+use borrow.Author.Tests.{le-leb, lt-leb, eqb-true, lt-ltb}
 use lib.ListN.{length, drop, getD}
 use lib.Dec.{eqb}
 use Rattle.laws.proofs.Order.{by-test, false-true}
@@ -191,33 +191,30 @@ not-high u [] e = sym (append-nil (encode u))
 not-high u (byte b ∷ ds) e = refl
 not-high u (unit v ∷ ds) e = not-pair u v ds (high-false u v e)
 
--- outside the range of the high surrogates, and of the low ones
-pub below-high : (u : ℕ) → u < 0xD800 → isHigh u ≡ false
-unfolding isHigh between
-below-high u h = rw (lt-leb 0xD800 u h)
+-- What a test of the numbers from `low` to below `end` says: it fails below and above them, and holds of them.
+pub record Tests (test : ℕ → Bool) (low end : ℕ) : Type 0 where
+  pub below : (u : ℕ) → u < low → test u ≡ false
+  pub above : (u : ℕ) → end ≤ u → test u ≡ false
+  pub in-range : (u : ℕ) → low ≤ u → u < end → test u ≡ true
 
--- A number from DC00 on is no high surrogate.
-pub above-high : (u : ℕ) → 0xDC00 ≤ u → isHigh u ≡ false
-unfolding isHigh between
-above-high u h = let a : 0xD800 ≤ u = omega arith in let b : 0xDBFF < u = omega arith in rw (le-leb 0xD800 u a, lt-leb u 0xDBFF b)
+between-tests : (low high : ℕ) → low ≤ high → Tests (between low high) low (high + 1)
+unfolding between
+between-tests low high o =
+    record {
+      below = λ u h. rw (lt-leb low u h);
+      above = λ u h. let a : low ≤ u = omega arith in let b : high < u = omega arith in rw (le-leb low u a, lt-leb u high b);
+      in-range = λ u a h. let b : u ≤ high = omega arith in rw (le-leb low u a, le-leb u high b);
+    }
 
-in-high : (u : ℕ) → 0xD800 ≤ u → u < 0xDC00 → isHigh u ≡ true
-unfolding isHigh between
-in-high u a h = let b : u ≤ 0xDBFF = omega arith in rw (le-leb 0xD800 u a, le-leb u 0xDBFF b)
+-- The high surrogates are the numbers from D800 to below DC00.
+pub high-range : Tests isHigh 0xD800 0xDC00
+unfolding isHigh
+high-range = between-tests 0xD800 0xDBFF (omega arith)
 
--- A number below DC00 is no low surrogate.
-pub below-low : (u : ℕ) → u < 0xDC00 → isLow u ≡ false
-unfolding isLow between
-below-low u h = rw (lt-leb 0xDC00 u h)
-
--- A number from E000 on is no low surrogate.
-pub above-low : (u : ℕ) → 0xE000 ≤ u → isLow u ≡ false
-unfolding isLow between
-above-low u h = let a : 0xDC00 ≤ u = omega arith in let b : 0xDFFF < u = omega arith in rw (le-leb 0xDC00 u a, lt-leb u 0xDFFF b)
-
-in-low : (u : ℕ) → 0xDC00 ≤ u → u < 0xE000 → isLow u ≡ true
-unfolding isLow between
-in-low u a h = let b : u ≤ 0xDFFF = omega arith in rw (le-leb 0xDC00 u a, le-leb u 0xDFFF b)
+-- The low surrogates are the numbers from DC00 to below E000.
+pub low-range : Tests isLow 0xDC00 0xE000
+unfolding isLow
+low-range = between-tests 0xDC00 0xDFFF (omega arith)
 
 in-pair : (u v : ℕ) → isHigh u ≡ true → isLow v ≡ true → isPair u v ≡ true
 unfolding isPair
@@ -298,7 +295,7 @@ module _ (s : List ℕ) (i u : ℕ) (p : HighAt s i u) where
               unescape ds,
               x .2 ∙ ap (λ (y : ℕ). unescape (unit y ∷ x .0)) (sym (p .number))
                   ∙ ap (λ (l : List Char). unescape (unit u ∷ l)) (m ∙ ap (λ (y : ℕ). unit y ∷ ds) (sym q))
-                  ∙ is-pair u v ds (in-pair u v (in-high u (p .low) (p .high)) (in-low v a b)),
+                  ∙ is-pair u v ds (in-pair u v (high-range .in-range u (p .low) (p .high)) (low-range .in-range v a b)),
               record { chars = ds; rest = x .1; reads = d; content = refl },
             )
 

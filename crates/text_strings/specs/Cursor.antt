@@ -1,5 +1,5 @@
 -- What a cursor has before it of a string's content, and what the next byte is.
-use Prim.Native.Nat.{ℕ, _+_, _-_, _*_, _<_, _≤_}
+use Prim.Native.Nat.{ℕ, _+_, _-_, _*_, _≤_}
 use mathlib.Core.Path.{_≡_}
 use mathlib.Core.List.{List, [], _∷_, _++_}
 use mathlib.Core.Bool.{Bool, true, false}
@@ -23,7 +23,7 @@ pub record Left (s : List ℕ) (k : Cursor) (c : List ℕ) : Type 0 where
   pub content : c ≡ heldBytes k ++ tail
 
 -- some content lies before the cursor
-pub record Readable (s : List ℕ) (k : Cursor) : Type 0 where
+pub record ReadableCursor (s : List ℕ) (k : Cursor) : Type 0 where
   pub bytes : List ℕ
   pub left : Left s k bytes
 
@@ -32,8 +32,8 @@ abbrev pub Given : List ℕ → List ℕ → Bool → ℕ → Cursor → Type 0
 Given s c true b k = (d : List ℕ) × (c ≡ b ∷ d) × Left s k d
 Given s c false b k = c ≡ []
 
-abbrev pub Gives : List ℕ → List ℕ → Next → Type 0
-Gives s c n = Given s c (n .found) (n .byte) (n .rest)
+abbrev pub GivesByte : List ℕ → List ℕ → Next → Type 0
+GivesByte s c n = Given s c (n .found) (n .byte) (n .rest)
 
 -- the first byte of a character's encoding, with the others held before position `at`
 pub record Encodes (at scalar : ℕ) (n : Next) : Type 0 where

@@ -6,7 +6,7 @@ ghost use Prim.Native.Nat.{ℕ, _+_, _<_};
 ghost use lib.ListN.{getD};
 ghost use Rattle.text_json.specs.Grammar.{hexNumber};
 ghost use Rattle.text_strings.specs.InString.{HexAt, EscapeAt, HighAt, Escapes};
-ghost use Rattle.text_strings.specs.Cursor.{Left, Readable, Gives, Encodes, weight};
+ghost use Rattle.text_strings.specs.Cursor.{Left, ReadableCursor, GivesByte, Encodes, weight};
 
 // The number of the four hexadecimal digits at `at`.
 fn hex_number(s: &[u8], at: usize) -> u32
@@ -104,8 +104,8 @@ impl Cursor {
     }
 
     pub fn next(self, s: &[u8]) -> Next
-        requires { ⌜ Readable (now s) self ⌝ }
-        ensures { λ r. ⌜ ((c : List ℕ) → Left (now (s .entry)) self c → Gives (now (s .entry)) c r) ⌝ }
+        requires { ⌜ ReadableCursor (now s) self ⌝ }
+        ensures { λ r. ⌜ ((c : List ℕ) → Left (now (s .entry)) self c → GivesByte (now (s .entry)) c r) ⌝ }
         ensures { λ r. ⌜ (r .found ≡ true → weight (now (s .entry)) (r .rest) < weight (now (s .entry)) self) ⌝ }
     {
         let at = self.at;

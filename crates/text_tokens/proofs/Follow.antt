@@ -12,7 +12,7 @@ use Rattle.text_json.specs.Syntax.{Char}
 use Rattle.text_json.specs.Read.{Read, found, stuck, andThen, prepend, spaces, readString, readWord, afterItem}
 use Rattle.text_json.specs.Content.{refusedString, unescape, escaped, quoted}
 use Rattle.text_json.specs.Size.{stringSize}
-use Rattle.text_json.specs.Scan.{At, Steps, Scans as TokenScans}
+use Rattle.text_json.specs.Scan.{At, Steps, ScansToken as TokenScans}
 use Rattle.text_json.specs.declared.Step.{Step}
 use Rattle.text_json.specs.declared.Step.the-variants.{End}
 use Rattle.text_json.specs.declared.Scan.the-variants.{Token, NoToken}

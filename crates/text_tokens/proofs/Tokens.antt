@@ -1,6 +1,6 @@
 -- What the scan of a token says of the value that it is.
 use Prim.Native.Nat.{ℕ, _+_, _-_, _<_, _≤_}
-use mathlib.Core.Path.{_≡_, refl, sym, ap, subst, _∙_}
+use mathlib.Core.Path.{_≡_, refl, sym, ap, ap₂, subst, _∙_}
 use mathlib.Core.List.{List, [], _∷_}
 use mathlib.Core.Bool.{Bool, true, false, cond}
 use native.Mathlib.Numerals.{add-one}
@@ -11,17 +11,18 @@ use Rattle.text_json.specs.Syntax.{Syntax, Char, Numeral}
 use Rattle.text_json.specs.Read.{Read, found, stuck, andThen, readScalar, readString, readNumber, readWord}
 use Rattle.text_json.specs.Content.{refusedString, refusedNumber}
 use Rattle.text_json.specs.Size.{stringSize, numeralSize}
-use Rattle.text_json.specs.Scan.{Steps, Scans as TokenScans}
+use Rattle.text_json.specs.Scan.{Steps, ScansToken as TokenScans}
 use Rattle.text_json.specs.declared.Step.{Step}
 use Rattle.text_json.specs.declared.Step.the-variants.{End}
+use Rattle.text_json.specs.declared.Scan.{Scan}
 use Rattle.text_json.specs.declared.Scan.the-variants.{Token, NoToken}
 use Rattle.text_content.specs.Value.{content}
 use Rattle.text_content.specs.Canonical.{canonical, ordered, sorted, write}
 use Rattle.text_content.specs.Fault.{mark, stringFault, numberFault, keyFault}
 use Rattle.text_tokens.specs.Summary.{summary, plainSummary, ownKeys}
-use Rattle.text_tokens.specs.Scanned.{Scans, literalAnswer}
+use Rattle.text_tokens.specs.Scanned.{ScansValue, literalAnswer, tokenAnswer}
 use Rattle.text_tokens.specs.declared.Scanned.{Scanned}
-use Rattle.text_tokens.specs.declared.Scanned.the-variants.{Value, Stuck}
+use Rattle.text_tokens.specs.declared.Scanned.the-variants.{Stuck}
 
 -- a fault's mark is what the code keeps of it
 pub mark-at : (f : Bool) (s : List ℕ) (at : ℕ) → mark f (drop at s) ≡ cond f (length s - at) 0
@@ -29,46 +30,64 @@ unfolding mark
 mark-at true s at = length-drop at s
 mark-at false s at = refl
 
-module _ (s : List ℕ) (at : ℕ) where
-  -- A string that is scanned is a value of that end and length, with a string fault if it is refused, and no other fault.
-  pub string-token : (x : Read (List Char)) (e n k : ℕ) (f : Bool) → k ≡ cond f (length s - at) 0
-      → TokenScans refusedString stringSize s x (Token e f n)
-      → Scans s (andThen x (λ cs q. found (Syntax.string (drop at s) cs) q))
-      (Value (record { end = e; count = 0; sum = record { string = k; number = 0; key = 0; size = n; ordered = true } }))
-  unfolding andThen summary stringFault numberFault keyFault content canonical ordered sorted write stringSize ownKeys
-  string-token (found cs r) e n k f m p =
-      let e = m ∙ sym (mark-at f s at) ∙ ap (λ (b : Bool). mark b (drop at s)) (p .1) in
-      (p .0, λ i. record { string = e i; number = 0; key = 0; size = (p .2) i; ordered = true }, refl)
-  string-token (stuck r) e n k f m p = absurd p
+-- what is held of a token, by what its scan says
+held : {A : Type 0} (refused : A → Bool) (size : A → ℕ) (tree : A → Syntax) (p q : ℕ) (a : A) (f : Bool) (n : ℕ) → f ≡ refused a → n ≡ size a
+    → summary (tree a) ≡ record { string = cond (refused a) p 0; number = cond (refused a) q 0; key = 0; size = size a; ordered = true }
+    → record { string = cond f p 0; number = cond f q 0; key = 0; size = n; ordered = true } ≡ summary (tree a)
+held refused size tree p q a f n e k h =
+    ap₂ (λ (g : Bool) (m : ℕ). record { string = cond g p 0; number = cond g q 0; key = 0; size = m; ordered = true }) e k ∙ sym h
 
-  -- Where scanning a string is stuck, scanning the value is stuck at the same position.
-  pub string-none : (x : Read (List Char)) (e : ℕ) → TokenScans refusedString stringSize s x (NoToken e)
-      → Scans s (andThen x (λ cs q. found (Syntax.string (drop at s) cs) q)) (Stuck e)
-  unfolding andThen
-  string-none (found cs r) e p = absurd p
-  string-none (stuck r) e p = p
+no-fault : (f : Bool) → _≡_ {A = ℕ} (cond f 0 0) 0
+no-fault true = refl
+no-fault false = refl
 
-  -- A number that is scanned is a value of that end and length, with a number fault if it is refused, and no other fault.
-  pub number-token : (x : Read Numeral) (e n k : ℕ) (f : Bool) → k ≡ cond f (length s - at) 0
-      → TokenScans refusedNumber numeralSize s x (Token e f n)
-      → Scans s (andThen x (λ m q. found (Syntax.number (drop at s) m) q))
-      (Value (record { end = e; count = 0; sum = record { string = 0; number = k; key = 0; size = n; ordered = true } }))
-  unfolding andThen summary stringFault numberFault keyFault content canonical ordered sorted write numeralSize ownKeys
-  number-token (found cs r) e n k f m p =
-      let e = m ∙ sym (mark-at f s at) ∙ ap (λ (b : Bool). mark b (drop at s)) (p .1) in
-      (p .0, λ i. record { string = 0; number = e i; key = 0; size = (p .2) i; ordered = true }, refl)
-  number-token (stuck r) e n k f m p = absurd p
+token-value : {A : Type 0} (refused : A → Bool) (size : A → ℕ) (tree : A → Syntax) (p q : ℕ)
+    → ((a : A) → (summary (tree a) ≡ record { string = cond (refused a) p 0; number = cond (refused a) q 0; key = 0; size = size a; ordered = true })
+    × (ownKeys (tree a) ≡ 0))
+    → (s : List ℕ) (x : Read A) (w : Scan) → TokenScans refused size s x w → ScansValue s (andThen x (λ a r. found (tree a) r)) (tokenAnswer w p q)
+unfolding andThen
+token-value refused size tree p q h s (found a r) (Token e true n) k = (k .0, held refused size tree p q a true n (k .1) (k .2) (h a .0), sym (h a .1))
+token-value refused size tree p q h s (found a r) (Token e false n) k = (k .0, held refused size tree p q a false n (k .1) (k .2) (h a .0), sym (h a .1))
+token-value refused size tree p q h s (found a r) (NoToken e) k = absurd k
+token-value refused size tree p q h s (stuck r) (Token e f n) k = absurd k
+token-value refused size tree p q h s (stuck r) (NoToken e) k = k
 
-  -- Where scanning a number is stuck, scanning the value is stuck at the same position.
-  pub number-none : (x : Read Numeral) (e : ℕ) → TokenScans refusedNumber numeralSize s x (NoToken e)
-      → Scans s (andThen x (λ m q. found (Syntax.number (drop at s) m) q)) (Stuck e)
-  unfolding andThen
-  number-none (found cs r) e p = absurd p
-  number-none (stuck r) e p = p
+string-summary : (s : List ℕ) (at : ℕ) (cs : List Char)
+    → (summary (Syntax.string (drop at s) cs)
+    ≡ record { string = cond (refusedString cs) (length s - at) 0; number = cond (refusedString cs) 0 0; key = 0; size = stringSize cs; ordered = true })
+    × (ownKeys (Syntax.string (drop at s) cs) ≡ 0)
+unfolding summary stringFault numberFault keyFault content canonical ordered sorted write stringSize ownKeys
+string-summary s at cs = (
+  ap₂ (λ (k m : ℕ). record { string = k; number = m; key = 0; size = stringSize cs; ordered = true }) (mark-at (refusedString cs) s at)
+      (sym (no-fault (refusedString cs))),
+  refl,
+)
+
+number-summary : (s : List ℕ) (at : ℕ) (m : Numeral)
+    → (summary (Syntax.number (drop at s) m)
+    ≡ record { string = cond (refusedNumber m) 0 0; number = cond (refusedNumber m) (length s - at) 0; key = 0; size = numeralSize m; ordered = true })
+    × (ownKeys (Syntax.number (drop at s) m) ≡ 0)
+unfolding summary stringFault numberFault keyFault content canonical ordered sorted write numeralSize ownKeys
+number-summary s at m = (
+  ap₂ (λ (k n : ℕ). record { string = k; number = n; key = 0; size = numeralSize m; ordered = true })
+      (sym (no-fault (refusedNumber m))) (mark-at (refusedNumber m) s at),
+  refl,
+)
+
+module _ (s : List ℕ) (at : ℕ) (w : Scan) where
+  -- A string that is scanned is a value, with a fault by question 4 if it is refused; where scanning it is stuck, so is scanning the value.
+  pub string-answer : TokenScans refusedString stringSize s (readString (drop at s)) w
+      → ScansValue s (andThen (readString (drop at s)) (λ cs q. found (Syntax.string (drop at s) cs) q)) (tokenAnswer w (length s - at) 0)
+  string-answer = token-value refusedString stringSize (Syntax.string (drop at s)) _ _ (string-summary s at) s _ w
+
+  -- A number that is scanned is a value, with a fault by question 5 if it is refused; where scanning it is stuck, so is scanning the value.
+  pub number-answer : TokenScans refusedNumber numeralSize s (readNumber (drop at s)) w
+      → ScansValue s (andThen (readNumber (drop at s)) (λ m q. found (Syntax.number (drop at s) m) q)) (tokenAnswer w 0 (length s - at))
+  number-answer = token-value refusedNumber numeralSize (Syntax.number (drop at s)) _ _ (number-summary s at) s _ w
 
 -- a literal name
 pub word-literal : (s : List ℕ) (x : Read (Unit {0})) (t : Syntax) (n : ℕ) (w : Step)
-    → (summary t ≡ plainSummary n) × (ownKeys t ≡ 0) → Steps s x w → Scans s (andThen x (λ _ q. found t q)) (literalAnswer w n)
+    → (summary t ≡ plainSummary n) × (ownKeys t ≡ 0) → Steps s x w → ScansValue s (andThen x (λ _ q. found t q)) (literalAnswer w n)
 unfolding andThen
 word-literal s (found u r) t n (End e) h p = (p, sym (h .0), sym (h .1))
 word-literal s (found u r) t n (Step.Stuck e) h p = absurd p
@@ -118,41 +137,41 @@ summary-false = (refl, refl)
 
 module _ (s : List ℕ) (at : ℕ) where
   -- At the end of the text scanning a scalar is stuck.
-  pub scalar-end : length s ≤ at → at ≤ length s → Scans s (readScalar (drop at s)) (Stuck at)
+  pub scalar-end : length s ≤ at → at ≤ length s → ScansValue s (readScalar (drop at s)) (Stuck at)
   unfolding readScalar
   scalar-end h k = rw (drop-of-length-le s {i = at} h) (k, sym (drop-of-length-le s {i = at} h))
 
   module _ (w : at < length s) (x : Scanned) where
     -- At a quotation mark the scan of a string value is the scan of a scalar.
-    pub scalar-string : getD s at 0 ≡ 0x22 → Scans s (andThen (readString (drop at s)) (λ cs q. found (Syntax.string (drop at s) cs) q)) x
-        → Scans s (readScalar (drop at s)) x
+    pub scalar-string : getD s at 0 ≡ 0x22 → ScansValue s (andThen (readString (drop at s)) (λ cs q. found (Syntax.string (drop at s) cs) q)) x
+        → ScansValue s (readScalar (drop at s)) x
     scalar-string e p =
-        rw (here s at w) (subst (λ (y : Read Syntax). Scans s y x) (sym (of-string (getD s at 0) (drop (at + 1) s) e)) (rw (here s at w) at p))
+        rw (here s at w) (subst (λ (y : Read Syntax). ScansValue s y x) (sym (of-string (getD s at 0) (drop (at + 1) s) e)) (rw (here s at w) at p))
 
     -- At a byte other than a quotation mark, `n`, `t` and `f` the scan of a number value is the scan of a scalar.
     pub scalar-number : (getD s at 0 ≡ 0x22 → ⊥) → (getD s at 0 ≡ 0x6E → ⊥) → (getD s at 0 ≡ 0x74 → ⊥) → (getD s at 0 ≡ 0x66 → ⊥)
-        → Scans s (andThen (readNumber (drop at s)) (λ n q. found (Syntax.number (drop at s) n) q)) x → Scans s (readScalar (drop at s)) x
+        → ScansValue s (andThen (readNumber (drop at s)) (λ n q. found (Syntax.number (drop at s) n) q)) x → ScansValue s (readScalar (drop at s)) x
     scalar-number e f g h p =
-        rw (here s at w) (subst (λ (y : Read Syntax). Scans s y x) (sym (of-number (getD s at 0) (drop (at + 1) s) e f g h)) (rw (here s at w) at p))
+        rw (here s at w) (subst (λ (y : Read Syntax). ScansValue s y x) (sym (of-number (getD s at 0) (drop (at + 1) s) e f g h)) (rw (here s at w) at p))
 
-  module _ (w : at < length s) (v : Step) where
+  module _ (w : at < length s) (v : Step) (x : Scanned) where
     -- At the letter `n` the step over `ull` answers for a scalar: a value of four bytes, or where reading is stuck.
     pub scalar-null : getD s at 0 ≡ 0x6E → Steps s (readWord (0x75 ∷ 0x6C ∷ 0x6C ∷ []) (drop (at + 1) s)) v
-        → Scans s (readScalar (drop at s)) (literalAnswer v 4)
-    scalar-null e p =
-        rw (here s at w, of-null (getD s at 0) (drop (at + 1) s) e)
+        → x ≡ literalAnswer v 4 → ScansValue s (readScalar (drop at s)) x
+    scalar-null e p f =
+        rw (f, here s at w, of-null (getD s at 0) (drop (at + 1) s) e)
         (word-literal s (readWord (0x75 ∷ 0x6C ∷ 0x6C ∷ []) (drop (at + 1) s)) Syntax.null 4 v summary-null p)
 
     -- At the letter `t` the step over `rue` answers for a scalar: a value of four bytes, or where reading is stuck.
     pub scalar-true : getD s at 0 ≡ 0x74 → Steps s (readWord (0x72 ∷ 0x75 ∷ 0x65 ∷ []) (drop (at + 1) s)) v
-        → Scans s (readScalar (drop at s)) (literalAnswer v 4)
-    scalar-true e p =
-        rw (here s at w, of-true (getD s at 0) (drop (at + 1) s) e)
+        → x ≡ literalAnswer v 4 → ScansValue s (readScalar (drop at s)) x
+    scalar-true e p f =
+        rw (f, here s at w, of-true (getD s at 0) (drop (at + 1) s) e)
         (word-literal s (readWord (0x72 ∷ 0x75 ∷ 0x65 ∷ []) (drop (at + 1) s)) (Syntax.boolean true) 4 v summary-true p)
 
     -- At the letter `f` the step over `alse` answers for a scalar: a value of five bytes, or where reading is stuck.
     pub scalar-false : getD s at 0 ≡ 0x66 → Steps s (readWord (0x61 ∷ 0x6C ∷ 0x73 ∷ 0x65 ∷ []) (drop (at + 1) s)) v
-        → Scans s (readScalar (drop at s)) (literalAnswer v 5)
-    scalar-false e p =
-        rw (here s at w, of-false (getD s at 0) (drop (at + 1) s) e)
+        → x ≡ literalAnswer v 5 → ScansValue s (readScalar (drop at s)) x
+    scalar-false e p f =
+        rw (f, here s at w, of-false (getD s at 0) (drop (at + 1) s) e)
         (word-literal s (readWord (0x61 ∷ 0x6C ∷ 0x73 ∷ 0x65 ∷ []) (drop (at + 1) s)) (Syntax.boolean false) 5 v summary-false p)

@@ -3,7 +3,7 @@
 use Prim.Native.Nat.{ℕ, _+_, _<_, _≤_, max}
 use mathlib.Core.Path.{_≡_}
 use mathlib.Core.List.{List, [], _∷_}
-use mathlib.Core.Bool.{false, _&&_}
+use mathlib.Core.Bool.{true, false, _&&_}
 use lib.ListN.{length, drop}
 use lib.Dec.{eqb}
 use Rattle.text_json.specs.Syntax.{Syntax, Char}
@@ -27,11 +27,11 @@ Misfits mark [] = Unit {0}
 Misfits mark (b ∷ s) = (eqb b mark ≡ false) × (eqb b 0x2C ≡ false)
 
 -- the position after the value, the value's summary and how many keys it has itself, or where reading is stuck
-abbrev pub Scans : List ℕ → Read Syntax → Scanned → Type 0
-Scans s (found t r) (Value f) = At s (f .end) r × (f .sum ≡ summary t) × (f .count ≡ ownKeys t)
-Scans s (found t r) (Stuck e) = ⊥
-Scans s (stuck r) (Value f) = ⊥
-Scans s (stuck r) (Stuck e) = At s e r
+abbrev pub ScansValue : List ℕ → Read Syntax → Scanned → Type 0
+ScansValue s (found t r) (Value f) = At s (f .end) r × (f .sum ≡ summary t) × (f .count ≡ ownKeys t)
+ScansValue s (found t r) (Stuck e) = ⊥
+ScansValue s (stuck r) (Value f) = ⊥
+ScansValue s (stuck r) (Stuck e) = At s e r
 
 -- a value that is no fault and whose canonical form has that length
 abbrev pub plainValue : ℕ → ℕ → Scanned
@@ -57,6 +57,12 @@ closedValue s e v ks = Value (record { end = e; count = length ks; sum = closedS
 abbrev pub literalAnswer : Step → ℕ → Scanned
 literalAnswer (End e) n = plainValue e n
 literalAnswer (Step.Stuck e) n = Stuck e
+
+-- the answer for a token that was scanned, where these are its faults if it is refused
+abbrev pub tokenAnswer : Scan → ℕ → ℕ → Scanned
+tokenAnswer (Token e false n) p q = plainValue e n
+tokenAnswer (Token e true n) p q = Value (record { end = e; count = 0; sum = record { string = p; number = q; key = 0; size = n; ordered = true } })
+tokenAnswer (NoToken e) p q = Stuck e
 
 -- a string, a colon and the spaces round it: what comes before a member's value
 unfoldable pub readKey : List ℕ → Read (List Char)

@@ -8,12 +8,12 @@ ghost use Rattle.text_json.specs.Syntax.{Syntax};
 ghost use Rattle.text_json.specs.Read.{found, andThen, readScalar, readString, readNumber};
 ghost use Rattle.text_json.specs.Content.{refusedString};
 ghost use Rattle.text_json.specs.Size.{stringSize};
-ghost use Rattle.text_json.specs.Scan.{Scans as TokenScans};
+ghost use Rattle.text_json.specs.Scan.{ScansToken as TokenScans};
 ghost use Rattle.laws.specs.Sort.{sort};
 ghost use Rattle.text_strings.specs.InString.{keyLe};
 ghost use Rattle.text_keys.specs.Keys.{KeysAt};
 ghost use Rattle.text_tokens.specs.Summary.{plus, memberSummary};
-ghost use Rattle.text_tokens.specs.Scanned.{Scans, Follows, plainValue, closedValue, literalAnswer, readKey, KeyWithin};
+ghost use Rattle.text_tokens.specs.Scanned.{ScansValue, Follows, plainValue, closedValue, literalAnswer, tokenAnswer, readKey, KeyWithin};
 
 // The first faults of a part of the text by questions 4, 5 and 6, each by the bytes left from there on (0: none), the length of its
 // canonical form, and whether the keys of every object in it are in rising order.
@@ -26,7 +26,7 @@ pub struct Summary {
 }
 
 // A value that was read: the position after it, how many keys it has itself (0 where it is no object), and what it holds.
-pub struct Found {
+pub struct ScannedValue {
     pub end: usize,
     pub count: usize,
     pub sum: Summary,
@@ -34,7 +34,7 @@ pub struct Found {
 
 // A value that was read, or the position where reading is stuck.
 pub enum Scanned {
-    Value(Found),
+    Value(ScannedValue),
     Stuck(usize),
 }
 
@@ -66,7 +66,7 @@ pub fn added(a: Summary, b: Summary) -> Summary
 pub fn plain(end: usize, size: usize) -> Scanned
     ensures { λ r. ⌜ r ≡ plainValue end size ⌝ }
 {
-    Scanned::Value(Found {
+    Scanned::Value(ScannedValue {
         end,
         count: 0,
         sum: Summary {
@@ -90,7 +90,7 @@ pub fn mark(faulty: bool, len: usize, at: usize) -> usize
 // A value that is neither an array nor an object.
 pub fn scalar(s: &[u8], at: usize) -> Scanned
     requires { ⌜ at ≤ length (now s) ⌝ }
-    ensures { λ r. ⌜ Scans (now (s .entry)) (readScalar (drop at (now (s .entry)))) r ⌝ }
+    ensures { λ r. ⌜ ScansValue (now (s .entry)) (readScalar (drop at (now (s .entry)))) r ⌝ }
 {
     if s.len() <= at {
         return Scanned::Stuck(at);
@@ -114,48 +114,48 @@ fn literal(step: text_json::Step, size: usize) -> Scanned
     }
 }
 
+// A token that was scanned, as a value: its faults where it is refused, by questions 4 and 5.
+fn token(scan: text_json::Scan, string: usize, number: usize) -> Scanned
+    ensures { λ r. ⌜ r ≡ tokenAnswer scan string number ⌝ }
+{
+    match scan {
+        text_json::Scan::Token { end, refused, size } => {
+            if !refused {
+                return plain(end, size);
+            }
+            Scanned::Value(ScannedValue {
+                end,
+                count: 0,
+                sum: Summary {
+                    string,
+                    number,
+                    key: 0,
+                    size,
+                    ordered: true,
+                },
+            })
+        }
+        text_json::Scan::NoToken(e) => Scanned::Stuck(e),
+    }
+}
+
 // A string as a value.
 fn string(s: &[u8], at: usize) -> Scanned
     requires { ⌜ at ≤ length (now s) ⌝ }
-    ensures { λ r. ⌜ Scans (now (s .entry)) (andThen (readString (drop at (now (s .entry)))) (λ cs q. found (Syntax.string (drop at (now (s .entry))) cs) q))
+    ensures { λ r. ⌜ ScansValue (now (s .entry)) (andThen (readString (drop at (now (s .entry)))) (λ cs q. found (Syntax.string (drop at (now
+        (s .entry))) cs) q))
         r ⌝ }
 {
-    match text_chars::string(s, at) {
-        text_json::Scan::Token { end, refused, size } => Scanned::Value(Found {
-            end,
-            count: 0,
-            sum: Summary {
-                string: mark(refused, s.len(), at),
-                number: 0,
-                key: 0,
-                size,
-                ordered: true,
-            },
-        }),
-        text_json::Scan::NoToken(e) => Scanned::Stuck(e),
-    }
+    token(text_chars::string(s, at), s.len() - at, 0)
 }
 
 // A number as a value.
 fn number(s: &[u8], at: usize) -> Scanned
     requires { ⌜ at ≤ length (now s) ⌝ }
-    ensures { λ r. ⌜ Scans (now (s .entry)) (andThen (readNumber (drop at (now (s .entry)))) (λ n q. found (Syntax.number (drop at (now (s .entry))) n) q))
+    ensures { λ r. ⌜ ScansValue (now (s .entry)) (andThen (readNumber (drop at (now (s .entry)))) (λ n q. found (Syntax.number (drop at (now (s .entry))) n) q))
         r ⌝ }
 {
-    match text_numbers::number(s, at) {
-        text_json::Scan::Token { end, refused, size } => Scanned::Value(Found {
-            end,
-            count: 0,
-            sum: Summary {
-                string: 0,
-                number: mark(refused, s.len(), at),
-                key: 0,
-                size,
-                ordered: true,
-            },
-        }),
-        text_json::Scan::NoToken(e) => Scanned::Stuck(e),
-    }
+    token(text_numbers::number(s, at), 0, s.len() - at)
 }
 
 // What follows an item of an array or an object.
@@ -252,7 +252,7 @@ pub fn closed(s: &[u8], end: usize, sum: Summary, keys: &mut [u16], spare: &mut 
 {
     let own = text_keys::order_keys(s, keys, spare);
     let key = larger(own.left, sum.key);
-    Scanned::Value(Found {
+    Scanned::Value(ScannedValue {
         end,
         count: keys.len(),
         sum: Summary {

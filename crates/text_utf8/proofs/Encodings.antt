@@ -105,106 +105,55 @@ decode-2 b x p q =
     let v : 0x80 + c % 64 ≡ x = omega arith in
     (c, scalar-low c (omega arith), encode-2 c (omega arith) (omega arith) ∙ rw (u, v))
 
+-- the bytes that a line of the grammar allows are those of a scalar value
+abbrev Decodes : Row → Type 0
+Decodes r = (b : ℕ) (bs : List ℕ) → within (r .first) b ≡ true → Matches (r .rest) bs → Decoded (b ∷ bs)
+
+abbrev Bounds : Range → ℕ → Type 0
+Bounds r b = (r .low ≤ b) × (b ≤ r .high)
+
 abbrev value-3 : ℕ → ℕ → ℕ → ℕ
 value-3 b x y = (b - 0xE0) * 4096 + (x - 0x80) * 64 + (y - 0x80)
 
-decode-3 : (b x y : ℕ)
-    → (0xE0 ≤ b) × (b ≤ 0xEF)
-    → (0x80 ≤ x) × (x ≤ 0xBF)
-    → within tail y ≡ true
-    → 0x800 ≤ value-3 b x y
-    → isScalar (value-3 b x y) ≡ true
-    → Decoded (b ∷ x ∷ y ∷ [])
-decode-3 b x y h i t l e =
+-- what the ranges of three bytes have to say of them
+abbrev Three : ℕ → ℕ → ℕ → Type 0
+Three b x y = Bounds (range 0xE0 0xEF) b × Bounds tail x × (0x800 ≤ value-3 b x y) × (isScalar (value-3 b x y) ≡ true)
+
+decode-3 : (f g : Range) → ((b x y : ℕ) → Bounds f b → Bounds g x → Bounds tail y → Three b x y) → Decodes (row f (g ∷ tail ∷ []))
+decode-3 f g says b bs p (more {b = x} q (more {b = y} t done)) =
     let j = within-bounds tail y t in
+    let k = says b x y (within-bounds f b p) (within-bounds g x q) j in
     let c : ℕ = value-3 b x y in
     let u : 0xE0 + c / 4096 ≡ b = omega arith in
     let v : 0x80 + c / 64 % 64 ≡ x = omega arith in
     let w : 0x80 + c % 64 ≡ y = omega arith in
-    (c, e, encode-3 c l (omega arith) ∙ rw (u, v, w))
+    (c, k .3, encode-3 c (k .2) (omega arith) ∙ rw (u, v, w))
 
 abbrev value-4 : ℕ → ℕ → ℕ → ℕ → ℕ
 value-4 b x y z = (b - 0xF0) * 262144 + (x - 0x80) * 4096 + (y - 0x80) * 64 + (z - 0x80)
 
-decode-4 : (b x y z : ℕ)
-    → (0xF0 ≤ b) × (b ≤ 0xF4)
-    → (0x80 ≤ x) × (x ≤ 0xBF)
-    → within tail y ≡ true
-    → within tail z ≡ true
-    → 0x10000 ≤ value-4 b x y z
-    → value-4 b x y z < 0x110000
-    → Decoded (b ∷ x ∷ y ∷ z ∷ [])
-decode-4 b x y z h i s t l g =
+-- what the ranges of four bytes have to say of them
+abbrev Four : ℕ → ℕ → ℕ → ℕ → Type 0
+Four b x y z = Bounds (range 0xF0 0xF4) b × Bounds tail x × (0x10000 ≤ value-4 b x y z) × (value-4 b x y z < 0x110000)
+
+decode-4 : (f g : Range) → ((b x y z : ℕ) → Bounds f b → Bounds g x → Bounds tail y → Bounds tail z → Four b x y z)
+    → Decodes (row f (g ∷ tail ∷ tail ∷ []))
+decode-4 f g says b bs p (more {b = x} q (more {b = y} s (more {b = z} t done))) =
     let j = within-bounds tail y s in
-    let k = within-bounds tail z t in
+    let m = within-bounds tail z t in
+    let k = says b x y z (within-bounds f b p) (within-bounds g x q) j m in
     let c : ℕ = value-4 b x y z in
     let u : 0xF0 + c / 262144 ≡ b = omega arith in
     let v : 0x80 + c / 4096 % 64 ≡ x = omega arith in
     let w : 0x80 + c / 64 % 64 ≡ y = omega arith in
     let o : 0x80 + c % 64 ≡ z = omega arith in
-    (c, scalar-high c (omega arith) g, encode-4 c l ∙ rw (u, v, w, o))
-
--- the bytes that a line of the grammar allows are those of a scalar value
-abbrev Decodes : Row → Type 0
-Decodes r = (b : ℕ) (bs : List ℕ) → within (r .first) b ≡ true → Matches (r .rest) bs → Decoded (b ∷ bs)
+    (c, scalar-high c (omega arith) (k .3), encode-4 c (k .2) ∙ rw (u, v, w, o))
 
 row-1 : Decodes (row (range 0x00 0x7F) [])
 row-1 b bs p done = decode-1 b p
 
 row-2 : Decodes (row (range 0xC2 0xDF) (tail ∷ []))
 row-2 b bs p (more {b = x} q done) = decode-2 b x p q
-
-row-E0 : Decodes (row (range 0xE0 0xE0) (range 0xA0 0xBF ∷ tail ∷ []))
-row-E0 b bs p (more {b = x} q (more {b = y} t done)) =
-    let h = within-bounds (range 0xE0 0xE0) b p in
-    let i = within-bounds (range 0xA0 0xBF) x q in
-    let j = within-bounds tail y t in
-    decode-3 b x y (omega arith) (omega arith) t (omega arith) (scalar-low _ (omega arith))
-
-row-E1 : Decodes (row (range 0xE1 0xEC) (tail ∷ tail ∷ []))
-row-E1 b bs p (more {b = x} q (more {b = y} t done)) =
-    let h = within-bounds (range 0xE1 0xEC) b p in
-    let i = within-bounds tail x q in
-    let j = within-bounds tail y t in
-    decode-3 b x y (omega arith) (omega arith) t (omega arith) (scalar-low _ (omega arith))
-
-row-ED : Decodes (row (range 0xED 0xED) (range 0x80 0x9F ∷ tail ∷ []))
-row-ED b bs p (more {b = x} q (more {b = y} t done)) =
-    let h = within-bounds (range 0xED 0xED) b p in
-    let i = within-bounds (range 0x80 0x9F) x q in
-    let j = within-bounds tail y t in
-    decode-3 b x y (omega arith) (omega arith) t (omega arith) (scalar-low _ (omega arith))
-
-row-EE : Decodes (row (range 0xEE 0xEF) (tail ∷ tail ∷ []))
-row-EE b bs p (more {b = x} q (more {b = y} t done)) =
-    let h = within-bounds (range 0xEE 0xEF) b p in
-    let i = within-bounds tail x q in
-    let j = within-bounds tail y t in
-    decode-3 b x y (omega arith) (omega arith) t (omega arith) (scalar-high _ (omega arith) (omega arith))
-
-row-F0 : Decodes (row (range 0xF0 0xF0) (range 0x90 0xBF ∷ tail ∷ tail ∷ []))
-row-F0 b bs p (more {b = x} q (more {b = y} s (more {b = z} t done))) =
-    let h = within-bounds (range 0xF0 0xF0) b p in
-    let i = within-bounds (range 0x90 0xBF) x q in
-    let j = within-bounds tail y s in
-    let k = within-bounds tail z t in
-    decode-4 b x y z (omega arith) (omega arith) s t (omega arith) (omega arith)
-
-row-F1 : Decodes (row (range 0xF1 0xF3) (tail ∷ tail ∷ tail ∷ []))
-row-F1 b bs p (more {b = x} q (more {b = y} s (more {b = z} t done))) =
-    let h = within-bounds (range 0xF1 0xF3) b p in
-    let i = within-bounds tail x q in
-    let j = within-bounds tail y s in
-    let k = within-bounds tail z t in
-    decode-4 b x y z (omega arith) (omega arith) s t (omega arith) (omega arith)
-
-row-F4 : Decodes (row (range 0xF4 0xF4) (range 0x80 0x8F ∷ tail ∷ tail ∷ []))
-row-F4 b bs p (more {b = x} q (more {b = y} s (more {b = z} t done))) =
-    let h = within-bounds (range 0xF4 0xF4) b p in
-    let i = within-bounds (range 0x80 0x8F) x q in
-    let j = within-bounds tail y s in
-    let k = within-bounds tail z t in
-    decode-4 b x y z (omega arith) (omega arith) s t (omega arith) (omega arith)
 
 -- each line of a table has it
 abbrev Every : List Row → Type 0
@@ -213,7 +162,31 @@ Every (r ∷ t) = Decodes r × Every t
 
 every-row : Every table
 unfolding table
-every-row = (row-1, (row-2, (row-E0, (row-E1, (row-ED, (row-EE, (row-F0, (row-F1, (row-F4, tt)))))))))
+every-row = (
+  row-1,
+  (
+    row-2,
+    (
+      decode-3 (range 0xE0 0xE0) (range 0xA0 0xBF) (λ b x y h i j. (omega arith, omega arith, omega arith, scalar-low _ (omega arith))),
+      (
+        decode-3 (range 0xE1 0xEC) tail (λ b x y h i j. (omega arith, omega arith, omega arith, scalar-low _ (omega arith))),
+        (
+          decode-3 (range 0xED 0xED) (range 0x80 0x9F) (λ b x y h i j. (omega arith, omega arith, omega arith, scalar-low _ (omega arith))),
+          (
+            decode-3 (range 0xEE 0xEF) tail (λ b x y h i j. (omega arith, omega arith, omega arith, scalar-high _ (omega arith) (omega arith))),
+            (
+              decode-4 (range 0xF0 0xF0) (range 0x90 0xBF) (λ b x y z h i j k. (omega arith, omega arith, omega arith, omega arith)),
+              (
+                decode-4 (range 0xF1 0xF3) tail (λ b x y z h i j k. (omega arith, omega arith, omega arith, omega arith)),
+                (decode-4 (range 0xF4 0xF4) (range 0x80 0x8F) (λ b x y z h i j k. (omega arith, omega arith, omega arith, omega arith)), tt),
+              ),
+            ),
+          ),
+        ),
+      ),
+    ),
+  ),
+)
 
 follows-inj : (rs qs : List Range) → follows rs ≡ follows qs → rs ≡ qs
 follows-inj rs qs e = cc

@@ -9,7 +9,7 @@ use Rattle.text_json.specs.Syntax.{Syntax, elements, members, Member as MemberT
 use Rattle.text_json.specs.Content.{unescape}
 use Rattle.text_content.specs.Value.{Values, no-values, Fields, no-fields, array, object, content, contents, fields}
 use Rattle.text_view.specs.Place.{ValueAt, EndsAt, kindOf}
-use Rattle.text_view.specs.Listed.{Tree, ListAt, ListEndsAt, Gives, Peeks}
+use Rattle.text_view.specs.Listed.{Tree, ListAt, ListEndsAt, GivesItem, Peeks}
 use Rattle.text_view.specs.Cursor.{ElementsLeft, GivesElement, MembersLeft, GivesMember, GivesHead}
 use Rattle.text_view.specs.declared.value.Item.the-variants.{At, End}
 use Rattle.text_view.specs.declared.value.Peek.the-variants.{At as PeekAt, End as PeekEnd}
@@ -53,13 +53,13 @@ module _ (s : List ℕ) (at d : ℕ) where
 -- After the first of some items the list ends where it did.
 module _ (s : List ℕ) (at d : ℕ) (object : Bool) (p v n : ℕ) where
   abbrev Given : Type 0
-  Given = (ts : List (Tree object)) (r : List ℕ) → ListAt s at d object ts r → Gives s at d object ts r (At p v n)
+  Given = (ts : List (Tree object)) (r : List ℕ) → ListAt s at d object ts r → GivesItem s at d object ts r (At p v n)
 
-  rest-ends : (e : ℕ) → ListEndsAt s n d object e → (ts : List (Tree object)) (r : List ℕ) → Gives s at d object ts r (At p v n) → r ≡ drop e s
+  rest-ends : (e : ℕ) → ListEndsAt s n d object e → (ts : List (Tree object)) (r : List ℕ) → GivesItem s at d object ts r (At p v n) → r ≡ drop e s
   rest-ends e l [] r g = absurd g
   rest-ends e l (t ∷ ts) r g = l .rest ts r (g .others)
 
-  gives-later : (ts : List (Tree object)) (r : List ℕ) → Gives s at d object ts r (At p v n) → at < n
+  gives-later : (ts : List (Tree object)) (r : List ℕ) → GivesItem s at d object ts r (At p v n) → at < n
   gives-later [] r g = absurd g
   gives-later (t ∷ ts) r g = g .later
 
@@ -70,7 +70,7 @@ module _ (s : List ℕ) (at d : ℕ) (object : Bool) (p v n : ℕ) where
       record { later = omega arith; within = l .within; rest = λ us x k. rest-ends e l us x (g us x k) }
 
 module _ (s : List ℕ) (c : Elements) where
-  element-of : (ts : List Syntax) (r : List ℕ) (p v n : ℕ) → Gives s (c .at) (c .depth) false ts r (At p v n)
+  element-of : (ts : List Syntax) (r : List ℕ) (p v n : ℕ) → GivesItem s (c .at) (c .depth) false ts r (At p v n)
       → ((e : ℕ) → ListEndsAt s n (c .depth) false e → ListEndsAt s (c .at) (c .depth) false e)
       → GivesElement s c (contents (elements ts)) (ElementAt v (record { at = n; depth = c .depth }))
   unfolding contents elements
@@ -88,7 +88,7 @@ module _ (s : List ℕ) (c : Elements) where
         ends = m;
       }
 
-  no-element : (ts : List Syntax) (r : List ℕ) (e : ℕ) → Gives s (c .at) (c .depth) false ts r (End e)
+  no-element : (ts : List Syntax) (r : List ℕ) (e : ℕ) → GivesItem s (c .at) (c .depth) false ts r (End e)
       → GivesElement s c (contents (elements ts)) NoElement
   unfolding contents elements
   no-element [] r e g = refl
@@ -113,11 +113,11 @@ module _ (s : List ℕ) (c : Elements) where
         rw (l .means) at (element-of (l .trees) (l .rest) p v n (g (l .trees) (l .rest) h) m)
 
     -- If reading an item finds the end mark, no element is left.
-    pub gives-no-element : (e : ℕ) → Gives s (c .at) (c .depth) false (l .trees) (l .rest) (End e) → GivesElement s c vs NoElement
+    pub gives-no-element : (e : ℕ) → GivesItem s (c .at) (c .depth) false (l .trees) (l .rest) (End e) → GivesElement s c vs NoElement
     gives-no-element e g = rw (l .means) at (no-element (l .trees) (l .rest) e g)
 
 module _ (s : List ℕ) (c : Members) where
-  member-of : (ts : List MemberTree) (r : List ℕ) (p v n : ℕ) → Gives s (c .at) (c .depth) true ts r (At p v n)
+  member-of : (ts : List MemberTree) (r : List ℕ) (p v n : ℕ) → GivesItem s (c .at) (c .depth) true ts r (At p v n)
       → ((e : ℕ) → ListEndsAt s n (c .depth) true e → ListEndsAt s (c .at) (c .depth) true e)
       → GivesMember s c (fields (members ts)) (MemberAt p v (record { at = n; depth = c .depth }))
   unfolding fields members
@@ -138,7 +138,7 @@ module _ (s : List ℕ) (c : Members) where
         ends = x;
       }
 
-  no-member : (ts : List MemberTree) (r : List ℕ) (e : ℕ) → Gives s (c .at) (c .depth) true ts r (End e)
+  no-member : (ts : List MemberTree) (r : List ℕ) (e : ℕ) → GivesItem s (c .at) (c .depth) true ts r (End e)
       → GivesMember s c (fields (members ts)) NoMember
   unfolding fields members
   no-member [] r e g = refl
@@ -191,5 +191,5 @@ module _ (s : List ℕ) (c : Members) where
         rw (l .means) at (member-of (l .trees) (l .rest) p v n (g (l .trees) (l .rest) h) x)
 
     -- If reading an item finds the end mark, no member is left.
-    pub gives-no-member : (e : ℕ) → Gives s (c .at) (c .depth) true (l .trees) (l .rest) (End e) → GivesMember s c fs NoMember
+    pub gives-no-member : (e : ℕ) → GivesItem s (c .at) (c .depth) true (l .trees) (l .rest) (End e) → GivesMember s c fs NoMember
     gives-no-member e g = rw (l .means) at (no-member (l .trees) (l .rest) e g)

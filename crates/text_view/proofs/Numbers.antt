@@ -1,5 +1,5 @@
 -- A number of the text: its sign and its digits, as json reads them.
-use Prim.Native.Nat.{ℕ, zero, suc, _+_, _<_, _^_}
+use Prim.Native.Nat.{ℕ, zero, suc, _+_, _<_, _≤_, _^_}
 use mathlib.Core.Path.{_≡_, refl, sym, ap, _∙_}
 use mathlib.Core.List.{List}
 use mathlib.Core.Bool.{Bool, true, false}
@@ -15,9 +15,9 @@ use Rattle.text_json.specs.Content.{decimal}
 use Rattle.text_numbers.specs.Parts.{Ints, signs, readTail}
 use Rattle.text_numbers.specs.declared.Int.the-variants.{Digits, NoInt}
 use Rattle.text_numbers.proofs.NumberSteps.{number-minus, number-plain}
-use Rattle.text_numbers.proofs.Numerals.{unsigned-tail, unsigned-stuck}
+use Rattle.text_numbers.proofs.Numerals.{unsigned-tail, unsigned-stuck, signs-most}
 use Rattle.text_json.proofs.Grammar.Complete.{number-complete}
-use Rattle.text_content.specs.Value.{number, content}
+use Rattle.text_content.specs.Value.{Value, number, content}
 use Rattle.text_view.specs.Place.{ValueAt}
 use Rattle.text_view.proofs.Values.{within}
 
@@ -93,3 +93,14 @@ module _ (s : List ℕ) (i j : ℕ) (is : j ≡ i) (ds q : List ℕ) (reads : re
   -- Where digits are read, it cannot be answered that there are none.
   pub no-int : {C : Type 0} (e : ℕ) → Ints s j (NoInt e) → C
   no-int e h = let f = rw is at (h .read) in let z : _≡_ {A = ℕ} 0 1 = cc in absurd (omega arith)
+
+-- The digits of a number begin within the text, after its sign or where it has none.
+pub after-sign : (s : List ℕ) (at d : ℕ) (v : Value) → ValueAt s at d v → (m : ℕ) → m ≡ signs (eqb (getD s at 0) 0x2D) → at + m ≤ length s
+after-sign s at d v h m e = omega (arith, within s at d v h, signs-most (eqb (getD s at 0) 0x2D))
+
+-- Where a number stands, it cannot be answered that no digits follow its sign.
+pub always-digits : {C : Type 0} (s : List ℕ) (at d : ℕ) (n : Bool) (ds : List ℕ) → ValueAt s at d (number n ds)
+    → (m : ℕ) → m ≡ signs (eqb (getD s at 0) 0x2D) → (e : ℕ) → Ints s (at + m) (NoInt e) → C
+always-digits s at d n ds v m f e h =
+    let k = number-parts s at d n ds v in
+    no-int s (at + signs (eqb (getD s at 0) 0x2D)) (at + m) (ap (λ (j : ℕ). at + j) f) ds (k .1 .0) (k .1 .1) e h

@@ -7,28 +7,24 @@ use native.Mathlib.Omega.{arith}
 use native.Mathlib.Nat.{add-zero}
 use borrow.Author.Tests.{leb-true, le-leb, lt-leb}
 use lib.Dec.{leb}
-use lib.ListN.{length, take, drop, getD, length-drop, length-take}
-use lib.Seq.{getD-drop, getD-take}
+use lib.ListN.{length, take, drop, getD, length-drop}
 use Rattle.text_json.specs.Bytes.{isUnescaped}
 use Rattle.text_json.specs.Syntax.{Char}
 use Rattle.text_json.specs.Grammar.{Chars, String}
 use Rattle.text_json.specs.Content.{unescape}
 use Rattle.text_chars.specs.Measure.{isUnmarked, every}
-use Rattle.text_chars.proofs.Plain.{every-at, unmarked}
+use Rattle.text_chars.proofs.Plain.{unmarked-at}
 use Rattle.text_json.proofs.Grammar.Bytes.{both-ways}
 use Rattle.text_strings.specs.InString.{Inside, EscapeAt}
 use Rattle.text_strings.proofs.Views.{View, at-close, at-byte, at-short, at-hex, view}
-use Rattle.text_strings.proofs.Escapes.{AtEscape, two, six, at-escape, short-small, char-within}
+use Rattle.text_strings.proofs.Escapes.{AtEscape, two, six, at-escape, short-small}
+use Rattle.text_strings.proofs.Cursors.{inside-within}
 use Rattle.text_view.specs.Place.{StringEndsAt, CharEndsAt, unmarkedRun}
 use Rattle.text_view.proofs.Values.{begins}
 
 -- some string's chars go on at position i
 pub chars-inside : (s : List ℕ) (i : ℕ) (cs : List Char) (r : List ℕ) → Chars (drop i s) cs r → Inside s i
 chars-inside s i cs r d = record { bytes = unescape cs; here = record { chars = cs; rest = r; reads = d; content = refl } }
-
--- A position inside a string is below the text's length.
-pub inside-within : (s : List ℕ) (i : ℕ) → Inside s i → i < length s
-inside-within s i p = let h = p .here in char-within s i (h .chars) (h .rest) (view s i (h .chars) (h .rest) (h .reads))
 
 -- the chars of a string stand after its quotation mark
 string-after : (s : List ℕ) (p : ℕ) (l : List ℕ) (cs : List Char) (r : List ℕ) → drop p s ≡ l → String l cs r → Chars (drop (p + 1) s) cs r
@@ -52,10 +48,6 @@ pub record Reaches (s : List ℕ) (from i : ℕ) : Type 0 where
 pub reaches-start : (s : List ℕ) (from : ℕ) → Inside s from → Reaches s from from
 reaches-start s from p = record { later = omega arith; inside = p; rest = λ cs r d. (cs, d) }
 
--- At a backslash inside a string stands an escape.
-pub escape-here : (s : List ℕ) (i : ℕ) → Inside s i → getD s i 0 ≡ 0x5C → EscapeAt s i
-escape-here s i p e = record { left = p .bytes; inside = p .here; backslash = e }
-
 -- a byte that is neither of the marks is a char
 byte-passed : (s : List ℕ) (i : ℕ) → (getD s i 0 ≡ 0x22 → ⊥) → (getD s i 0 ≡ 0x5C → ⊥) → Onward s i (i + 1)
 byte-passed s i a b cs r d = go (view s i cs r d)
@@ -74,12 +66,6 @@ module _ (s : List ℕ) (i n : ℕ) (e : unmarkedRun n (drop i s) ≡ true) wher
       let p = and-eq-true-iff (leb n (length (drop i s))) (every isUnmarked (take n (drop i s))) .0 e in
       (leb-true n (length (drop i s)) (p .0), p .1)
 
-  unmarked-at : (m : ℕ) → m < n → (getD s (i + m) 0 ≡ 0x22 → ⊥) × (getD s (i + m) 0 ≡ 0x5C → ⊥)
-  unmarked-at m h =
-      let l : m < length (take n (drop i s)) = omega (arith, length-take n (drop i s), parts .0) in
-      unmarked (getD s (i + m) 0)
-      (rw (getD-take n (drop i s) m 0 h, getD-drop i s m 0) at (every-at isUnmarked (take n (drop i s)) m (parts .1) l))
-
   -- A run of `n` bytes that are no quotation mark and no backslash ends within the text.
   pub run-fits : i ≤ length s → i + n ≤ length s
   run-fits h = let l = rw (length-drop i s) at (parts .0) in omega arith
@@ -88,7 +74,7 @@ module _ (s : List ℕ) (i n : ℕ) (e : unmarkedRun n (drop i s) ≡ true) wher
   upto zero h cs r d = (cs, rw (add-zero i) d)
   upto (suc m) h cs r d =
       let k = upto m (omega arith) cs r d in
-      let w = unmarked-at m (omega arith) in
+      let w = unmarked-at s i n (parts .0) (parts .1) m (omega arith) in
       let q : i + m + 1 ≡ i + suc m = omega arith in
       rw q at (byte-passed s (i + m) (w .0) (w .1) (k .0) r (k .1))
 

@@ -11,7 +11,7 @@ use Rattle.text_json.specs.Syntax.{Syntax, Numeral, Char}
 use Rattle.text_json.specs.Grammar.{Word, Number, String, Scalar}
 use Rattle.text_json.specs.Read.{Read, found, stuck, readNumber}
 use Rattle.text_json.specs.Content.{refusedNumber}
-use Rattle.text_json.specs.Scan.{Scans}
+use Rattle.text_json.specs.Scan.{ScansToken}
 use Rattle.text_json.specs.Size.{Within, numeralSize}
 use Rattle.text_json.specs.declared.Scan.{Scan}
 use Rattle.text_json.specs.declared.Scan.the-variants.{Token, NoToken}
@@ -59,14 +59,14 @@ view-of s at l t r e (Scalar.is-string {cs = cs} p) = at-string cs (string-first
 
 -- where a token that was found ends
 module _ {A : Type 0} (refused : A → Bool) (size : A → ℕ) (s : List ℕ) where
-  token-end : (scan : Scan) (x : Read A) (a : A) (r : List ℕ) → Scans refused size s x scan → x ≡ found a r
+  token-end : (scan : Scan) (x : Read A) (a : A) (r : List ℕ) → ScansToken refused size s x scan → x ≡ found a r
       → (endOf scan ≤ length s) × (r ≡ drop (endOf scan) s)
   token-end (Token e f n) (found b q) a r h p = (h .0 .0, cc)
   token-end (Token e f n) (stuck q) a r h p = absurd h
   token-end (NoToken e) (found b q) a r h p = absurd h
   token-end (NoToken e) (stuck q) a r h p = let z : _≡_ {A = ℕ} 0 1 = cc in absurd (omega arith)
 
-  token-later : (at : ℕ) (scan : Scan) (x : Read A) (a : A) (r : List ℕ) → Within at scan → Scans refused size s x scan → x ≡ found a r
+  token-later : (at : ℕ) (scan : Scan) (x : Read A) (a : A) (r : List ℕ) → Within at scan → ScansToken refused size s x scan → x ≡ found a r
       → at < endOf scan
   token-later at (Token e f n) x a r w h p = w .0
   token-later at (NoToken e) (found b q) a r w h p = absurd h
@@ -136,7 +136,7 @@ module _ (s : List ℕ) (at : ℕ) (here : ScalarAt s at) where
 
   -- Where it begins with none of these bytes, it ends where the number that is read there ends.
   pub ends-number : (scan : Scan) → Within at scan → ((getD s at 0 ≡ 0x6E) ⊎ (getD s at 0 ≡ 0x74) → ⊥) → (getD s at 0 ≡ 0x66 → ⊥) → (getD s at 0 ≡ 0x22 → ⊥)
-      → Scans refusedNumber numeralSize s (readNumber (drop at s)) scan → EndsAt s at 0 (endOf scan)
+      → ScansToken refusedNumber numeralSize s (readNumber (drop at s)) scan → EndsAt s at 0 (endOf scan)
   ends-number scan within i j k h =
       let p = number-here s at _ _ seen i j k in
       record {

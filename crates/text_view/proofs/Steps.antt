@@ -13,7 +13,7 @@ use Rattle.text_json.proofs.Grammar.Rests.{space-ends, word-inside}
 use Rattle.text_content.specs.Value.{content}
 use Rattle.text_view.specs.Place.{Readable, EndsAt, ScalarAt}
 use Rattle.text_view.specs.Listed.{Tree, valueTree, DerivesItem, openMark, endMark, ListAt, SomeList, AnyList, ListEndsAt, SomeItem, ItemValue, ItemAt}
-use Rattle.text_view.specs.Listed.{SomeItemEnd, NoItems, Gives, Peeks}
+use Rattle.text_view.specs.Listed.{SomeItemEnd, NoItems, GivesItem, Peeks}
 use Rattle.text_view.specs.declared.value.Item.the-variants.{At, End}
 use Rattle.text_view.specs.declared.value.Peek.the-variants.{At as PeekAt, End as PeekEnd}
 use Rattle.text_view.proofs.Values.{value-within, opened, is-scalar, kindAt, openKind, open-kind, opened-as}
@@ -94,12 +94,6 @@ module _ (s : List ℕ) (p d : ℕ) (object : Bool) where
   started-within ts r (ended w e f) = w
   started-within ts r (item l w n h i j) = w
 
-  -- At the end mark, reading gives no item but the position after the mark.
-  pub gives-end : (at : ℕ) (ts : List (Tree object)) (r : List ℕ) → at ≤ p → getD s p 0 ≡ endMark object → Started s p d object ts r
-      → Gives s at d object ts r (End (p + 1))
-  gives-end at ts r a e (ended w f g) = (omega arith, omega arith, g)
-  gives-end at ts r a e (item l w n h i j) = absurd (n e)
-
   -- At the end mark, looking for an item gives none.
   pub peeks-end : (at : ℕ) (ts : List (Tree object)) (r : List ℕ) → getD s p 0 ≡ endMark object → Started s p d object ts r
       → Peeks s at d object ts PeekEnd
@@ -122,15 +116,6 @@ module _ (s : List ℕ) (p d : ℕ) (object : Bool) where
     some-item ts r (item {t = t} l w n h i j) = record { depth = d; tree = t; rest = l; derives = h; stops = i }
 
     module _ (v : ℕ) (here : ItemValue s p object v) where
-      -- At the position of that item's value stands a value, nested at most as deep as the items may be.
-      pub item-readable : (ts : List (Tree object)) (r : List ℕ) → Started s p d object ts r → Readable s v d
-      item-readable ts r (ended w e f) = absurd (more e)
-      item-readable ts r (item {t = t} l w n h i j) =
-          record {
-            value = content (valueTree object t);
-            here = record { tree = valueTree object t; rest = l; derives = here .value d t l h; stops = i; means = refl };
-          }
-
       -- From a position with only spaces before that item, looking gives the item's position and its value's.
       pub peeks-item : (at : ℕ) → at ≤ p → spaces (drop at s) ≡ drop p s → (ts : List (Tree object)) (r : List ℕ) → Started s p d object ts r
           → Peeks s at d object ts (PeekAt p v)
@@ -175,14 +160,14 @@ module _ (s : List ℕ) (p v q d : ℕ) (object : Bool) where
 
   -- Where a comma stands at `q` after a taken item, reading gives the item, its value and the position after the comma.
   pub gives-comma : (at : ℕ) (ts : List (Tree object)) (r : List ℕ) → at < q → getD s q 0 ≡ 0x2C → Taken s p v q d object ts r
-      → Gives s at d object ts r (At p v (q + 1))
+      → GivesItem s at d object ts r (At p v (q + 1))
   gives-comma at ts r a e (taken {ts = us} l h x i n) =
       let w = next-within us r n in
       record { after = l; derives = h; value = x; stops = i; others = after-comma us r e n; later = omega arith; within = omega arith }
 
   -- Where no comma stands at `q` after a taken item, reading gives the item, its value and the position `q`.
   pub gives-last : (at : ℕ) (ts : List (Tree object)) (r : List ℕ) → at < q → (getD s q 0 ≡ 0x2C → ⊥) → Taken s p v q d object ts r
-      → Gives s at d object ts r (At p v q)
+      → GivesItem s at d object ts r (At p v q)
   gives-last at ts r a e (taken {ts = us} l h x i n) =
       let w = next-within us r n in
       record { after = l; derives = h; value = x; stops = i; others = at-end us r e n; later = a; within = omega arith }
@@ -208,6 +193,33 @@ pub some-next : (s : List ℕ) (e : ℕ) (o : SomeItemEnd s e) (q : ℕ) → e �
 some-next s e o q l h =
     let k = o .list in
     item-next s (o .at) (o .depth) (o .object) (o .first) (o .value) (o .place) e (o .ends) q h l (k .trees) (k .rest) (k .here) .0
+
+-- What is read from position `at` on, by what looking there gives.
+module _ (s : List ℕ) (at d : ℕ) (object : Bool) where
+  -- Where an item was seen, it and its value stand at those positions.
+  pub seen-place : (p v : ℕ) (ts : List (Tree object)) → Peeks s at d object ts (PeekAt p v) → ItemAt s at object p v
+  seen-place p v [] g = absurd g
+  seen-place p v (t ∷ ts) g = g .place
+
+  -- At the position of its value stands a value, nested at most as deep as the items may be.
+  pub seen-readable : (p v : ℕ) (ts : List (Tree object)) → Peeks s at d object ts (PeekAt p v) → Readable s v d
+  seen-readable p v [] g = absurd g
+  seen-readable p v (t ∷ ts) g =
+      record {
+        value = content (valueTree object t);
+        here = record { tree = valueTree object t; rest = g .after; derives = g .value; stops = g .stops; means = refl };
+      }
+
+  -- Where no item was seen, none stands.
+  pub seen-none : (ts : List (Tree object)) (r : List ℕ) → ListAt s at d object ts r → Peeks s at d object ts PeekEnd → NoItems s at
+  seen-none [] r h g = record { depth = d; object = object; rest = r; here = h }
+  seen-none (t ∷ ts) r h g = absurd g
+
+  -- Where no item was seen, reading gives the position after the end mark.
+  pub gives-end : (e : ℕ) (ts : List (Tree object)) (r : List ℕ) → ListAt s at d object ts r → Peeks s at d object ts PeekEnd
+      → (ListAt s at d object [] r → ListEndsAt s at d object e) → GivesItem s at d object ts r (End e)
+  gives-end e [] r h g f = let l = f h in (l .later, l .within, l .rest [] r h)
+  gives-end e (t ∷ ts) r h g f = absurd g
 
 -- An end mark at position p, after spaces, ends the list that has no item from position `at` on.
 module _ (s : List ℕ) (at p : ℕ) (reached : at ≤ p) (start : spaces (drop at s) ≡ drop p s) where

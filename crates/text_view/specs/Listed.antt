@@ -104,11 +104,11 @@ pub record FirstAt (s : List ℕ) (at depth : ℕ) (object : Bool) (t : Tree obj
   pub within : n ≤ length s
 
 -- what is read of the items ts: the first, or the end where there is none
-abbrev pub Gives : List ℕ → ℕ → ℕ → (object : Bool) → List (Tree object) → List ℕ → Item → Type 0
-Gives s at depth object [] r (End e) = (at < e) × (e ≤ length s) × (r ≡ drop e s)
-Gives s at depth object [] r (At p v n) = ⊥
-Gives s at depth object (t ∷ ts) r (End e) = ⊥
-Gives s at depth object (t ∷ ts) r (At p v n) = FirstAt s at depth object t ts r p v n
+abbrev pub GivesItem : List ℕ → ℕ → ℕ → (object : Bool) → List (Tree object) → List ℕ → Item → Type 0
+GivesItem s at depth object [] r (End e) = (at < e) × (e ≤ length s) × (r ≡ drop e s)
+GivesItem s at depth object [] r (At p v n) = ⊥
+GivesItem s at depth object (t ∷ ts) r (End e) = ⊥
+GivesItem s at depth object (t ∷ ts) r (At p v n) = FirstAt s at depth object t ts r p v n
 
 -- the first of the items from position `at` on is t, at position p with its value at position v
 pub record HeadOf (s : List ℕ) (at depth : ℕ) (object : Bool) (t : Tree object) (p v : ℕ) : Type 0 where

@@ -15,7 +15,8 @@ ghost use Rattle.text_strings.specs.InString.{Inside, EscapeAt};
 ghost use Rattle.text_content.specs.Value.{Value, number, content};
 ghost use Rattle.text_view.specs.Place.{ValueAt, Readable, SomeValue, SmallNumber, kindOf, EndsAt, StringEndsAt, CharEndsAt, unmarkedRun, ScalarAt};
 ghost use Rattle.text_view.specs.Place.{endOf};
-ghost use Rattle.text_view.specs.Listed.{Tree, ListAt, SomeList, AnyList, ListEndsAt, SomeItem, ItemAt, SomeItemEnd, NoItems, ItemValue, Gives, Peeks};
+ghost use Rattle.text_view.specs.Listed.{Tree, ListAt, SomeList, AnyList, ListEndsAt, SomeItem, ItemAt, SomeItemEnd, NoItems, ItemValue};
+ghost use Rattle.text_view.specs.Listed.{GivesItem, Peeks};
 ghost use Rattle.text_view.specs.Listed.{endMark};
 ghost use Rattle.text_view.specs.declared.value.Item.the-variants.{At as ItemIs};
 ghost use mathlib.Core.List.{[]};
@@ -94,15 +95,15 @@ fn token_end(r: text_json::Scan) -> usize
     }
 }
 
-// Sixteen bytes are left from `at` on, and none of them is a quotation mark or a backslash.
-fn unmarked_left(s: &[u8], at: usize) -> bool
+// `count` bytes are left from `at` on, and none of them is a quotation mark or a backslash.
+fn unmarked_left(s: &[u8], at: usize, count: usize) -> bool
     requires { ⌜ at ≤ length (now s) ⌝ }
-    ensures { λ r. ⌜ r ≡ unmarkedRun 16 (drop at (now (s .entry))) ⌝ }
+    ensures { λ r. ⌜ r ≡ unmarkedRun count (drop at (now (s .entry))) ⌝ }
 {
-    if s.len() - at < 16 {
+    if s.len() - at < count {
         return false;
     }
-    text_chars::unmarked16(s, at)
+    text_chars::unmarked(s, at, count)
 }
 
 // The position after the escape at `i`: a \u escape has four digits.
@@ -132,23 +133,12 @@ fn string_tail(s: &[u8], from: usize) -> usize
     }
 }
 
-// Eight bytes are left from `at` on, and none of them is a quotation mark or a backslash.
-fn eight_left(s: &[u8], at: usize) -> bool
-    requires { ⌜ at ≤ length (now s) ⌝ }
-    ensures { λ r. ⌜ r ≡ unmarkedRun 8 (drop at (now (s .entry))) ⌝ }
-{
-    if s.len() - at < 8 {
-        return false;
-    }
-    text_chars::unmarked8(s, at)
-}
-
 // The position after the closing quotation mark of the string whose content goes on at `from`: eight bytes at once where that can be.
 fn string_rest(s: &[u8], from: usize) -> usize
     requires { ⌜ Inside (now s) from ⌝ }
     ensures { λ e. ⌜ StringEndsAt (now (s .entry)) from e ⌝ }
 {
-    if eight_left(s, from) {
+    if unmarked_left(s, from, 8) {
         return string_tail(s, from + 8);
     }
     string_tail(s, from)
@@ -161,7 +151,7 @@ fn string_end(s: &[u8], from: usize) -> usize
     ensures { λ e. ⌜ StringEndsAt (now (s .entry)) from e ⌝ }
 {
     let mut i = from;
-    while unmarked_left(s, i) {
+    while unmarked_left(s, i, 16) {
         i += 16;
     }
     string_rest(s, i)
@@ -233,22 +223,22 @@ pub fn peek_item(s: &[u8], at: usize, depth: usize, object: bool) -> Peek
 pub fn read_item(s: &[u8], at: usize, depth: usize, object: bool) -> Item
     requires { ⌜ SomeList (now s) at depth object ⌝ }
     ensures { λ r. ⌜ ((ts : List (Tree object)) (rest : List ℕ) → ListAt (now (s .entry)) at depth object ts rest
-        → Gives (now (s .entry)) at depth object ts rest r) ⌝ }
+        → GivesItem (now (s .entry)) at depth object ts rest r) ⌝ }
 {
-    let first = text_json::space::skip_spaces(s, at);
-    if s[first] == end_mark(object) {
-        return Item::End(first + 1);
+    match peek_item(s, at, depth, object) {
+        Peek::At { first, value } => {
+            let next = after_value(s, skip(s, value, depth));
+            Item::At { first, value, next }
+        }
+        Peek::End => Item::End(list_end(s, at)),
     }
-    let value = item_value(s, first, object);
-    let next = after_value(s, skip(s, value, depth));
-    Item::At { first, value, next }
 }
 
 // The position from which on the items stand after one whose value ends at `end`: spaces are passed, and a comma.
 pub fn after_value(s: &[u8], end: usize) -> usize
     requires { ⌜ SomeItemEnd (now s) end ⌝ }
     ensures { λ r. ⌜ ((at depth : ℕ) (object : Bool) (ts : List (Tree object)) (rest : List ℕ) (p v : ℕ) → ListAt (now (s .entry)) at depth object ts rest
-        → ItemAt (now (s .entry)) at object p v → EndsAt (now (s .entry)) v depth end → Gives (now (s .entry)) at depth object ts rest (ItemIs p v r)) ⌝ }
+        → ItemAt (now (s .entry)) at object p v → EndsAt (now (s .entry)) v depth end → GivesItem (now (s .entry)) at depth object ts rest (ItemIs p v r)) ⌝ }
 {
     let next = text_json::space::skip_spaces(s, end);
     if s[next] == b',' {

@@ -1,18 +1,13 @@
 -- `acon::acon_judge` meets its contract. Assumes nothing.
-use Prim.Native.Nat.{ℕ}
-use mathlib.Core.Path.{ap₂, _∙_}
 use native.Mathlib.Omega.{arith}
 use denote.Ref.{now}
 use lib.ListN.{length}
 use Rattle.policy.specs.Judge.{judgePairs, judgeBytes}
 use Rattle.policy.proofs.Admitting.{judge-number-small, judge-pairs-small}
-use Rattle.acon.specs.Packed.{packed}
+use Rattle.acon.proofs.Packing.{packed-same}
 use borrow.Author.Needs.{needs}
 use Rattle.acon.proofs.acon_judge.Statement.{statement}
 use Rattle.acon.proofs.acon_judge.Tie as tie
-
-judge-requires : tie.Need-judge-requires
-judge-requires c κs = search needs
 
 pack-requires : tie.Need-pack-requires
 unfolding judgePairs
@@ -23,14 +18,10 @@ pack-requires c κs =
     let n = length (now (a .report)) in
     omega (arith, e .number, e .pairs, judge-number-small s (a .used) n, judge-pairs-small s (a .used) n)
 
-same-length : tie.Need-same-length
-same-length c = search needs
-
 returns : tie.Need-returns
 unfolding judgePairs judgeBytes
-returns c =
-    let e = c .before .before .before .judge .ensures in
-    (c .pack .ensures ∙ ap₂ (λ (n l : ℕ). packed n l 0) (e .number) (e .pairs), e .bytes)
+returns c = let e = c .before .before .before .judge .ensures in (packed-same (c .pack .ensures) (e .number) (e .pairs), e .bytes)
 
 pub acon-judge-spec : {M : Type 1} → statement M
-acon-judge-spec = tie.close (tie.spec judge-requires pack-requires same-length returns)
+acon-judge-spec =
+    tie.close (tie.spec (λ c κs. search needs) pack-requires (λ c. search needs) returns)

@@ -1,16 +1,11 @@
 -- `acon::acon_load` meets its contract. Assumes nothing.
-use Prim.Native.Nat.{ℕ}
-use mathlib.Core.Path.{ap₂, _∙_}
 use native.Mathlib.Omega.{arith}
 use denote.Ref.{now}
 use Rattle.store.proofs.Bounds.{load-number-small, load-used-small}
-use Rattle.acon.specs.Packed.{packed}
+use Rattle.acon.proofs.Packing.{packed-same}
 use borrow.Author.Needs.{needs}
 use Rattle.acon.proofs.acon_load.Statement.{statement}
 use Rattle.acon.proofs.acon_load.Tie as tie
-
-load-requires : tie.Need-load-requires
-load-requires c κs = search needs
 
 pack-requires : tie.Need-pack-requires
 pack-requires c κs =
@@ -27,13 +22,9 @@ pack-requires c κs =
       load-used-small i m b (a .used) (λ k. c .before .before .before .before .slice-known .given k .fits),
     )
 
-same-length : tie.Need-same-length
-same-length c = search needs
-
 returns : tie.Need-returns
-returns c =
-    let e = c .before .before .before .load .ensures in
-    (c .pack .ensures ∙ ap₂ (λ (n l : ℕ). packed n l 0) (e .0) (e .1 .0), e .1 .1)
+returns c = let e = c .before .before .before .load .ensures in (packed-same (c .pack .ensures) (e .0) (e .1 .0), e .1 .1)
 
 pub acon-load-spec : {M : Type 1} → statement M
-acon-load-spec = tie.close (tie.spec load-requires pack-requires same-length returns)
+acon-load-spec =
+    tie.close (tie.spec (λ c κs. search needs) pack-requires (λ c. search needs) returns)

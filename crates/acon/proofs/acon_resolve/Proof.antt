@@ -1,18 +1,13 @@
 -- `acon::acon_resolve` meets its contract. Assumes nothing.
-use Prim.Native.Nat.{ℕ}
-use mathlib.Core.Path.{ap₂, _∙_}
 use native.Mathlib.Omega.{arith}
 use denote.Ref.{now}
 use lib.ListN.{length}
 use Rattle.lookup.specs.Resolve.{resolveValue, resolveBytes}
 use Rattle.lookup.proofs.Bounds.{resolve-number-small, resolve-value-small}
-use Rattle.acon.specs.Packed.{packed}
+use Rattle.acon.proofs.Packing.{packed-same}
 use borrow.Author.Needs.{needs}
 use Rattle.acon.proofs.acon_resolve.Statement.{statement}
 use Rattle.acon.proofs.acon_resolve.Tie as tie
-
-resolve-requires : tie.Need-resolve-requires
-resolve-requires c κs = search needs
 
 pack-requires : tie.Need-pack-requires
 unfolding resolveValue
@@ -24,14 +19,10 @@ pack-requires c κs =
     let n = length (now (a .out)) in
     omega (arith, e .number, e .value, resolve-number-small s (a .used) l (a .image) n, resolve-value-small s (a .used) l (a .image) n)
 
-same-length : tie.Need-same-length
-same-length c = search needs
-
 returns : tie.Need-returns
 unfolding resolveValue resolveBytes
-returns c =
-    let e = c .before .before .before .resolve .ensures in
-    (c .pack .ensures ∙ ap₂ (λ (n l : ℕ). packed n l 0) (e .number) (e .value), e .bytes)
+returns c = let e = c .before .before .before .resolve .ensures in (packed-same (c .pack .ensures) (e .number) (e .value), e .bytes)
 
 pub acon-resolve-spec : {M : Type 1} → statement M
-acon-resolve-spec = tie.close (tie.spec resolve-requires pack-requires same-length returns)
+acon-resolve-spec =
+    tie.close (tie.spec (λ c κs. search needs) pack-requires (λ c. search needs) returns)

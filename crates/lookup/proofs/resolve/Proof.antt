@@ -59,12 +59,6 @@ module _ (e : tie.Else3) where
   given : isList (now (start (opening store-is) .args .layers)) ≡ true
   given = sym (e .before .is-list .ensures) ∙ not-false _ (e .if3 .left)
 
-refused-requires : tie.Need-refused-requires
-refused-requires c κs = search needs
-
-same-length : tie.Need-same-length
-same-length c = search needs
-
 returns : tie.Need-returns
 returns c =
     let t = c .before .before .before .before in
@@ -74,26 +68,8 @@ returns c =
 slice-aggregate-b : tie.Need-slice-aggregate-b
 slice-aggregate-b c = sym (length-take-le _ _ (c .before .if1 .left))
 
-slice-aggregate-open-store : tie.Need-slice-aggregate-open-store
-slice-aggregate-open-store c = search needs
-
-slice-aggregate-open-store-2 : tie.Need-slice-aggregate-open-store-2
-slice-aggregate-open-store-2 c = search needs
-
-slice-aggregate-open-store-3 : tie.Need-slice-aggregate-open-store-3
-slice-aggregate-open-store-3 c = search needs
-
-slice-aggregate-open-store-4 : tie.Need-slice-aggregate-open-store-4
-slice-aggregate-open-store-4 c = search needs
-
 open-store-requires : tie.Need-open-store-requires
 open-store-requires c κs = (refl, refl, refl, refl)
-
-refused-requires-2 : tie.Need-refused-requires-2
-refused-requires-2 c κs = search needs
-
-same-length-2 : tie.Need-same-length-2
-same-length-2 c = search needs
 
 returns-2 : tie.Need-returns-2
 returns-2 c =
@@ -103,15 +79,6 @@ returns-2 c =
     let b = not-false _ (sym (o .open-store .ensures .0) ∙ not-true _ (t .if2 .taken)) in
     refused-resolves (number-broken _ _ _ _ _ (within o) (small o) b) (λ z. omega arith) (λ f z. omega (arith, failure-bounds f)) (r .0) (r .1)
 
-is-list-requires : tie.Need-is-list-requires
-is-list-requires c κs = search needs
-
-refused-requires-3 : tie.Need-refused-requires-3
-refused-requires-3 c κs = search needs
-
-same-length-3 : tie.Need-same-length-3
-same-length-3 c = search needs
-
 returns-3 : tie.Need-returns-3
 returns-3 c =
     let t = c .before .before .before .before in
@@ -120,12 +87,6 @@ returns-3 c =
     let r = c .before .before .refused3 .ensures in
     let n = sym (t .before .is-list .ensures) ∙ not-true _ (t .if3 .taken) in
     refused-resolves (number-unlisted _ _ _ _ _ (within o) (small o) (sound e) n) (λ z. omega arith) (λ f z. omega (arith, failure-bounds f)) (r .0) (r .1)
-
-refused-requires-4 : tie.Need-refused-requires-4
-refused-requires-4 c κs = search needs
-
-same-length-4 : tie.Need-same-length-4
-same-length-4 c = search needs
 
 returns-4 : tie.Need-returns-4
 returns-4 c =
@@ -137,18 +98,6 @@ returns-4 c =
     refused-resolves
     (number-missing _ _ _ _ _ (within o) (small o) (sound e) (given l) _ (opened e .fills .images) (omega (arith, count e, t .if4 .taken)))
     (λ z. omega arith) (λ f z. omega (arith, failure-bounds f)) (r .0) (r .1)
-
-slice-aggregate-resolve-in : tie.Need-slice-aggregate-resolve-in
-slice-aggregate-resolve-in c = search needs
-
-slice-aggregate-resolve-in-2 : tie.Need-slice-aggregate-resolve-in-2
-slice-aggregate-resolve-in-2 c = search needs
-
-slice-aggregate-resolve-in-3 : tie.Need-slice-aggregate-resolve-in-3
-slice-aggregate-resolve-in-3 c = search needs
-
-slice-aggregate-resolve-in-4 : tie.Need-slice-aggregate-resolve-in-4
-slice-aggregate-resolve-in-4 c = search needs
 
 resolve-in-requires : tie.Need-resolve-in-requires
 resolve-in-requires c κs =
@@ -167,9 +116,6 @@ resolve-in-requires c κs =
       owners-space = omega (arith, n .1 .1 .1 .0);
     }
 
-same-length-5 : tie.Need-same-length-5
-same-length-5 c = search needs
-
 returns-5 : tie.Need-returns-5
 returns-5 c =
     let f = c .before .before .before .before .before .before .before .before .before .before .before .before .before in
@@ -184,31 +130,7 @@ returns-5 c =
 
 pub resolve-spec : {M : Type 1} → statement M
 resolve-spec =
-    tie.close
-    (tie.spec
-    refused-requires
-    same-length
-    returns
-    slice-aggregate-b
-    slice-aggregate-open-store
-    slice-aggregate-open-store-2
-    slice-aggregate-open-store-3
-    slice-aggregate-open-store-4
-    open-store-requires
-    refused-requires-2
-    same-length-2
-    returns-2
-    is-list-requires
-    refused-requires-3
-    same-length-3
-    returns-3
-    refused-requires-4
-    same-length-4
-    returns-4
-    slice-aggregate-resolve-in
-    slice-aggregate-resolve-in-2
-    slice-aggregate-resolve-in-3
-    slice-aggregate-resolve-in-4
-    resolve-in-requires
-    same-length-5
-    returns-5)
+    tie.close (tie.spec (λ c κs. search needs) (λ c. search needs) returns slice-aggregate-b (λ c. search needs) (λ c. search needs)
+    (λ c. search needs) (λ c. search needs) open-store-requires (λ c κs. search needs) (λ c. search needs) returns-2 (λ c κs. search needs)
+    (λ c κs. search needs) (λ c. search needs) returns-3 (λ c κs. search needs) (λ c. search needs) returns-4 (λ c. search needs) (λ c. search needs)
+    (λ c. search needs) (λ c. search needs) resolve-in-requires (λ c. search needs) returns-5)

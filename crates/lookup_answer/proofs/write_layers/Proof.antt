@@ -1,7 +1,7 @@
 -- `lookup::write_layers` meets its contract: the number and the value of the first layer that fails are told, and else the digests are written if there is
 -- space. Assumes nothing.
 use Prim.Native.Nat.{_-_, _≤_}
-use mathlib.Core.Path.{_≡_, refl, sym, subst, _∙_}
+use mathlib.Core.Path.{_≡_, refl, sym, subst}
 use mathlib.Core.List.{List, map}
 use native.Mathlib.Omega.{arith}
 use borrow.Author.Needs.{needs}
@@ -52,26 +52,8 @@ all-found l room refs ds r = subst (Checks refs _ _) (l .length .given .1) (foll
 sub-count : tie.Need-sub-count
 sub-count c = let p = c .before .before .before .before .before .pre .is in omega (arith, p .few, stand-length (p .stand))
 
-slice-aggregate-check-all : tie.Need-slice-aggregate-check-all
-slice-aggregate-check-all c = search needs
-
 check-all-requires : tie.Need-check-all-requires
 check-all-requires c κs = (c .before .before .before .before .before .before .pre, refl)
-
-enum-known-layer : tie.Need-enum-known-layer
-enum-known-layer c = search needs
-
-failed-requires : tie.Need-failed-requires
-failed-requires c κs = search needs
-
-enum-known-length : tie.Need-enum-known-length
-enum-known-length c = search needs
-
-refused-requires : tie.Need-refused-requires
-refused-requires c κs = search needs
-
-same-length : tie.Need-same-length
-same-length c = search needs
 
 returns : tie.Need-returns
 returns c = λ room refs ds r.
@@ -100,9 +82,6 @@ write-all-requires c κs =
       space = omega (arith, f .size, e .if1 .left);
     }
 
-same-length-2 : tie.Need-same-length-2
-same-length-2 c = search needs
-
 returns-2 : tie.Need-returns-2
 returns-2 c = λ room refs ds r.
     let l = c .before .before .before .before .before in
@@ -111,9 +90,6 @@ returns-2 c = λ room refs ds r.
     subst (Checks refs _ _) (l .layer .given .1) (k .check-all .ensures room refs ds r) in
     let e = c .before .before .failed .ensures in
     fails-resolves _ o (e .0) (e .1)
-
-same-length-3 : tie.Need-same-length-3
-same-length-3 c = search needs
 
 returns-3 : tie.Need-returns-3
 returns-3 c = λ room refs ds r.
@@ -125,21 +101,6 @@ returns-3 c = λ room refs ds r.
 
 pub write-layers-spec : {M : Type 1} → statement M
 write-layers-spec =
-    tie.close
-    (tie.spec
-    sub-count
-    slice-aggregate-check-all
-    check-all-requires
-    enum-known-layer
-    failed-requires
-    enum-known-length
-    refused-requires
-    same-length
-    returns
-    array-share-prefix-numbers
-    slice-aggregate-write-all
-    write-all-requires
-    same-length-2
-    returns-2
-    same-length-3
-    returns-3)
+    tie.close (tie.spec sub-count (λ c. search needs) check-all-requires (λ c. search needs) (λ c κs. search needs) (λ c. search needs)
+    (λ c κs. search needs) (λ c. search needs) returns array-share-prefix-numbers slice-aggregate-write-all write-all-requires (λ c. search needs)
+    returns-2 (λ c. search needs) returns-3)

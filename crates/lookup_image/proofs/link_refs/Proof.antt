@@ -58,21 +58,6 @@ link-all-requires c κs =
       owners-space = p .owners-space;
     }
 
-same-length : tie.Need-same-length
-same-length c = search needs
-
-same-length-2 : tie.Need-same-length-2
-same-length-2 c = search needs
-
-same-length-3 : tie.Need-same-length-3
-same-length-3 c = search needs
-
-same-length-4 : tie.Need-same-length-4
-same-length-4 c = search needs
-
-same-length-5 : tie.Need-same-length-5
-same-length-5 c = search needs
-
 returns : tie.Need-returns
 returns c = λ ls s.
     let k = c .before .before .before .before .before .before .before .before .before .before .before .before .before .before .before .before .before .before in
@@ -82,17 +67,5 @@ returns c = λ ls s.
 
 pub link-refs-spec : {M : Type 1} → statement M
 link-refs-spec =
-    tie.close
-    (tie.spec
-    slice-relend-prefix-tabulate
-    slice-aggregate-tabulate
-    tabulate-requires
-    slice-reshare-prefix-link-all
-    slice-aggregate-link-all
-    link-all-requires
-    same-length
-    same-length-2
-    same-length-3
-    same-length-4
-    same-length-5
-    returns)
+    tie.close (tie.spec slice-relend-prefix-tabulate slice-aggregate-tabulate tabulate-requires slice-reshare-prefix-link-all slice-aggregate-link-all
+    link-all-requires (λ c. search needs) (λ c. search needs) (λ c. search needs) (λ c. search needs) (λ c. search needs) returns)

@@ -64,26 +64,14 @@ module _ (f : tie.After-link-refs) where
       let q = start placed .pre in
       resolving _ _ _ (q .opened) _ (q .within) (q .apart) (e .3) (f .link-refs .ensures (its-layers placed) (e .3)) (e .0) (q .list)
 
-slice-aggregate-place-refs : tie.Need-slice-aggregate-place-refs
-slice-aggregate-place-refs c = refl
-
-slice-aggregate-place-refs-2 : tie.Need-slice-aggregate-place-refs-2
-slice-aggregate-place-refs-2 c = refl
-
 place-refs-requires : tie.Need-place-refs-requires
 place-refs-requires c κs = let q = c .before .before .before .before .before .before .before .before .before .pre in (q .opened, q .within, refl, refl)
-
-slice-aggregate-link-refs : tie.Need-slice-aggregate-link-refs
-slice-aggregate-link-refs c = search needs
 
 array-share-prefix-keys : tie.Need-array-share-prefix-keys
 array-share-prefix-keys c = within (c .before .before .before)
 
 slice-aggregate-link-refs-2 : tie.Need-slice-aggregate-link-refs-2
 slice-aggregate-link-refs-2 c = sym (size (c .before .before .before .before))
-
-slice-aggregate-link-refs-3 : tie.Need-slice-aggregate-link-refs-3
-slice-aggregate-link-refs-3 c = refl
 
 link-refs-requires : tie.Need-link-refs-requires
 link-refs-requires c κs =
@@ -114,26 +102,8 @@ array-share-prefix-keys-2 c = within (placed (linked-at c))
 slice-aggregate-write-layers : tie.Need-slice-aggregate-write-layers
 slice-aggregate-write-layers c = sym (size (placed (linked-at (c .before))))
 
-slice-aggregate-write-layers-2 : tie.Need-slice-aggregate-write-layers-2
-slice-aggregate-write-layers-2 c = search needs
-
 write-layers-requires : tie.Need-write-layers-requires
 write-layers-requires c κs = let f = linked-at (c .before .before .before) in record { room = room f; refs = refs f; layers = _; is = linked f }
-
-same-length : tie.Need-same-length
-same-length c = search needs
-
-same-length-2 : tie.Need-same-length-2
-same-length-2 c = search needs
-
-same-length-3 : tie.Need-same-length-3
-same-length-3 c = search needs
-
-same-length-4 : tie.Need-same-length-4
-same-length-4 c = search needs
-
-same-length-5 : tie.Need-same-length-5
-same-length-5 c = search needs
 
 returns : tie.Need-returns
 returns c =
@@ -150,23 +120,6 @@ returns c =
 
 pub resolve-in-spec : {M : Type 1} → statement M
 resolve-in-spec =
-    tie.close
-    (tie.spec
-    slice-aggregate-place-refs
-    slice-aggregate-place-refs-2
-    place-refs-requires
-    slice-aggregate-link-refs
-    array-share-prefix-keys
-    slice-aggregate-link-refs-2
-    slice-aggregate-link-refs-3
-    link-refs-requires
-    array-share-prefix-keys-2
-    slice-aggregate-write-layers
-    slice-aggregate-write-layers-2
-    write-layers-requires
-    same-length
-    same-length-2
-    same-length-3
-    same-length-4
-    same-length-5
-    returns)
+    tie.close (tie.spec (λ c. refl) (λ c. refl) place-refs-requires (λ c. search needs) array-share-prefix-keys slice-aggregate-link-refs-2
+    (λ c. refl) link-refs-requires array-share-prefix-keys-2 slice-aggregate-write-layers (λ c. search needs) write-layers-requires
+    (λ c. search needs) (λ c. search needs) (λ c. search needs) (λ c. search needs) (λ c. search needs) returns)

@@ -76,18 +76,5 @@ returns c =
 
 pub index-refs-spec : {M : Type 1} → statement M
 index-refs-spec =
-    tie.close
-    (tie.spec
-    Inv-loop
-    μ-loop
-    loop-holds
-    mul-if1
-    shared-slice-read-if1
-    cast-add
-    add-requires
-    add-n
-    add-e
-    loop-less
-    loop-again
-    same-length
+    tie.close (tie.spec Inv-loop μ-loop loop-holds mul-if1 shared-slice-read-if1 cast-add add-requires add-n add-e loop-less loop-again same-length
     returns)

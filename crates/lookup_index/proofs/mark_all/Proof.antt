@@ -8,7 +8,7 @@ use denote.Ref.{now}
 use lib.ListN.{length}
 use Rattle.reference.specs.References.{Layer}
 use Rattle.manifest_objects.specs.Objects.{AllStand}
-use Rattle.lookup_index.proofs.Standing.{stand-length, stand-at, some-stands}
+use Rattle.manifest_objects.proofs.Standing.{stand-length, stand-at, some-stands}
 use Rattle.lookup_index.proofs.Marking.{MarkedTo, marked-none, marked-next, marked-links, marked-named}
 use Rattle.lookup_index.proofs.mark_all.Statement.{statement}
 use Rattle.lookup_index.proofs.mark_all.Tie as tie
@@ -86,17 +86,5 @@ returns c = λ refs s.
 
 pub mark-all-spec : {M : Type 1} → statement M
 mark-all-spec =
-    tie.close
-    (tie.spec
-    Inv-loop
-    μ-loop
-    loop-holds
-    mul-mark
-    shared-slice-read-mark
-    mark-requires
-    add-e
-    loop-less
-    loop-again
-    same-length
-    same-length-2
+    tie.close (tie.spec Inv-loop μ-loop loop-holds mul-mark shared-slice-read-mark mark-requires add-e loop-less loop-again same-length same-length-2
     returns)

@@ -4,7 +4,7 @@ use native.Mathlib.Omega.{arith}
 use borrow.Author.Needs.{needs}
 use denote.Ref.{now}
 use lib.ListN.{length}
-use Rattle.lookup_index.proofs.Standing.{stand-length}
+use Rattle.manifest_objects.proofs.Standing.{stand-length}
 use Rattle.lookup_index.proofs.Indexing.{undefined-number, table-made}
 use Rattle.lookup_index.proofs.tabulate.Statement.{statement}
 use Rattle.lookup_index.proofs.tabulate.Tie as tie
@@ -30,15 +30,6 @@ index-refs-requires c κs =
       omega (arith, size k, p .3),
     )
 
-same-length : tie.Need-same-length
-same-length c = search needs
-
-same-length-2 : tie.Need-same-length-2
-same-length-2 c = search needs
-
-same-length-3 : tie.Need-same-length-3
-same-length-3 c = search needs
-
 returns : tie.Need-returns
 returns c =
     let k = c .before .before .before .before .before .before .before .before .before .before in
@@ -50,4 +41,5 @@ returns c =
     )
 
 pub tabulate-spec : {M : Type 1} → statement M
-tabulate-spec = tie.close (tie.spec mark-all-requires index-refs-requires same-length same-length-2 same-length-3 returns)
+tabulate-spec =
+    tie.close (tie.spec mark-all-requires index-refs-requires (λ c. search needs) (λ c. search needs) (λ c. search needs) returns)

@@ -24,9 +24,6 @@ loop-holds c = all-left _ _ (c .before .before .pre)
 read-requires : tie.Need-read-requires Inv-loop μ-loop
 read-requires c κs = c .loop-test .taken
 
-enum-told : tie.Need-enum-told Inv-loop μ-loop
-enum-told c = search needs
-
 returns : tie.Need-returns Inv-loop μ-loop
 returns c =
     let r = c .before .before in
@@ -34,15 +31,6 @@ returns c =
     let l = t .before in
     let a = l .before .before .before in
     no-break (now (a .args .s)) _ (l .loop .at) (l .loop .inv) (t .loop-test .taken) (rw (c .enum-told .given .1) at (r .read .ensures))
-
-enum-known-algorithm : tie.Need-enum-known-algorithm Inv-loop μ-loop
-enum-known-algorithm c = search needs
-
-byte-requires : tie.Need-byte-requires Inv-loop μ-loop
-byte-requires c κs = search needs
-
-byte-requires-2 : tie.Need-byte-requires-2 Inv-loop μ-loop
-byte-requires-2 c κs = search needs
 
 -- the layer that is sought
 abbrev sought : tie.Start Inv-loop μ-loop → LayerDigest
@@ -63,9 +51,6 @@ part-equal-start c = let h = entry-here (c .before .before .before .before) in o
 
 part-equal-end : tie.Need-part-equal-end Inv-loop μ-loop
 part-equal-end c = let h = entry-here (c .before .before .before .before) in omega (arith, h .within)
-
-equal-requires : tie.Need-equal-requires Inv-loop μ-loop
-equal-requires c κs = search needs
 
 returns-2 : tie.Need-returns-2 Inv-loop μ-loop
 returns-2 c =
@@ -114,24 +99,6 @@ returns-3 c =
 
 pub has-spec : {M : Type 1} → statement M
 has-spec =
-    tie.close
-    (tie.spec
-    Inv-loop
-    μ-loop
-    loop-holds
-    read-requires
-    enum-told
-    returns
-    enum-known-algorithm
-    byte-requires
-    byte-requires-2
-    sub-equal
-    part-equal-start
-    part-equal-end
-    equal-requires
-    returns-2
-    loop-less
-    loop-again
-    loop-less-2
-    loop-again-2
+    tie.close (tie.spec Inv-loop μ-loop loop-holds read-requires (λ c. search needs) returns (λ c. search needs) (λ c κs. search needs)
+    (λ c κs. search needs) sub-equal part-equal-start part-equal-end (λ c κs. search needs) returns-2 loop-less loop-again loop-less-2 loop-again-2
     returns-3)

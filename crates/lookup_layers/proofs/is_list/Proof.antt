@@ -24,9 +24,6 @@ loop-holds c = (omega arith, refl)
 read-requires : tie.Need-read-requires Inv-loop μ-loop
 read-requires c κs = c .loop-test .taken
 
-enum-told : tie.Need-enum-told Inv-loop μ-loop
-enum-told c = search needs
-
 returns : tie.Need-returns Inv-loop μ-loop
 returns c =
     let r = c .before .before in
@@ -34,9 +31,6 @@ returns c =
     let l = t .before in
     let a = l .before .before in
     sym (list-broken (now (a .args .s)) (l .loop .i) (t .loop-test .taken) (rw (c .enum-told .given .1) at (r .read .ensures))) ∙ l .loop .inv .1
-
-enum-known-next : tie.Need-enum-known-next Inv-loop μ-loop
-enum-known-next c = search needs
 
 -- the entry, once it is read
 entry-here : (c : tie.After-next Inv-loop μ-loop)
@@ -65,15 +59,4 @@ returns-2 c =
 
 pub is-list-spec : {M : Type 1} → statement M
 is-list-spec =
-    tie.close
-    (tie.spec
-    Inv-loop
-    μ-loop
-    loop-holds
-    read-requires
-    enum-told
-    returns
-    enum-known-next
-    loop-less
-    loop-again
-    returns-2)
+    tie.close (tie.spec Inv-loop μ-loop loop-holds read-requires (λ c. search needs) returns (λ c. search needs) loop-less loop-again returns-2)

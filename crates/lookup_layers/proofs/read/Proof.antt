@@ -7,27 +7,6 @@ use Rattle.lookup_layers.proofs.Reading.{unknown-here, cut-here, whole-
 use Rattle.lookup_layers.proofs.read.Statement.{statement}
 use Rattle.lookup_layers.proofs.read.Tie as tie
 
-shared-slice-read-from-byte : tie.Need-shared-slice-read-from-byte
-shared-slice-read-from-byte c = search needs
-
-from-byte-requires : tie.Need-from-byte-requires
-from-byte-requires c κs = search needs
-
-enum-told : tie.Need-enum-told
-enum-told c = search needs
-
-enum-known-algorithm : tie.Need-enum-known-algorithm
-enum-known-algorithm c = search needs
-
-add-digest : tie.Need-add-digest
-add-digest c = search needs
-
-digest-bytes-requires : tie.Need-digest-bytes-requires
-digest-bytes-requires c κs = search needs
-
-sub-if1 : tie.Need-sub-if1
-sub-if1 c = search needs
-
 returns : tie.Need-returns
 returns c =
     let n = c .before in
@@ -36,9 +15,6 @@ returns c =
     let a = f .before .before .before in
     cut-here (now (a .args .s)) (a .args .i) (a .pre) (k .algorithm .given .0 .0) (sym (f .from-byte .ensures) ∙ k .algorithm .given .1)
     (n .digest-bytes .result) (n .digest-bytes .ensures .0) (omega (arith, c .if1 .taken))
-
-add-t10 : tie.Need-add-t10
-add-t10 c = search needs
 
 returns-2 : tie.Need-returns-2
 returns-2 c =
@@ -57,16 +33,5 @@ returns-3 c =
 
 pub read-spec : {M : Type 1} → statement M
 read-spec =
-    tie.close
-    (tie.spec
-    shared-slice-read-from-byte
-    from-byte-requires
-    enum-told
-    enum-known-algorithm
-    add-digest
-    digest-bytes-requires
-    sub-if1
-    returns
-    add-t10
-    returns-2
-    returns-3)
+    tie.close (tie.spec (λ c. search needs) (λ c κs. search needs) (λ c. search needs) (λ c. search needs) (λ c. search needs) (λ c κs. search needs)
+    (λ c. search needs) returns (λ c. search needs) returns-2 returns-3)

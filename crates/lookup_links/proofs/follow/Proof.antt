@@ -77,19 +77,5 @@ loop-again c =
 
 pub follow-spec : {M : Type 1} → statement M
 follow-spec =
-    tie.close
-    (tie.spec
-    Inv-loop
-    μ-loop
-    add-left
-    loop-holds
-    mul-o
-    shared-slice-read-o
-    returns
-    returns-2
-    returns-3
-    returns-4
-    sub-left
-    cast-at
-    loop-less
+    tie.close (tie.spec Inv-loop μ-loop add-left loop-holds mul-o shared-slice-read-o returns returns-2 returns-3 returns-4 sub-left cast-at loop-less
     loop-again)

@@ -1,14 +1,14 @@
 -- `lookup_outcome::check_all` meets its contract. The loop's invariant: the layers before the reference e were found, or the first that fails is one of
 -- them, and then none is left to ask. The measure is how many are left.
 -- Assumes nothing.
-use Prim.Native.Nat.{_+_, _-_, _*_, _≤_, _<_}
+use Prim.Native.Nat.{_-_, _*_, _≤_, _<_}
 use mathlib.Core.Path.{_≡_, refl, _∙_}
 use mathlib.Core.List.{List}
 use mathlib.Core.Logic.{⊎-elim}
 use native.Mathlib.Omega.{arith}
 use borrow.Author.Needs.{needs}
 use denote.Ref.{now}
-use lib.ListN.{length, getD, set, length-set}
+use lib.ListN.{length, getD, length-set}
 use Rattle.reference.specs.References.{Layer, no-layer}
 use Rattle.manifest_objects.proofs.Standing.{stand-length}
 use Rattle.store_record.specs.Image.{Image}
@@ -62,12 +62,6 @@ loop-holds c =
 
 fate-of-requires : tie.Need-fate-of-requires Inv-loop μ-loop
 fate-of-requires c κs = (start c .pre .0, reached c)
-
-enum-known-f : tie.Need-enum-known-f Inv-loop μ-loop
-enum-known-f c = search needs
-
-enum-known-number : tie.Need-enum-known-number Inv-loop μ-loop
-enum-known-number c = search needs
 
 -- a layer that was found
 module _ (k : tie.After-number Inv-loop μ-loop) where
@@ -164,24 +158,5 @@ returns-2 c =
 
 pub check-all-spec : {M : Type 1} → statement M
 check-all-spec =
-    tie.close
-    (tie.spec
-    Inv-loop
-    μ-loop
-    loop-holds
-    fate-of-requires
-    enum-known-f
-    enum-known-number
-    cast-numbers
-    sub-numbers
-    mul-numbers
-    slice-write-numbers
-    add-length
-    add-e
-    loop-less
-    loop-again
-    sub-t22
-    same-length
-    returns
-    same-length-2
-    returns-2)
+    tie.close (tie.spec Inv-loop μ-loop loop-holds fate-of-requires (λ c. search needs) (λ c. search needs) cast-numbers sub-numbers mul-numbers
+    slice-write-numbers add-length add-e loop-less loop-again sub-t22 same-length returns same-length-2 returns-2)

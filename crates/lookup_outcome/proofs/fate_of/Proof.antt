@@ -29,15 +29,6 @@ follow-requires c κs =
       few = x .few;
     }
 
-enum-told : tie.Need-enum-told
-enum-told c = search needs
-
-enum-told-2 : tie.Need-enum-told-2
-enum-told-2 c = search needs
-
-enum-known-number : tie.Need-enum-known-number
-enum-known-number c = search needs
-
 -- a path that met a digest
 module _ (r : tie.After-number) where
   abbrev start : tie.Start
@@ -97,16 +88,5 @@ returns-4 c = λ room refs ds x.
 
 pub fate-of-spec : {M : Type 1} → statement M
 fate-of-spec =
-    tie.close
-    (tie.spec
-    follow-requires
-    enum-told
-    enum-told-2
-    enum-known-number
-    mul-size-if-present
-    shared-slice-read-size-if-present
-    size-if-present-requires
-    returns
-    returns-2
-    returns-3
-    returns-4)
+    tie.close (tie.spec follow-requires (λ c. search needs) (λ c. search needs) (λ c. search needs) mul-size-if-present
+    shared-slice-read-size-if-present size-if-present-requires returns returns-2 returns-3 returns-4)

@@ -28,31 +28,16 @@ module _ (r : tie.After-a) where
 read-requires : tie.Need-read-requires
 read-requires c κs = some-reference (c .before .before .pre .0 .stands)
 
-enum-known-a : tie.Need-enum-known-a
-enum-known-a c = search needs
-
-slice-aggregate-write : tie.Need-slice-aggregate-write
-slice-aggregate-write c = search needs
-
 write-requires : tie.Need-write-requires
 write-requires c κs =
     let r = c .before .before in
     (denoted r _ (start r .pre .0 .stands) .reads .0, digest-bounds (r .a .given .0 .0) .1)
-
-digest-bytes-requires : tie.Need-digest-bytes-requires
-digest-bytes-requires c κs = search needs
 
 array-share-prefix-bytes : tie.Need-array-share-prefix-bytes
 array-share-prefix-bytes c = omega (arith, c .digest-bytes .ensures .0, digest-bounds (c .before .before .before .before .before .a .given .0 .0) .1)
 
 slice-aggregate-has : tie.Need-slice-aggregate-has
 slice-aggregate-has c = sym (length-take-le (c .before .digest-bytes .result) _ (array-share-prefix-bytes (c .before)))
-
-has-requires : tie.Need-has-requires
-has-requires c κs = search needs
-
-add-result : tie.Need-add-result
-add-result c = search needs
 
 returns : tie.Need-returns
 returns c = λ d ds s l.
@@ -63,12 +48,6 @@ returns c = λ d ds s l.
     let x = denoted r d s in
     size-present (digits-read (x .reads .0 .digest) (sym (x .reads .1) ∙ x .is)) _ (n .digest-bytes .ensures .0) _ _ (w .write .ensures) ds _
     (h .has .ensures ds l) (c .if1 .taken)
-
-enum-told : tie.Need-enum-told
-enum-told c = search needs
-
-enum-told-2 : tie.Need-enum-told-2
-enum-told-2 c = search needs
 
 returns-2 : tie.Need-returns-2
 returns-2 c = λ d ds s l.
@@ -88,20 +67,5 @@ returns-4 c = λ d ds s l. stands-no-bad _ _ d s (rw (c .enum-told2 .given .1) a
 
 pub size-if-present-spec : {M : Type 1} → statement M
 size-if-present-spec =
-    tie.close
-    (tie.spec
-    read-requires
-    enum-known-a
-    slice-aggregate-write
-    write-requires
-    digest-bytes-requires
-    array-share-prefix-bytes
-    slice-aggregate-has
-    has-requires
-    add-result
-    returns
-    enum-told
-    enum-told-2
-    returns-2
-    returns-3
-    returns-4)
+    tie.close (tie.spec read-requires (λ c. search needs) (λ c. search needs) write-requires (λ c κs. search needs) array-share-prefix-bytes
+    slice-aggregate-has (λ c κs. search needs) (λ c. search needs) returns (λ c. search needs) (λ c. search needs) returns-2 returns-3 returns-4)

@@ -6,7 +6,7 @@ use native.Mathlib.Omega.{arith}
 use borrow.Author.Needs.{needs}
 use denote.Ref.{now}
 use lib.ListN.{length}
-use Rattle.store_write.proofs.Writing.{kept-length}
+use Rattle.laws.proofs.Writing as Parts
 use Rattle.lookup_outcome.specs.Resolving.{Writable}
 use Rattle.lookup_outcome.proofs.Writing.{WrittenTo, written-none, number-within, digest-here, written-next, written-all}
 use Rattle.lookup_outcome.proofs.Writing.{entry-space, entry-lent, entry-fits}
@@ -35,9 +35,6 @@ module _ (t : tie.In-loop Inv-loop μ-loop) where
 loop-holds : tie.Need-loop-holds Inv-loop μ-loop
 loop-holds c = (omega arith, λ w. written-none _ _)
 
-mul-e : tie.Need-mul-e Inv-loop μ-loop
-mul-e c = search needs
-
 shared-slice-read-e : tie.Need-shared-slice-read-e Inv-loop μ-loop
 shared-slice-read-e c = reached (c .before)
 
@@ -53,13 +50,10 @@ shared-slice-read-write-entry c = number-within (start (c .before .before) .pre)
 sub-write-entry : tie.Need-sub-write-entry Inv-loop μ-loop
 sub-write-entry c =
     let t = c .before .before in
-    omega (arith, entry-lent (start t .pre) _ (reached t) refl (so-far t), kept-length (so-far t .bytes))
+    omega (arith, entry-lent (start t .pre) _ (reached t) refl (so-far t), Parts.same-length (so-far t .bytes))
 
 part-write-entry-start : tie.Need-part-write-entry-start Inv-loop μ-loop
 part-write-entry-start c = sub-write-entry c
-
-part-write-entry-end : tie.Need-part-write-entry-end Inv-loop μ-loop
-part-write-entry-end c = search needs
 
 write-entry-requires : tie.Need-write-entry-requires Inv-loop μ-loop
 write-entry-requires c κs =
@@ -73,12 +67,6 @@ add-n c =
     let e = r .write-entry .ensures _ (digest-here (start t .pre) _ (reached t)) in
     omega (arith, e .0, entry-space (start t .pre) _ (reached t) refl (so-far t), start t .good)
 
-add-k : tie.Need-add-k Inv-loop μ-loop
-add-k c = search needs
-
-loop-less : tie.Need-loop-less Inv-loop μ-loop
-loop-less c = search needs
-
 loop-again : tie.Need-loop-again Inv-loop μ-loop
 loop-again c =
     let r = c .before .before in
@@ -89,7 +77,7 @@ loop-again c =
     )
 
 same-length : tie.Need-same-length Inv-loop μ-loop
-same-length c = kept-length (c .before .loop .inv .1 (c .before .before .before .before .before .before .pre) .bytes)
+same-length c = Parts.same-length (c .before .loop .inv .1 (c .before .before .before .before .before .before .pre) .bytes)
 
 returns : tie.Need-returns Inv-loop μ-loop
 returns c = λ refs ds s m.
@@ -99,23 +87,6 @@ returns c = λ refs ds s m.
 
 pub write-all-spec : {M : Type 1} → statement M
 write-all-spec =
-    tie.close
-    (tie.spec
-    Inv-loop
-    μ-loop
-    loop-holds
-    mul-e
-    shared-slice-read-e
-    cast-e
-    mul-write-entry
-    shared-slice-read-write-entry
-    sub-write-entry
-    part-write-entry-start
-    part-write-entry-end
-    write-entry-requires
-    add-n
-    add-k
-    loop-less
-    loop-again
-    same-length
-    returns)
+    tie.close (tie.spec Inv-loop μ-loop loop-holds (λ c. search needs) shared-slice-read-e cast-e mul-write-entry shared-slice-read-write-entry
+    sub-write-entry part-write-entry-start (λ c. search needs) write-entry-requires add-n (λ c. search needs) (λ c. search needs) loop-again
+    same-length returns)

@@ -10,7 +10,8 @@ use Rattle.reference_digests.specs.Algorithms.{digestBytes}
 use Rattle.reference.specs.References.{layer-digest}
 use Rattle.reference.specs.declared.layer.Layer.the-variants.{Digest}
 use Rattle.manifest.specs.Opened.{Denotes}
-use Rattle.store_write.proofs.Writing.{Writes, kept-length}
+use Rattle.laws.specs.Writes.{Writes}
+use Rattle.laws.proofs.Writing as Parts
 use Rattle.lookup_layers.specs.Layers.{LayerDigest, entryOf}
 use Rattle.lookup_outcome.specs.Resolving.{DigestStands}
 use Rattle.lookup_outcome.proofs.Meeting.{some-reference}
@@ -38,12 +39,6 @@ module _ (r : tie.After-a) where
 read-requires : tie.Need-read-requires
 read-requires c κs = some-reference (c .before .before .pre .stands)
 
-enum-known-a : tie.Need-enum-known-a
-enum-known-a c = search needs
-
-byte-requires : tie.Need-byte-requires
-byte-requires c κs = search needs
-
 slice-write-out : tie.Need-slice-write-out
 slice-write-out c = omega (arith, room (c .before .before))
 
@@ -53,26 +48,11 @@ sub-write c = omega (arith, room (c .before .before), length-set (now (start (c 
 part-write-start : tie.Need-part-write-start
 part-write-start c = sub-write c
 
-part-write-end : tie.Need-part-write-end
-part-write-end c = search needs
-
 write-requires : tie.Need-write-requires
 write-requires c κs =
     let r = c .before .before .before in
     let x = denoted r _ (start r .pre .stands) in
     (x .reads .0, digest-fits (digits-read (x .reads .0 .digest) (sym (x .reads .1) ∙ x .is)) (now (start r .args .out)) (room r) _ (c .before .byte .ensures))
-
-digest-bytes-requires : tie.Need-digest-bytes-requires
-digest-bytes-requires c κs = search needs
-
-add-result : tie.Need-add-result
-add-result c = search needs
-
-enum-told : tie.Need-enum-told
-enum-told c = search needs
-
-enum-told-2 : tie.Need-enum-told-2
-enum-told-2 c = search needs
 
 -- the digest was written
 abbrev read-of : tie.After-digest-bytes → tie.After-a
@@ -93,7 +73,7 @@ written c d s =
     (w .write .ensures)
 
 same-length : tie.Need-same-length
-same-length c = kept-length (written c _ (start (read-of c) .pre .stands))
+same-length c = Parts.same-length (written c _ (start (read-of c) .pre .stands))
 
 returns : tie.Need-returns
 returns c = λ d s.
@@ -109,21 +89,5 @@ returns-3 c = λ d s. stands-no-bad _ _ d s (rw (c .enum-told2 .given .1) at (c 
 
 pub write-entry-spec : {M : Type 1} → statement M
 write-entry-spec =
-    tie.close
-    (tie.spec
-    read-requires
-    enum-known-a
-    byte-requires
-    slice-write-out
-    sub-write
-    part-write-start
-    part-write-end
-    write-requires
-    digest-bytes-requires
-    add-result
-    enum-told
-    enum-told-2
-    same-length
-    returns
-    returns-2
-    returns-3)
+    tie.close (tie.spec read-requires (λ c. search needs) (λ c κs. search needs) slice-write-out sub-write part-write-start (λ c. search needs)
+    write-requires (λ c κs. search needs) (λ c. search needs) (λ c. search needs) (λ c. search needs) same-length returns returns-2 returns-3)

@@ -10,7 +10,7 @@ use lib.ListN.{length, take, getD, length-set}
 use Rattle.reference.specs.References.{Layer}
 use Rattle.manifest_objects.specs.Objects.{AllStand}
 use Rattle.lookup_table.specs.Linking.{Relinked}
-use Rattle.lookup_index.proofs.Standing.{stand-at, some-stands}
+use Rattle.manifest_objects.proofs.Standing.{stand-at, some-stands}
 use Rattle.lookup_table.proofs.Linking.{relinked-none, relinked-all, relinked-set, relinked-kept}
 use Rattle.lookup_table.proofs.link.Statement.{statement}
 use Rattle.lookup_table.proofs.link.Tie as tie
@@ -101,21 +101,5 @@ returns c = λ refs s.
 
 pub link-spec : {M : Type 1} → statement M
 link-spec =
-    tie.close
-    (tie.spec
-    Inv-loop
-    μ-loop
-    loop-holds
-    mul-e
-    shared-slice-read-e
-    cast-e
-    mul-is-alias-of
-    shared-slice-read-is-alias-of
-    is-alias-of-requires
-    mul-next
-    slice-write-next
-    add-i
-    loop-less
-    loop-again
-    same-length
-    returns)
+    tie.close (tie.spec Inv-loop μ-loop loop-holds mul-e shared-slice-read-e cast-e mul-is-alias-of shared-slice-read-is-alias-of is-alias-of-requires
+    mul-next slice-write-next add-i loop-less loop-again same-length returns)

@@ -58,38 +58,11 @@ turn c = c .before .before .before .before .before .before .before .before .befo
 loop-holds : tie.Need-loop-holds Inv-loop μ-loop
 loop-holds c = (omega arith, refl, refl, linked-none _ _ _ _ _ _)
 
-mul-r : tie.Need-mul-r Inv-loop μ-loop
-mul-r c = omega (arith, few c)
-
-element-copy-out-r : tie.Need-element-copy-out-r Inv-loop μ-loop
-element-copy-out-r c = few c
-
-mul-q : tie.Need-mul-q Inv-loop μ-loop
-mul-q c = omega (arith, few (c .before))
-
-array-copy-out-q : tie.Need-array-copy-out-q Inv-loop μ-loop
-array-copy-out-q c = few (c .before)
-
-link-image-requires : tie.Need-link-image-requires Inv-loop μ-loop
-link-image-requires c κs = can (c .before .before .before .before .before) _
-
 mul-first : tie.Need-mul-first Inv-loop μ-loop
 mul-first c = omega (arith, few (c .before .before .before .before .before .before .before .before .before .before .before .before))
 
 shared-slice-read-first : tie.Need-shared-slice-read-first Inv-loop μ-loop
 shared-slice-read-first c = let t = turn c in omega (arith, few t, start t .pre .counted .space)
-
-cast-first : tie.Need-cast-first Inv-loop μ-loop
-cast-first c = omega (arith, number (turn c))
-
-add-first : tie.Need-add-first Inv-loop μ-loop
-add-first c = omega (arith, number (turn c))
-
-add-j : tie.Need-add-j Inv-loop μ-loop
-add-j c = omega (arith, few (turn c))
-
-loop-less : tie.Need-loop-less Inv-loop μ-loop
-loop-less c = omega (arith, turn c .loop-test .taken)
 
 loop-again : tie.Need-loop-again Inv-loop μ-loop
 loop-again c =
@@ -103,15 +76,6 @@ loop-again c =
       linked-next _ _ _ _ _ _ (all-here (start t)) (l .j) (l .first) (l .next) (l .inv .3) (t .loop-test .taken) _ _ (count t) (k .0) (f .ensures),
     )
 
-same-length : tie.Need-same-length Inv-loop μ-loop
-same-length c = c .before .loop .inv .3 .size
-
-same-length-2 : tie.Need-same-length-2 Inv-loop μ-loop
-same-length-2 c = c .before .loop .inv .1
-
-same-length-3 : tie.Need-same-length-3 Inv-loop μ-loop
-same-length-3 c = c .before .loop .inv .2
-
 returns : tie.Need-returns Inv-loop μ-loop
 returns c = λ ls t p.
     let l = c .before .loop in
@@ -120,24 +84,8 @@ returns c = λ ls t p.
 
 pub link-all-spec : {M : Type 1} → statement M
 link-all-spec =
-    tie.close
-    (tie.spec
-    Inv-loop
-    μ-loop
-    loop-holds
-    mul-r
-    element-copy-out-r
-    mul-q
-    array-copy-out-q
-    link-image-requires
-    mul-first
-    shared-slice-read-first
-    cast-first
-    add-first
-    add-j
-    loop-less
-    loop-again
-    same-length
-    same-length-2
-    same-length-3
-    returns)
+    tie.close (tie.spec Inv-loop μ-loop loop-holds (λ c. omega (arith, few c)) (λ c. few c) (λ c. omega (arith, few (c .before)))
+    (λ c. few (c .before)) (λ c κs. can (c .before .before .before .before .before) _) mul-first shared-slice-read-first
+    (λ c. omega (arith, number (turn c))) (λ c. omega (arith, number (turn c))) (λ c. omega (arith, few (turn c)))
+    (λ c. omega (arith, turn c .loop-test .taken)) loop-again (λ c. c .before .loop .inv .3 .size) (λ c. c .before .loop .inv .1)
+    (λ c. c .before .loop .inv .2) returns)

@@ -10,14 +10,14 @@ use Rattle.reference.specs.References.{Layer}
 use Rattle.manifest.specs.Manifest.{contents}
 use Rattle.manifest.specs.Names.{objects}
 use Rattle.manifest_objects.specs.Objects.{AliasAt, Listed, NameStands}
-use Rattle.manifest_objects.proofs.Found.{part-end}
+use Rattle.manifest_objects.proofs.FoundObjects.{part-end}
 use Rattle.manifest_objects.proofs.Naming.{name-stands, name-within}
 use Rattle.store_record.specs.Reading.{between}
 use Rattle.store_keys.specs.Keys.{LayerKey}
 use Rattle.lookup_links.specs.Links.{Links}
 use Rattle.lookup_index.specs.Table.{Table}
 use Rattle.lookup_table.specs.Linking.{ObjectsFrom}
-use Rattle.lookup_index.proofs.Standing.{stand-length}
+use Rattle.manifest_objects.proofs.Standing.{stand-length}
 use Rattle.lookup_table.proofs.Images.{noAlias, keysUnder, keys-held, alias-here, keys-none, keys-next, keys-all}
 use Rattle.lookup_table.proofs.link_image.Statement.{statement}
 use Rattle.lookup_table.proofs.link_image.Tie as tie
@@ -190,33 +190,6 @@ returns c = λ refs ks x o p.
 
 pub link-image-spec : {M : Type 1} → statement M
 link-image-spec =
-    tie.close
-    (tie.spec
-    Inv-loop
-    μ-loop
-    sub-list-aliases
-    part-list-aliases-start
-    part-list-aliases-end
-    list-aliases-requires
-    loop-holds
-    mul-p
-    slice-read-p
-    cast-p
-    add-p
-    add-p-2
-    mul-number
-    slice-read-number
-    cast-number
-    add-number
-    sub-link-name
-    part-link-name-start
-    part-link-name-end
-    cast-link-name
-    link-name-requires
-    add-k
-    loop-less
-    loop-again
-    same-length
-    same-length-2
-    same-length-3
-    returns)
+    tie.close (tie.spec Inv-loop μ-loop sub-list-aliases part-list-aliases-start part-list-aliases-end list-aliases-requires loop-holds mul-p
+    slice-read-p cast-p add-p add-p-2 mul-number slice-read-number cast-number add-number sub-link-name part-link-name-start part-link-name-end
+    cast-link-name link-name-requires add-k loop-less loop-again same-length same-length-2 same-length-3 returns)

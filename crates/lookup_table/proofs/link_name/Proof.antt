@@ -3,7 +3,7 @@ use native.Mathlib.Omega.{arith}
 use borrow.Author.Needs.{needs}
 use denote.Ref.{now}
 use Rattle.manifest_objects.specs.Objects.{Named}
-use Rattle.lookup_index.proofs.Standing.{stand-length}
+use Rattle.manifest_objects.proofs.Standing.{stand-length}
 use Rattle.lookup_table.proofs.Linking.{chosen-below, key-linked}
 use Rattle.lookup_table.proofs.link_name.Statement.{statement}
 use Rattle.lookup_table.proofs.link_name.Tie as tie
@@ -19,18 +19,6 @@ module _ (c : tie.After-find) where
   found : Named (now (start .args .b)) (now (start .args .at)) (now (start .args .order)) (start .pre .1 .name) (c .find .result)
   found = c .find .ensures (start .pre .1 .name) (start .pre .1 .stands)
 
-mul-link : tie.Need-mul-link
-mul-link c = omega (arith, found c .rising, found c .within)
-
-sub-link : tie.Need-sub-link
-sub-link c = found c .rising
-
-part-link-start : tie.Need-part-link-start
-part-link-start c = found c .rising
-
-part-link-end : tie.Need-part-link-end
-part-link-end c = found c .within
-
 link-requires : tie.Need-link-requires
 link-requires c κs =
     let f = c .before .before in
@@ -41,13 +29,12 @@ link-requires c κs =
       p .2,
     )
 
-same-length : tie.Need-same-length
-same-length c = search needs
-
 returns : tie.Need-returns
 returns c = λ refs ks n t s h p.
     let k = c .before .before in
     key-linked _ _ _ _ refs t _ _ n _ (k .before .before .before .find .ensures n s) _ h ks _ _ p (k .link .ensures refs (t .stand))
 
 pub link-name-spec : {M : Type 1} → statement M
-link-name-spec = tie.close (tie.spec find-requires mul-link sub-link part-link-start part-link-end link-requires same-length returns)
+link-name-spec =
+    tie.close (tie.spec find-requires (λ c. omega (arith, found c .rising, found c .within)) (λ c. found c .rising) (λ c. found c .rising)
+    (λ c. found c .within) link-requires (λ c. search needs) returns)

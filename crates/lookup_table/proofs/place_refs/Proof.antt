@@ -14,8 +14,9 @@ use Rattle.store_record.specs.Reading.{between, heldIn, noRecord, RecordIn}
 use Rattle.store_record.specs.declared.Record.{Record}
 use Rattle.store_names.proofs.Opened.{opened-at}
 use Rattle.lookup_paths.proofs.Objects.{objects-counted}
-use Rattle.lookup_index.proofs.Standing.{stand-length}
-use Rattle.lookup_table.proofs.Placing.{back-size, stand-behind}
+use Rattle.manifest_objects.proofs.Standing.{stand-length}
+use Rattle.laws.proofs.Writing.{back-size}
+use Rattle.lookup_table.proofs.Placing.{stand-behind}
 use Rattle.lookup_table.proofs.place_refs.Statement.{statement}
 use Rattle.lookup_table.proofs.place_refs.Tie as tie
 
@@ -79,9 +80,6 @@ sub-place-layers c = omega (arith, fits (objects-of c))
 part-place-layers-start : tie.Need-part-place-layers-start
 part-place-layers-start c = omega (arith, fits (objects-of c))
 
-part-place-layers-end : tie.Need-part-place-layers-end
-part-place-layers-end c = search needs
-
 place-layers-requires : tie.Need-place-layers-requires
 unfolding between
 place-layers-requires c κs =
@@ -116,19 +114,5 @@ returns c =
 
 pub place-refs-spec : {M : Type 1} → statement M
 place-refs-spec =
-    tie.close
-    (tie.spec
-    place-all-requires
-    mul-r
-    element-copy-out-r
-    mul-q
-    array-copy-out-q
-    mul-place-layers
-    sub-place-layers
-    part-place-layers-start
-    part-place-layers-end
-    place-layers-requires
-    add-t22
-    same-length
-    same-length-2
-    returns)
+    tie.close (tie.spec place-all-requires mul-r element-copy-out-r mul-q array-copy-out-q mul-place-layers sub-place-layers part-place-layers-start
+    (λ c. search needs) place-layers-requires add-t22 same-length same-length-2 returns)

@@ -18,4 +18,5 @@ returns c =
     c .conflicts .ensures (namedIn (contentsOf (manifestOf _))) (contentsField (manifestOf _)) (a .pre .0 .sorted) (a .pre .2 .contents) ∙ conflict-keys _ _
 
 pub conflicts-spec : {M : Type 1} → statement M
-conflicts-spec = tie.close (tie.spec conflicts-requires returns)
+conflicts-spec =
+    tie.close (tie.spec conflicts-requires returns)

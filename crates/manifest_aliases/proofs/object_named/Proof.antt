@@ -16,12 +16,6 @@ use Rattle.manifest_aliases.proofs.object_named.Tie as tie
 object-of-requires : tie.Need-object-of-requires
 object-of-requires c κs = let a = c .before .before in (contents-grouped _ _ (a .pre .0), a .pre .1)
 
-enum-told : tie.Need-enum-told
-enum-told c = search needs
-
-enum-known-index : tie.Need-enum-known-index
-enum-known-index c = search needs
-
 -- the key under which the name stands
 found : (c : tie.After-known-told) → let a = c .before .before .before .before .before .before .args in let g = c .before .index .given .0 in
     KeyFound (now (a .s)) (contentsOf (manifestOf (now (a .s)))) (contentFrom (now (a .t)) (a .q)) (g .0) (g .1 .0)
@@ -50,4 +44,5 @@ returns-2 : tie.Need-returns-2
 returns-2 c = object-at _ _ _ _ (found (c .before)) _ (c .read .ensures)
 
 pub object-named-spec : {M : Type 1} → statement M
-object-named-spec = tie.close (tie.spec object-of-requires enum-told enum-known-index add-read read-requires returns returns-2)
+object-named-spec =
+    tie.close (tie.spec object-of-requires (λ c. search needs) (λ c. search needs) add-read read-requires returns returns-2)

@@ -9,19 +9,10 @@ use Rattle.manifest_aliases.proofs.Objects.{no-digest, not-bad, alias-i
 use Rattle.manifest_aliases.proofs.object_of.Statement.{statement}
 use Rattle.manifest_aliases.proofs.object_of.Tie as tie
 
-enum-told : tie.Need-enum-told
-enum-told c = search needs
-
-enum-known-x : tie.Need-enum-known-x
-enum-known-x c = search needs
-
 object-named-requires : tie.Need-object-named-requires
 object-named-requires c κs =
     let a = c .before .before .before .before .before in
     (a .pre .0, alias-inside _ _ _ _ _ _ _ _ (c .before .x .given .1) (a .pre .1 .denotes))
-
-enum-told-2 : tie.Need-enum-told-2
-enum-told-2 c = search needs
 
 returns : tie.Need-returns
 returns c = λ a d n h. no-digest _ a d n _ _ _ (c .enum-told .given .1) h
@@ -36,4 +27,5 @@ returns-3 : tie.Need-returns-3
 returns-3 c = λ a d n h. not-bad _ a d n _ (c .enum-told2 .given .1) h
 
 pub object-of-spec : {M : Type 1} → statement M
-object-of-spec = tie.close (tie.spec enum-told enum-known-x object-named-requires enum-told-2 returns returns-2 returns-3)
+object-of-spec =
+    tie.close (tie.spec (λ c. search needs) (λ c. search needs) object-named-requires (λ c. search needs) returns returns-2 returns-3)

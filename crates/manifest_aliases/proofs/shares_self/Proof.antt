@@ -14,4 +14,5 @@ returns c = let a = c .before .before .before .before .before in
     c .shares .ensures (selfNames _) (selfField (manifestOf _)) (a .pre .0 .sorted) (a .pre .2 .own)
 
 pub shares-self-spec : {M : Type 1} → statement M
-shares-self-spec = tie.close (tie.spec shares-requires returns)
+shares-self-spec =
+    tie.close (tie.spec shares-requires returns)

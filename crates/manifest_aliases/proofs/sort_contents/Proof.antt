@@ -9,15 +9,6 @@ sort-contents-requires c κs =
     let a = c .before .before .before .before .before .before .before in
     contents-space _ _ (a .pre .0) _ _ (a .pre .1) _ (a .pre .2)
 
-same-length : tie.Need-same-length
-same-length c = search needs
-
-same-length-2 : tie.Need-same-length-2
-same-length-2 c = search needs
-
-same-length-3 : tie.Need-same-length-3
-same-length-3 c = search needs
-
 returns : tie.Need-returns
 returns c =
     let f = c .before .before .before .before .before .before in
@@ -25,4 +16,5 @@ returns c =
     (f .sort-contents .ensures .0, contents-sorted _ _ (a .pre .0) _ _ (f .sort-contents .ensures .1))
 
 pub sort-contents-spec : {M : Type 1} → statement M
-sort-contents-spec = tie.close (tie.spec sort-contents-requires same-length same-length-2 same-length-3 returns)
+sort-contents-spec =
+    tie.close (tie.spec sort-contents-requires (λ c. search needs) (λ c. search needs) (λ c. search needs) returns)

@@ -10,12 +10,6 @@ use Rattle.manifest_aliases.proofs.sort_self.Tie as tie
 sort-names-requires : tie.Need-sort-names-requires
 sort-names-requires c κs = let a = c .before .before .before .before .before in self-space _ _ (a .pre .0) _ _ (a .pre .1)
 
-same-length : tie.Need-same-length
-same-length c = search needs
-
-same-length-2 : tie.Need-same-length-2
-same-length-2 c = search needs
-
 returns : tie.Need-returns
 returns c =
     let f = c .before .before .before .before in
@@ -25,4 +19,5 @@ returns c =
     (n .0, m, sym (length-take-le _ _ (n .0)) ∙ self-sorted-length m)
 
 pub sort-self-spec : {M : Type 1} → statement M
-sort-self-spec = tie.close (tie.spec sort-names-requires same-length same-length-2 returns)
+sort-self-spec =
+    tie.close (tie.spec sort-names-requires (λ c. search needs) (λ c. search needs) returns)

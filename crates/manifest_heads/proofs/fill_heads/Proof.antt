@@ -18,12 +18,6 @@ abbrev μ-loop : tie.MeasureT-loop
 loop-holds : tie.Need-loop-holds Inv-loop μ-loop
 loop-holds c = (omega arith, refl, λ i l. absurd (omega arith))
 
-mul-p : tie.Need-mul-p Inv-loop μ-loop
-mul-p c = omega arith
-
-shared-slice-read-p : tie.Need-shared-slice-read-p Inv-loop μ-loop
-shared-slice-read-p c = omega arith
-
 cast-p : tie.Need-cast-p Inv-loop μ-loop
 cast-p c = omega (arith, c .shared-slice-known3 .given (c .before .before .loop .k))
 
@@ -41,12 +35,6 @@ slice-write-heads c =
     let t = c .before .before in
     let a = c .before .before .before .before .before .before .before in
     omega (arith, a .pre .1, t .loop-test .taken, t .before .loop .inv .1)
-
-add-k : tie.Need-add-k Inv-loop μ-loop
-add-k c = omega arith
-
-loop-less : tie.Need-loop-less Inv-loop μ-loop
-loop-less c = omega arith
 
 loop-again : tie.Need-loop-again Inv-loop μ-loop
 loop-again c =
@@ -70,20 +58,5 @@ returns c =
 
 pub fill-heads-spec : {M : Type 1} → statement M
 fill-heads-spec =
-    tie.close
-    (tie.spec
-    Inv-loop
-    μ-loop
-    loop-holds
-    mul-p
-    shared-slice-read-p
-    cast-p
-    add-head
-    head-requires
-    mul-heads
-    slice-write-heads
-    add-k
-    loop-less
-    loop-again
-    same-length
-    returns)
+    tie.close (tie.spec Inv-loop μ-loop loop-holds (λ c. omega arith) (λ c. omega arith) cast-p add-head head-requires mul-heads slice-write-heads
+    (λ c. omega arith) (λ c. omega arith) loop-again same-length returns)

@@ -24,18 +24,6 @@ head-requires c κs = c .before .before .before .before .pre .2
 loop-holds : tie.Need-loop-holds Inv-loop μ-loop
 loop-holds c = search-started _ _ _
 
-sub-mid : tie.Need-sub-mid Inv-loop μ-loop
-sub-mid c = omega arith
-
-add-mid : tie.Need-add-mid Inv-loop μ-loop
-add-mid c = omega arith
-
-mul-p : tie.Need-mul-p Inv-loop μ-loop
-mul-p c = omega arith
-
-shared-slice-read-p : tie.Need-shared-slice-read-p Inv-loop μ-loop
-shared-slice-read-p c = omega arith
-
 -- the middle of what is left
 abbrev mid : tie.After-shared-slice-known5 Inv-loop μ-loop → ℕ
 mid c = let l = c .before .before .loop in l .low + (l .high - l .low) / 2
@@ -77,15 +65,6 @@ answer : (c : tie.After-compare-headed Inv-loop μ-loop) → let a = c .before .
     c .compare-headed .result ≡ order (contentFrom (now (a .s)) (getD (now (a .names)) (mid (c .before .before)) 0 + 1)) (contentFrom (now (a .t)) (a .q))
 answer c = c .compare-headed .ensures
 
-enum-told : tie.Need-enum-told Inv-loop μ-loop
-enum-told c = search needs
-
-add-low : tie.Need-add-low Inv-loop μ-loop
-add-low c = omega arith
-
-loop-less : tie.Need-loop-less Inv-loop μ-loop
-loop-less c = omega arith
-
 loop-again : tie.Need-loop-again Inv-loop μ-loop
 loop-again c =
     let k = c .before .before in
@@ -93,21 +72,12 @@ loop-again c =
     goes-up _ _ _ _ _ (d .before .before .loop .inv) (d .before .before .before .before .before .before .before .before .pre .0) (mid d) (middle d .0)
     (middle d .1) _ (answer k) (c .enum-told .given .1)
 
-enum-told-2 : tie.Need-enum-told-2 Inv-loop μ-loop
-enum-told-2 c = search needs
-
 returns : tie.Need-returns Inv-loop μ-loop
 returns c =
     let k = c .before .before in
     let d = k .before .before in
     λ cs m. found _ _ _ _ _ (d .before .before .loop .inv) (d .before .before .before .before .before .before .before .before .pre .0) (mid d) (middle d .0)
     (middle d .1) _ (answer k) (c .enum-told2 .given .1)
-
-enum-told-3 : tie.Need-enum-told-3 Inv-loop μ-loop
-enum-told-3 c = search needs
-
-loop-less-2 : tie.Need-loop-less-2 Inv-loop μ-loop
-loop-less-2 c = omega arith
 
 loop-again-2 : tie.Need-loop-again-2 Inv-loop μ-loop
 loop-again-2 c =
@@ -121,28 +91,6 @@ returns-2 c = not-found _ _ _ _ _ (c .before .loop .inv) (c .before .before .bef
 
 pub find-headed-spec : {M : Type 1} → statement M
 find-headed-spec =
-    tie.close
-    (tie.spec
-    Inv-loop
-    μ-loop
-    head-requires
-    loop-holds
-    sub-mid
-    add-mid
-    mul-p
-    shared-slice-read-p
-    cast-p
-    add-compare-headed
-    mul-compare-headed
-    shared-slice-read-compare-headed
-    compare-headed-requires
-    enum-told
-    add-low
-    loop-less
-    loop-again
-    enum-told-2
-    returns
-    enum-told-3
-    loop-less-2
-    loop-again-2
-    returns-2)
+    tie.close (tie.spec Inv-loop μ-loop head-requires loop-holds (λ c. omega arith) (λ c. omega arith) (λ c. omega arith) (λ c. omega arith) cast-p
+    add-compare-headed mul-compare-headed shared-slice-read-compare-headed compare-headed-requires (λ c. search needs) (λ c. omega arith)
+    (λ c. omega arith) loop-again (λ c. search needs) returns (λ c. search needs) (λ c. omega arith) loop-again-2 returns-2)

@@ -5,15 +5,6 @@ use Rattle.manifest_heads.proofs.Searching.{stands}
 use Rattle.manifest_heads.proofs.has_headed.Statement.{statement}
 use Rattle.manifest_heads.proofs.has_headed.Tie as tie
 
-find-headed-requires : tie.Need-find-headed-requires
-find-headed-requires c κs = search needs
-
-enum-told : tie.Need-enum-told
-enum-told c = search needs
-
-enum-told-2 : tie.Need-enum-told-2
-enum-told-2 c = search needs
-
 returns : tie.Need-returns
 returns c = λ cs m. sym (stands m _ _ (rw (c .enum-told .given .1) at (c .before .before .find-headed .ensures cs m)))
 
@@ -22,4 +13,4 @@ returns-2 c = λ cs m. sym (rw (c .enum-told2 .given .1) at (c .before .before .
 
 pub has-headed-spec : {M : Type 1} → statement M
 has-headed-spec =
-    tie.close (tie.spec find-headed-requires enum-told enum-told-2 returns returns-2)
+    tie.close (tie.spec (λ c κs. search needs) (λ c. search needs) (λ c. search needs) returns returns-2)

@@ -8,21 +8,6 @@ use Rattle.manifest_index.proofs.Naming.{asks-bad, asks-any, asks-diges
 use Rattle.manifest_index.proofs.asked.Statement.{statement}
 use Rattle.manifest_index.proofs.asked.Tie as tie
 
-enum-told : tie.Need-enum-told
-enum-told c = search needs
-
-enum-known-x : tie.Need-enum-known-x
-enum-known-x c = search needs
-
-enum-told-2 : tie.Need-enum-told-2
-enum-told-2 c = search needs
-
-enum-told-3 : tie.Need-enum-told-3
-enum-told-3 c = search needs
-
-enum-known-manifest : tie.Need-enum-known-manifest
-enum-known-manifest c = search needs
-
 find-requires : tie.Need-find-requires
 find-requires c κs =
     let r = c .before .before .before .before in
@@ -53,15 +38,5 @@ returns-4 c = λ y k.
 
 pub asked-spec : {M : Type 1} → statement M
 asked-spec =
-    tie.close
-    (tie.spec
-    enum-told
-    enum-known-x
-    enum-told-2
-    enum-told-3
-    enum-known-manifest
-    find-requires
-    returns
-    returns-2
-    returns-3
-    returns-4)
+    tie.close (tie.spec (λ c. search needs) (λ c. search needs) (λ c. search needs) (λ c. search needs) (λ c. search needs) find-requires returns
+    returns-2 returns-3 returns-4)

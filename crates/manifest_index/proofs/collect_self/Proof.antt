@@ -6,12 +6,6 @@ use Rattle.manifest_index.proofs.Placing.{own-missing, own-group, own-n
 use Rattle.manifest_index.proofs.collect_self.Statement.{statement}
 use Rattle.manifest_index.proofs.collect_self.Tie as tie
 
-enum-told : tie.Need-enum-told
-enum-told c = search needs
-
-enum-known-own : tie.Need-enum-known-own
-enum-known-own c = search needs
-
 collect-group-requires : tie.Need-collect-group-requires
 collect-group-requires c κs =
     let a = c .before .before .before .before .before .before in
@@ -19,9 +13,6 @@ collect-group-requires c κs =
 
 returns : tie.Need-returns
 returns c = (omega arith, own-missing _ _ (c .before .before .before .before .pre .0) (c .enum-told .given .1))
-
-same-length : tie.Need-same-length
-same-length c = search needs
 
 returns-2 : tie.Need-returns-2
 returns-2 c =
@@ -35,5 +26,4 @@ returns-2 c =
 
 pub collect-self-spec : {M : Type 1} → statement M
 collect-self-spec =
-    tie.close
-    (tie.spec enum-told enum-known-own collect-group-requires returns same-length returns-2)
+    tie.close (tie.spec (λ c. search needs) (λ c. search needs) collect-group-requires returns (λ c. search needs) returns-2)

@@ -1,7 +1,7 @@
 -- `manifest::index::place_self` meets its contract. The loop's invariant: the positions of the first i aliases are written. The measure is how many are
 -- left. Assumes nothing.
 use Prim.Native.Nat.{_+_, _-_, _≤_, _<_}
-use mathlib.Core.Path.{_≡_, refl}
+use mathlib.Core.Path.{_≡_}
 use native.Mathlib.Omega.{arith}
 use denote.Ref.{now}
 use lib.ListN.{length, drop, getD, length-drop}
@@ -120,25 +120,5 @@ returns c =
 
 pub place-self-spec : {M : Type 1} → statement M
 place-self-spec =
-    tie.close
-    (tie.spec
-    Inv-loop
-    μ-loop
-    sub-collect-self
-    part-collect-self-start
-    part-collect-self-end
-    collect-self-requires
-    loop-holds
-    mul-at
-    slice-read-at
-    cast-at
-    add-at
-    add-at-2
-    mul-at-2
-    slice-write-at
-    add-i
-    loop-less
-    loop-again
-    same-length
-    same-length-2
-    returns)
+    tie.close (tie.spec Inv-loop μ-loop sub-collect-self part-collect-self-start part-collect-self-end collect-self-requires loop-holds mul-at
+    slice-read-at cast-at add-at add-at-2 mul-at-2 slice-write-at add-i loop-less loop-again same-length same-length-2 returns)

@@ -12,4 +12,5 @@ returns : tie.Need-returns
 returns c = named-by _ _ _ _ _ _ (c .find .ensures)
 
 pub find-spec : {M : Type 1} → statement M
-find-spec = tie.close (tie.spec find-requires returns)
+find-spec =
+    tie.close (tie.spec find-requires returns)

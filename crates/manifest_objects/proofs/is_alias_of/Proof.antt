@@ -5,18 +5,6 @@ use Rattle.manifest_objects.proofs.Reading.{other-algorithm, same-algor
 use Rattle.manifest_objects.proofs.is_alias_of.Statement.{statement}
 use Rattle.manifest_objects.proofs.is_alias_of.Tie as tie
 
-read-requires : tie.Need-read-requires
-read-requires c κs = search needs
-
-enum-known-algorithm : tie.Need-enum-known-algorithm
-enum-known-algorithm c = search needs
-
-byte-requires : tie.Need-byte-requires
-byte-requires c κs = search needs
-
-byte-requires-2 : tie.Need-byte-requires-2
-byte-requires-2 c κs = search needs
-
 returns : tie.Need-returns
 returns c =
     let y = c .before in
@@ -29,12 +17,6 @@ is-requires : tie.Need-is-requires
 is-requires c κs =
     let m = c .before .before .before .before in
     as-alias _ _ _ (m .before .before .read .ensures) _ _ _ (m .algorithm .given .1) .0
-
-enum-told : tie.Need-enum-told
-enum-told c = search needs
-
-enum-told-2 : tie.Need-enum-told-2
-enum-told-2 c = search needs
 
 returns-2 : tie.Need-returns-2
 returns-2 c =
@@ -53,16 +35,5 @@ returns-4 c = λ l h. is-none _ _ _ (c .before .before .read .ensures) _ _ l h (
 
 pub is-alias-of-spec : {M : Type 1} → statement M
 is-alias-of-spec =
-    tie.close
-    (tie.spec
-    read-requires
-    enum-known-algorithm
-    byte-requires
-    byte-requires-2
-    returns
-    is-requires
-    enum-told
-    enum-told-2
-    returns-2
-    returns-3
-    returns-4)
+    tie.close (tie.spec (λ c κs. search needs) (λ c. search needs) (λ c κs. search needs) (λ c κs. search needs) returns is-requires
+    (λ c. search needs) (λ c. search needs) returns-2 returns-3 returns-4)

@@ -2,15 +2,9 @@
 use borrow.Author.Needs.{needs}
 use mathlib.Core.Path.{refl}
 use native.Mathlib.Omega.{arith}
-use Rattle.manifest_objects.proofs.Found.{nothing-listed, listable-group, contents-listed}
+use Rattle.manifest_objects.proofs.FoundObjects.{nothing-listed, listable-group, contents-listed}
 use Rattle.manifest_objects.proofs.list_aliases.Statement.{statement}
 use Rattle.manifest_objects.proofs.list_aliases.Tie as tie
-
-enum-told : tie.Need-enum-told
-enum-told c = search needs
-
-enum-known-group : tie.Need-enum-known-group
-enum-known-group c = search needs
 
 returns : tie.Need-returns
 returns c =
@@ -23,12 +17,6 @@ list-group-requires c κs =
     let a = g .before .before .before .before .before in
     listable-group _ _ (a .pre .0) _ (g .group .given .1) _ _ (a .pre .1) (a .pre .2)
 
-same-length : tie.Need-same-length
-same-length c = search needs
-
-same-length-2 : tie.Need-same-length-2
-same-length-2 c = search needs
-
 returns-2 : tie.Need-returns-2
 returns-2 c =
     let f = c .before .before .before .before in
@@ -38,4 +26,5 @@ returns-2 c =
     (f .list-group .ensures .0, k .0, k .1 .0, contents-listed _ _ (a .pre .0) _ (g .group .given .1) (f .list-group .ensures .1))
 
 pub list-aliases-spec : {M : Type 1} → statement M
-list-aliases-spec = tie.close (tie.spec enum-told enum-known-group list-group-requires returns same-length same-length-2 returns-2)
+list-aliases-spec =
+    tie.close (tie.spec (λ c. search needs) (λ c. search needs) list-group-requires returns (λ c. search needs) (λ c. search needs) returns-2)

@@ -2,11 +2,10 @@
 -- objects, and there is space for 64 of each other member. The measure is how much of the text is left. Assumes nothing.
 use borrow.Author.Needs.{needs}
 use Prim.Native.Nat.{_-_}
-use mathlib.Core.Path.{subst}
 use native.Mathlib.Omega.{arith}
 use denote.Ref.{now}
 use lib.ListN.{length}
-use Rattle.text_view.specs.Cursor.{GivesMember, NextMember}
+use Rattle.text_view.specs.Cursor.{NextMember}
 use Rattle.manifest_objects.proofs.Listing.{Numbered, group-object, group-started, group-left, group-within, group-finished, next-number, listable}
 use Rattle.manifest_objects.proofs.Listing.{group-goes-on}
 use Rattle.manifest_objects.proofs.list_group.Statement.{statement}
@@ -29,9 +28,6 @@ loop-holds c =
 next-requires : tie.Need-next-requires Inv-loop μ-loop
 next-requires c κs = group-left _ _ _ _ _ _ _ _ _ _ (c .loop .inv)
 
-enum-told : tie.Need-enum-told Inv-loop μ-loop
-enum-told c = search needs
-
 same-length : tie.Need-same-length Inv-loop μ-loop
 same-length c = c .before .before .before .loop .inv .size
 
@@ -46,9 +42,6 @@ returns c =
       group-finished _ _ _ _ _ _ _ _ _ _ p (rw (c .enum-told .given .1) at (d .next .ensures (p .others) (p .here))),
     )
 
-enum-known-value : tie.Need-enum-known-value Inv-loop μ-loop
-enum-known-value c = search needs
-
 -- what `next` gave: a member
 abbrev inv : (c : tie.After-known-told Inv-loop μ-loop) → let b = c .before .before .before .before in
     let a = b .before .before .before .before .before .args in
@@ -57,13 +50,8 @@ abbrev inv : (c : tie.After-known-told Inv-loop μ-loop) → let b = c .before .
 inv c = c .before .before .before .before .loop .inv
 
 given : (c : tie.After-known-told Inv-loop μ-loop) → let b = c .before .before .before .before in let a = b .before .before .before .before .before .args in
-    let g = c .before .value .given .0 in
-    NextMember (now (a .s)) (b .loop .left) (b .loop .inv .others) (g .0) (g .1 .0) (g .1 .1 .0)
-given c =
-    let p = inv c in
-    let d = c .before .before .before in
-    let a = d .before .before .before .before .before .before .args in
-    subst (GivesMember (now (a .s)) (d .before .loop .left) (p .others)) (c .before .value .given .1) (d .next .ensures (p .others) (p .here))
+    let g = c .before .value .given .0 in NextMember (now (a .s)) (b .loop .left) (b .loop .inv .others) (g .0) (g .1 .0) (g .1 .1 .0)
+given c = let d = c .before .before .before in let p = d .before .loop .inv in rw (c .before .value .given .1) at (d .next .ensures (p .others) (p .here))
 
 list-under-requires : tie.Need-list-under-requires Inv-loop μ-loop
 list-under-requires c κs = let d = c .before .before in listable _ _ _ _ _ _ _ _ _ _ (inv d) _ _ _ (given d)
@@ -85,19 +73,5 @@ loop-again c =
 
 pub list-group-spec : {M : Type 1} → statement M
 list-group-spec =
-    tie.close
-    (tie.spec
-    Inv-loop
-    μ-loop
-    new-requires
-    loop-holds
-    next-requires
-    enum-told
-    same-length
-    same-length-2
-    returns
-    enum-known-value
-    list-under-requires
-    add-object
-    loop-less
-    loop-again)
+    tie.close (tie.spec Inv-loop μ-loop new-requires loop-holds next-requires (λ c. search needs) same-length same-length-2 returns
+    (λ c. search needs) list-under-requires add-object loop-less loop-again)

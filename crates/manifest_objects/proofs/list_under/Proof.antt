@@ -1,119 +1,55 @@
--- `manifest_objects::list_under` meets its contract. The loop's invariant: the strings before the cursor were added with the number of their object. The
--- measure is how much of the text is left. Assumes nothing.
+-- `manifest_objects::list_under` meets its contract: the strings are collected, and then the number of their object is written for each. The loop's
+-- invariant: the number was written from position n to position i. The measure is how many are left. Assumes nothing.
 use borrow.Author.Needs.{needs}
-use Prim.Native.Nat.{_-_}
-use mathlib.Core.Path.{subst}
+use Prim.Native.Nat.{ℕ, _-_, _≤_, _<_}
+use mathlib.Core.Path.{_≡_, refl, sym, subst, _∙_}
+use mathlib.Core.List.{_++_, append-nil}
 use native.Mathlib.Omega.{arith}
 use denote.Ref.{now}
-use lib.ListN.{length}
-use Rattle.text_view.specs.Cursor.{GivesElement, NextElement}
-use Rattle.manifest_objects.proofs.Listing.{UnderObject, under-array, under-started, under-left, under-finished, place-within, place-fits, owner-fits}
-use Rattle.manifest_objects.proofs.Listing.{under-goes-on}
+use lib.ListN.{length, take, replicate, length-set}
+use Rattle.manifest_objects.proofs.Listing.{owner-written, adds-listed}
 use Rattle.manifest_objects.proofs.list_under.Statement.{statement}
 use Rattle.manifest_objects.proofs.list_under.Tie as tie
 
 abbrev Inv-loop : tie.InvT-loop
-Inv-loop s at depth object names₀ owners₀ n left₀ i₀ names owners left i = UnderObject s at depth object names₀ owners₀ n names owners left i
+Inv-loop s at depth object names owners₀ n r i₀ owners i =
+    (n ≤ i) × (i ≤ r) × (r ≤ length owners₀) × (length owners ≡ length owners₀) × (take i owners ≡ take n owners₀ ++ replicate (i - n) object)
 
 abbrev μ-loop : tie.MeasureT-loop
-μ-loop s at depth object names₀ owners₀ n left₀ i₀ names owners left i = length s - left .at
+μ-loop s at depth object names owners₀ n r i₀ owners i = r - i
 
-new-requires : tie.Need-new-requires Inv-loop μ-loop
-new-requires c κs = under-array _ _ _ _ _ _ _ (c .before .before .before .pre)
+collect-entries-requires : tie.Need-collect-entries-requires Inv-loop μ-loop
+collect-entries-requires c κs = c .before .before .before .before .pre .list
 
 loop-holds : tie.Need-loop-holds Inv-loop μ-loop
 loop-holds c =
-    let o = c .before .before .before .before .pre in
-    under-started _ _ _ _ _ _ _ o _ (c .new .ensures .0 (o .list .values) (o .list .here))
+    let f = c .before .before in
+    let a = f .before .before .before .before .before in
+    let e = f .collect-entries .ensures (a .pre .list .values) (a .pre .list .here) .0 in
+    let k : a .args .n - a .args .n ≡ 0 = omega arith in
+    (omega arith, omega (arith, e), omega (arith, e, a .pre .space), refl, sym (rw k (append-nil _)))
 
-next-requires : tie.Need-next-requires Inv-loop μ-loop
-next-requires c κs = under-left _ _ _ _ _ _ _ _ _ _ _ (c .loop .inv)
-
-enum-told : tie.Need-enum-told Inv-loop μ-loop
-enum-told c = search needs
-
-same-length : tie.Need-same-length Inv-loop μ-loop
-same-length c = c .before .before .before .loop .inv .size
-
-same-length-2 : tie.Need-same-length-2 Inv-loop μ-loop
-same-length-2 c = c .before .before .before .loop .inv .owner-size
+loop-again : tie.Need-loop-again Inv-loop μ-loop
+loop-again c =
+    let l = c .before .loop in
+    let fits : l .i < length (l .owners) = omega (arith, l .inv .2, l .inv .3, c .loop-test .taken) in (
+      omega (arith, l .inv .0),
+      omega (arith, c .loop-test .taken),
+      l .inv .2,
+      length-set (l .owners) (l .i) _ ∙ l .inv .3,
+      owner-written _ (l .owners) _ (l .i) _ (l .inv .0) fits (l .inv .4),
+    )
 
 returns : tie.Need-returns Inv-loop μ-loop
 returns c =
-    let d = c .before .before in
-    let p = d .before .loop .inv in
-    under-finished _ _ _ _ _ _ _ _ _ _ _ p (rw (c .enum-told .given .1) at (d .next .ensures (p .others) (p .here)))
-
-enum-known-p : tie.Need-enum-known-p Inv-loop μ-loop
-enum-known-p c = search needs
-
--- what `next` gave: an element
-abbrev inv : (c : tie.After-known-told Inv-loop μ-loop) → let b = c .before .before .before .before in
-    let a = b .before .before .before .before .before .args in
-    UnderObject (now (a .s)) (a .at) (a .depth) (a .object) (now (a .names)) (now (a .owners)) (a .n) (b .loop .names) (b .loop .owners) (b .loop .left)
-    (b .loop .i)
-inv c = c .before .before .before .before .loop .inv
-
-given : (c : tie.After-known-told Inv-loop μ-loop) → let b = c .before .before .before .before in let a = b .before .before .before .before .before .args in
-    let g = c .before .p .given .0 in
-    NextElement (now (a .s)) (b .loop .left) (b .loop .inv .others) (g .0) (g .1 .0)
-given c =
-    let p = inv c in
-    let d = c .before .before .before in
-    let a = d .before .before .before .before .before .before .args in
-    subst (GivesElement (now (a .s)) (d .before .loop .left) (p .others)) (c .before .p .given .1) (d .next .ensures (p .others) (p .here))
-
-cast-names : tie.Need-cast-names Inv-loop μ-loop
-cast-names c =
-    let a = c .before .before .before .before .before .before .before .before .before in
-    omega (arith, place-within _ _ _ _ _ _ _ _ _ _ _ (inv c) _ _ (given c), a .pre .list .short)
-
-mul-names : tie.Need-mul-names Inv-loop μ-loop
-mul-names c = omega (arith, place-fits _ _ _ _ _ _ _ _ _ _ _ (inv c) _ _ (given c), inv c .size)
-
-slice-write-names : tie.Need-slice-write-names Inv-loop μ-loop
-slice-write-names c = place-fits _ _ _ _ _ _ _ _ _ _ _ (inv c) _ _ (given c)
-
-cast-owners : tie.Need-cast-owners Inv-loop μ-loop
-cast-owners c =
-    let a = c .before .before .before .before .before .before .before .before .before in
-    omega (arith, a .pre .small)
-
-mul-owners : tie.Need-mul-owners Inv-loop μ-loop
-mul-owners c = omega (arith, owner-fits _ _ _ _ _ _ _ _ _ _ _ (inv c) _ _ (given c), inv c .owner-size)
-
-slice-write-owners : tie.Need-slice-write-owners Inv-loop μ-loop
-slice-write-owners c = owner-fits _ _ _ _ _ _ _ _ _ _ _ (inv c) _ _ (given c)
-
-add-i : tie.Need-add-i Inv-loop μ-loop
-add-i c = omega (arith, place-fits _ _ _ _ _ _ _ _ _ _ _ (inv c) _ _ (given c), inv c .size)
-
-loop-less : tie.Need-loop-less Inv-loop μ-loop
-loop-less c = let x = given c in omega (arith, x .later, x .within)
-
-loop-again : tie.Need-loop-again Inv-loop μ-loop
-loop-again c = under-goes-on _ _ _ _ _ _ _ _ _ _ _ (inv c) _ _ (given c)
+    let l = c .before .loop in
+    let f = c .before .before .before .before in
+    let a = f .before .before .before .before .before in
+    let e : l .i ≡ f .collect-entries .result = omega (arith, l .inv .1, c .loop-test .left) in
+    adds-listed _ _ _ _ _ _ _ (a .pre) _ _ _ (f .collect-entries .ensures)
+    (subst (λ (j : ℕ). take j (l .owners) ≡ take (a .args .n) (now (a .args .owners)) ++ replicate (j - a .args .n) (a .args .object)) e (l .inv .4))
 
 pub list-under-spec : {M : Type 1} → statement M
 list-under-spec =
-    tie.close
-    (tie.spec
-    Inv-loop
-    μ-loop
-    new-requires
-    loop-holds
-    next-requires
-    enum-told
-    same-length
-    same-length-2
-    returns
-    enum-known-p
-    cast-names
-    mul-names
-    slice-write-names
-    cast-owners
-    mul-owners
-    slice-write-owners
-    add-i
-    loop-less
-    loop-again)
+    tie.close (tie.spec Inv-loop μ-loop collect-entries-requires loop-holds (λ c. search needs) (λ c. search needs) (λ c. search needs)
+    (λ c. search needs) (λ c. search needs) loop-again (λ c. search needs) (λ c. search needs) returns)

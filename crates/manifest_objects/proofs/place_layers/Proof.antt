@@ -4,24 +4,9 @@ use Prim.Native.Nat.{_-_}
 use mathlib.Core.Path.{refl}
 use native.Mathlib.Omega.{arith}
 use denote.Ref.{now}
-use Rattle.manifest_objects.proofs.Found.{part-end, no-layer-placed, placeable-list, layers-placed}
+use Rattle.manifest_objects.proofs.FoundObjects.{part-end, no-layer-placed, placeable-list, layers-placed}
 use Rattle.manifest_objects.proofs.place_layers.Statement.{statement}
 use Rattle.manifest_objects.proofs.place_layers.Tie as tie
-
-enum-told : tie.Need-enum-told
-enum-told c = search needs
-
-enum-known-list : tie.Need-enum-known-list
-enum-known-list c = search needs
-
-sub-place-strings : tie.Need-sub-place-strings
-sub-place-strings c = search needs
-
-part-place-strings-start : tie.Need-part-place-strings-start
-part-place-strings-start c = search needs
-
-part-place-strings-end : tie.Need-part-place-strings-end
-part-place-strings-end c = search needs
 
 place-strings-requires : tie.Need-place-strings-requires
 place-strings-requires c κs =
@@ -35,9 +20,6 @@ returns c =
     let a = c .before .before .before .before in
     (omega arith, refl, refl, no-layer-placed _ _ (a .pre .2) (c .enum-told .given .1) _)
 
-same-length : tie.Need-same-length
-same-length c = search needs
-
 returns-2 : tie.Need-returns-2
 returns-2 c =
     let f = c .before .before in
@@ -48,14 +30,5 @@ returns-2 c =
 
 pub place-layers-spec : {M : Type 1} → statement M
 place-layers-spec =
-    tie.close
-    (tie.spec
-    enum-told
-    enum-known-list
-    sub-place-strings
-    part-place-strings-start
-    part-place-strings-end
-    place-strings-requires
-    returns
-    same-length
-    returns-2)
+    tie.close (tie.spec (λ c. search needs) (λ c. search needs) (λ c. search needs) (λ c. search needs) (λ c. search needs) place-strings-requires
+    returns (λ c. search needs) returns-2)

@@ -4,24 +4,9 @@ use Prim.Native.Nat.{_-_}
 use mathlib.Core.Path.{refl}
 use native.Mathlib.Omega.{arith}
 use denote.Ref.{now}
-use Rattle.manifest_objects.proofs.Found.{part-end, none-placed, placeable-group, objects-placed}
+use Rattle.manifest_objects.proofs.FoundObjects.{part-end, none-placed, placeable-group, objects-placed}
 use Rattle.manifest_objects.proofs.place_objects.Statement.{statement}
 use Rattle.manifest_objects.proofs.place_objects.Tie as tie
-
-enum-told : tie.Need-enum-told
-enum-told c = search needs
-
-enum-known-objects : tie.Need-enum-known-objects
-enum-known-objects c = search needs
-
-sub-place-keys : tie.Need-sub-place-keys
-sub-place-keys c = search needs
-
-part-place-keys-start : tie.Need-part-place-keys-start
-part-place-keys-start c = search needs
-
-part-place-keys-end : tie.Need-part-place-keys-end
-part-place-keys-end c = search needs
 
 place-keys-requires : tie.Need-place-keys-requires
 place-keys-requires c κs =
@@ -35,9 +20,6 @@ returns c =
     let a = c .before .before .before .before in
     (omega arith, refl, refl, none-placed _ _ (a .pre .2) (c .enum-told .given .1) _)
 
-same-length : tie.Need-same-length
-same-length c = search needs
-
 returns-2 : tie.Need-returns-2
 returns-2 c =
     let f = c .before .before in
@@ -48,14 +30,5 @@ returns-2 c =
 
 pub place-objects-spec : {M : Type 1} → statement M
 place-objects-spec =
-    tie.close
-    (tie.spec
-    enum-told
-    enum-known-objects
-    sub-place-keys
-    part-place-keys-start
-    part-place-keys-end
-    place-keys-requires
-    returns
-    same-length
-    returns-2)
+    tie.close (tie.spec (λ c. search needs) (λ c. search needs) (λ c. search needs) (λ c. search needs) (λ c. search needs) place-keys-requires
+    returns (λ c. search needs) returns-2)

@@ -3,11 +3,10 @@
 -- Assumes nothing.
 use borrow.Author.Needs.{needs}
 use Prim.Native.Nat.{_-_}
-use mathlib.Core.Path.{subst}
 use native.Mathlib.Omega.{arith}
 use denote.Ref.{now}
 use lib.ListN.{length}
-use Rattle.text_view.specs.Cursor.{GivesElement, NextElement}
+use Rattle.text_view.specs.Cursor.{NextElement}
 use Rattle.manifest_objects.proofs.Placing.{StringsPlaced, strings-array, strings-started, strings-left, strings-finished, strings-go-on, string-within}
 use Rattle.manifest_objects.proofs.Placing.{string-fits}
 use Rattle.manifest_objects.proofs.place_strings.Statement.{statement}
@@ -30,23 +29,17 @@ loop-holds c =
 next-requires : tie.Need-next-requires Inv-loop μ-loop
 next-requires c κs = strings-left _ _ _ _ _ _ _ _ (c .loop .inv)
 
-enum-told : tie.Need-enum-told Inv-loop μ-loop
-enum-told c = search needs
-
 same-length : tie.Need-same-length Inv-loop μ-loop
-same-length c = c .before .before .before .loop .inv .size
+same-length c = c .before .before .before .loop .inv .written .length-kept
 
 returns : tie.Need-returns Inv-loop μ-loop
 returns c =
     let d = c .before .before in
     let p = d .before .loop .inv in (
-      omega (arith, p .few),
-      p .size,
+      omega (arith, p .written .few),
+      p .written .length-kept,
       strings-finished _ _ _ _ _ _ _ _ p (rw (c .enum-told .given .1) at (d .next .ensures (p .others) (p .here))),
     )
-
-enum-known-q : tie.Need-enum-known-q Inv-loop μ-loop
-enum-known-q c = search needs
 
 -- what `next` gave: an element
 abbrev inv : (c : tie.After-known-told Inv-loop μ-loop) → let b = c .before .before .before .before in let a = b .before .before .before .before .args in
@@ -54,28 +47,23 @@ abbrev inv : (c : tie.After-known-told Inv-loop μ-loop) → let b = c .before .
 inv c = c .before .before .before .before .loop .inv
 
 given : (c : tie.After-known-told Inv-loop μ-loop) → let b = c .before .before .before .before in let a = b .before .before .before .before .args in
-    let g = c .before .q .given .0 in
-    NextElement (now (a .s)) (b .loop .left) (b .loop .inv .others) (g .0) (g .1 .0)
-given c =
-    let p = inv c in
-    let d = c .before .before .before in
-    let a = d .before .before .before .before .before .args in
-    subst (GivesElement (now (a .s)) (d .before .loop .left) (p .others)) (c .before .q .given .1) (d .next .ensures (p .others) (p .here))
+    let g = c .before .q .given .0 in NextElement (now (a .s)) (b .loop .left) (b .loop .inv .others) (g .0) (g .1 .0)
+given c = let d = c .before .before .before in let p = d .before .loop .inv in rw (c .before .q .given .1) at (d .next .ensures (p .others) (p .here))
 
 add-keys : tie.Need-add-keys Inv-loop μ-loop
-add-keys c = omega (arith, string-within _ _ _ _ _ _ _ _ (inv c) _ _ (given c), inv c .short)
+add-keys c = omega (arith, string-within _ _ _ _ _ _ _ _ (inv c) _ _ (given c), inv c .written .short)
 
 add-keys-2 : tie.Need-add-keys-2 Inv-loop μ-loop
-add-keys-2 c = omega (arith, string-within _ _ _ _ _ _ _ _ (inv c) _ _ (given c), inv c .short)
+add-keys-2 c = omega (arith, string-within _ _ _ _ _ _ _ _ (inv c) _ _ (given c), inv c .written .short)
 
 mul-keys : tie.Need-mul-keys Inv-loop μ-loop
-mul-keys c = omega (arith, string-fits _ _ _ _ _ _ _ _ (inv c) _ _ (given c), inv c .size)
+mul-keys c = omega (arith, string-fits _ _ _ _ _ _ _ _ (inv c) _ _ (given c), inv c .written .length-kept)
 
 slice-write-keys : tie.Need-slice-write-keys Inv-loop μ-loop
 slice-write-keys c = string-fits _ _ _ _ _ _ _ _ (inv c) _ _ (given c)
 
 add-n : tie.Need-add-n Inv-loop μ-loop
-add-n c = omega (arith, string-fits _ _ _ _ _ _ _ _ (inv c) _ _ (given c), inv c .few)
+add-n c = omega (arith, string-fits _ _ _ _ _ _ _ _ (inv c) _ _ (given c), inv c .written .few)
 
 loop-less : tie.Need-loop-less Inv-loop μ-loop
 loop-less c = let x = given c in omega (arith, x .later, x .within)
@@ -85,21 +73,5 @@ loop-again c = strings-go-on _ _ _ _ _ _ _ _ (inv c) _ _ (given c)
 
 pub place-strings-spec : {M : Type 1} → statement M
 place-strings-spec =
-    tie.close
-    (tie.spec
-    Inv-loop
-    μ-loop
-    new-requires
-    loop-holds
-    next-requires
-    enum-told
-    same-length
-    returns
-    enum-known-q
-    add-keys
-    add-keys-2
-    mul-keys
-    slice-write-keys
-    add-n
-    loop-less
-    loop-again)
+    tie.close (tie.spec Inv-loop μ-loop new-requires loop-holds next-requires (λ c. search needs) same-length returns (λ c. search needs) add-keys
+    add-keys-2 mul-keys slice-write-keys add-n loop-less loop-again)

@@ -3,11 +3,9 @@ use borrow.Author.Needs.{needs}
 use Rattle.manifest_objects.proofs.read.Statement.{statement}
 use Rattle.manifest_objects.proofs.read.Tie as tie
 
-read-requires : tie.Need-read-requires
-read-requires c κs = search needs
-
 returns : tie.Need-returns
 returns c = λ l h. record { at = _; reads = c .read .ensures; is = h .is }
 
 pub read-spec : {M : Type 1} → statement M
-read-spec = tie.close (tie.spec read-requires returns)
+read-spec =
+    tie.close (tie.spec (λ c κs. search needs) returns)

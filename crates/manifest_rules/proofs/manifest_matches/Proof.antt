@@ -9,19 +9,10 @@ use Rattle.manifest.proofs.Accepting.{alias-named}
 use Rattle.manifest_rules.proofs.manifest_matches.Statement.{statement}
 use Rattle.manifest_rules.proofs.manifest_matches.Tie as tie
 
-enum-told : tie.Need-enum-told
-enum-told c = search needs
-
-enum-known-manifest : tie.Need-enum-known-manifest
-enum-known-manifest c = search needs
-
 is-requires : tie.Need-is-requires
 is-requires c κs =
     let a = c .before .before .before .before .before in
     subst (ManifestAt (now (a .args .s)) (a .args .a)) (c .before .manifest .given .1) (a .pre)
-
-enum-told-2 : tie.Need-enum-told-2
-enum-told-2 c = search needs
 
 returns : tie.Need-returns
 unfolding manifestMatches
@@ -37,12 +28,4 @@ returns-3 c = λ g names e. rw (c .enum-told2 .given .1) ((rw (c .enum-told2 .gi
 
 pub manifest-matches-spec : {M : Type 1} → statement M
 manifest-matches-spec =
-    tie.close
-    (tie.spec
-    enum-told
-    enum-known-manifest
-    is-requires
-    enum-told-2
-    returns
-    returns-2
-    returns-3)
+    tie.close (tie.spec (λ c. search needs) (λ c. search needs) is-requires (λ c. search needs) returns returns-2 returns-3)

@@ -11,18 +11,6 @@ use Rattle.manifest.proofs.Accepting.{read-bad, read-parts, read-accepts}
 use Rattle.manifest_rules.proofs.matches.Statement.{statement}
 use Rattle.manifest_rules.proofs.matches.Tie as tie
 
-enum-told : tie.Need-enum-told
-enum-told c = search needs
-
-enum-known-x : tie.Need-enum-known-x
-enum-known-x c = search needs
-
-byte-requires : tie.Need-byte-requires
-byte-requires c κs = search needs
-
-byte-requires-2 : tie.Need-byte-requires-2
-byte-requires-2 c κs = search needs
-
 returns : tie.Need-returns
 returns c = λ y names k e₀.
     let b = c .before in
@@ -66,15 +54,5 @@ returns-4 c = λ y names k e₀.
 
 pub matches-spec : {M : Type 1} → statement M
 matches-spec =
-    tie.close
-    (tie.spec
-    enum-told
-    enum-known-x
-    byte-requires
-    byte-requires-2
-    returns
-    signer-matches-requires
-    returns-2
-    manifest-matches-requires
-    returns-3
-    returns-4)
+    tie.close (tie.spec (λ c. search needs) (λ c. search needs) (λ c κs. search needs) (λ c κs. search needs) returns signer-matches-requires
+    returns-2 manifest-matches-requires returns-3 returns-4)

@@ -7,12 +7,6 @@ use Rattle.manifest_rules.proofs.RulePlaces.{placed-count, no-rule-plac
 use Rattle.manifest_rules.proofs.place.Statement.{statement}
 use Rattle.manifest_rules.proofs.place.Tie as tie
 
-enum-told : tie.Need-enum-told
-enum-told c = search needs
-
-enum-known-list : tie.Need-enum-known-list
-enum-known-list c = search needs
-
 place-strings-requires : tie.Need-place-strings-requires
 place-strings-requires c κs =
     let g = c .before .before in
@@ -25,9 +19,6 @@ returns c =
     let x = no-rule-placed _ _ (a .pre .0) (c .enum-told .given .1) in
     (placed-count _ [] 0 _ x (omega arith), omega arith, refl, x)
 
-same-length : tie.Need-same-length
-same-length c = search needs
-
 returns-2 : tie.Need-returns-2
 returns-2 c =
     let f = c .before .before in
@@ -38,4 +29,5 @@ returns-2 c =
     (placed-count _ _ _ _ x (omega (arith, e .0, e .1, a .pre .1)), e .0, e .1, x)
 
 pub place-spec : {M : Type 1} → statement M
-place-spec = tie.close (tie.spec enum-told enum-known-list place-strings-requires returns same-length returns-2)
+place-spec =
+    tie.close (tie.spec (λ c. search needs) (λ c. search needs) place-strings-requires returns (λ c. search needs) returns-2)

@@ -3,11 +3,10 @@
 -- Assumes nothing.
 use borrow.Author.Needs.{needs}
 use Prim.Native.Nat.{_-_}
-use mathlib.Core.Path.{subst}
 use native.Mathlib.Omega.{arith}
 use denote.Ref.{now}
 use lib.ListN.{length}
-use Rattle.text_view.specs.Cursor.{GivesElement, NextElement}
+use Rattle.text_view.specs.Cursor.{NextElement}
 use Rattle.manifest_rules.proofs.RulePlaces.{RulesPlaced, rules-walk, rules-started, rules-left, rules-finished, rules-go-on, rule-within, rule-fits}
 use Rattle.manifest_rules.proofs.place_strings.Statement.{statement}
 use Rattle.manifest_rules.proofs.place_strings.Tie as tie
@@ -29,9 +28,6 @@ loop-holds c =
 next-requires : tie.Need-next-requires Inv-loop μ-loop
 next-requires c κs = rules-left _ _ _ _ _ _ (c .loop .inv)
 
-enum-told : tie.Need-enum-told Inv-loop μ-loop
-enum-told c = search needs
-
 same-length : tie.Need-same-length Inv-loop μ-loop
 same-length c = c .before .before .before .loop .inv .size
 
@@ -44,22 +40,14 @@ returns c =
       rules-finished _ _ _ _ _ _ p (rw (c .enum-told .given .1) at (d .next .ensures (p .others) (p .here))),
     )
 
-enum-known-k : tie.Need-enum-known-k Inv-loop μ-loop
-enum-known-k c = search needs
-
 -- what `next` gave: an element
 abbrev inv : (c : tie.After-known-told Inv-loop μ-loop) → let b = c .before .before .before .before in let a = b .before .before .before .before .args in
     RulesPlaced (now (a .s)) (a .q) (now (a .at)) (b .loop .at) (b .loop .left) (b .loop .n)
 inv c = c .before .before .before .before .loop .inv
 
 given : (c : tie.After-known-told Inv-loop μ-loop) → let b = c .before .before .before .before in let a = b .before .before .before .before .args in
-    let g = c .before .k .given .0 in
-    NextElement (now (a .s)) (b .loop .left) (b .loop .inv .others) (g .0) (g .1 .0)
-given c =
-    let p = inv c in
-    let d = c .before .before .before in
-    let a = d .before .before .before .before .before .args in
-    subst (GivesElement (now (a .s)) (d .before .loop .left) (p .others)) (c .before .k .given .1) (d .next .ensures (p .others) (p .here))
+    let g = c .before .k .given .0 in NextElement (now (a .s)) (b .loop .left) (b .loop .inv .others) (g .0) (g .1 .0)
+given c = let d = c .before .before .before in let p = d .before .loop .inv in rw (c .before .k .given .1) at (d .next .ensures (p .others) (p .here))
 
 add-at : tie.Need-add-at Inv-loop μ-loop
 add-at c = omega (arith, rule-within _ _ _ _ _ _ (inv c) _ _ (given c))
@@ -81,20 +69,5 @@ loop-again c = rules-go-on _ _ _ _ _ _ (inv c) _ _ (given c)
 
 pub place-strings-spec : {M : Type 1} → statement M
 place-strings-spec =
-    tie.close
-    (tie.spec
-    Inv-loop
-    μ-loop
-    new-requires
-    loop-holds
-    next-requires
-    enum-told
-    same-length
-    returns
-    enum-known-k
-    add-at
-    mul-at
-    slice-write-at
-    add-n
-    loop-less
-    loop-again)
+    tie.close (tie.spec Inv-loop μ-loop new-requires loop-holds next-requires (λ c. search needs) same-length returns (λ c. search needs) add-at
+    mul-at slice-write-at add-n loop-less loop-again)

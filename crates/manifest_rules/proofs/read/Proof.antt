@@ -1,5 +1,4 @@
 -- `manifest::rules::read` meets its contract: what was read there stands for the rule that stands there. Assumes nothing.
-use borrow.Author.Needs.{needs}
 use Rattle.manifest_rules.proofs.read.Statement.{statement}
 use Rattle.manifest_rules.proofs.read.Tie as tie
 
@@ -10,4 +9,5 @@ returns : tie.Need-returns
 returns c = λ y h. record { at = _; reads = c .read .ensures; is = h .is }
 
 pub read-spec : {M : Type 1} → statement M
-read-spec = tie.close (tie.spec read-requires returns)
+read-spec =
+    tie.close (tie.spec read-requires returns)

@@ -36,12 +36,6 @@ opening c = c .before .before .before .before .before .before .before
 opened : (c : tie.Else2) → let o = opening c in OpenedStore (bytes o) (o .«open» .result .survey) (o .«open» .result .places)
 opened c = opening c .«open» .ensures .1 (not-false _ (c .if2 .left))
 
-refused-requires : tie.Need-refused-requires
-refused-requires c κs = search needs
-
-same-length : tie.Need-same-length
-same-length c = search needs
-
 returns : tie.Need-returns
 returns c =
     let t = c .before .before .before .before in
@@ -52,29 +46,8 @@ returns c =
 slice-aggregate-b : tie.Need-slice-aggregate-b
 slice-aggregate-b c = sym (length-take-le _ _ (c .before .if1 .left))
 
-slice-aggregate-open : tie.Need-slice-aggregate-open
-slice-aggregate-open c = search needs
-
-slice-aggregate-open-2 : tie.Need-slice-aggregate-open-2
-slice-aggregate-open-2 c = search needs
-
-slice-aggregate-open-3 : tie.Need-slice-aggregate-open-3
-slice-aggregate-open-3 c = search needs
-
-slice-aggregate-open-4 : tie.Need-slice-aggregate-open-4
-slice-aggregate-open-4 c = search needs
-
-slice-aggregate-open-5 : tie.Need-slice-aggregate-open-5
-slice-aggregate-open-5 c = search needs
-
 open-requires : tie.Need-open-requires
 open-requires c κs = (refl, record { names = record { space = omega arith; sorting = omega arith }; heads-space = omega arith; keys-space = omega arith })
-
-refused-requires-2 : tie.Need-refused-requires-2
-refused-requires-2 c κs = search needs
-
-same-length-2 : tie.Need-same-length-2
-same-length-2 c = search needs
 
 returns-2 : tie.Need-returns-2
 returns-2 c =
@@ -83,15 +56,6 @@ returns-2 c =
     let r = c .before .before .refused2 .ensures in
     let b = not-false _ (sym (o .«open» .ensures .0) ∙ not-true _ (t .if2 .taken)) in
     refused-reports (sym (judge-broken _ _ (within o .if1 .left) (small o) _ b)) (λ z. omega arith) (r .0) (r .1)
-
-slice-aggregate-table : tie.Need-slice-aggregate-table
-slice-aggregate-table c = search needs
-
-slice-aggregate-table-2 : tie.Need-slice-aggregate-table-2
-slice-aggregate-table-2 c = search needs
-
-slice-aggregate-table-3 : tie.Need-slice-aggregate-table-3
-slice-aggregate-table-3 c = search needs
 
 table-requires : tie.Need-table-requires
 table-requires c κs =
@@ -103,9 +67,6 @@ judge-table-requires : tie.Need-judge-table-requires
 judge-table-requires c κs =
     let t = c .before .before .before .before in
     omega (arith, t .table .ensures .0, opened (t .before .before .before .before .before .before) .fills .few)
-
-same-length-3 : tie.Need-same-length-3
-same-length-3 c = search needs
 
 returns-3 : tie.Need-returns-3
 returns-3 c =
@@ -122,25 +83,6 @@ returns-3 c =
 
 pub judge-spec : {M : Type 1} → statement M
 judge-spec =
-    tie.close
-    (tie.spec
-    refused-requires
-    same-length
-    returns
-    slice-aggregate-b
-    slice-aggregate-open
-    slice-aggregate-open-2
-    slice-aggregate-open-3
-    slice-aggregate-open-4
-    slice-aggregate-open-5
-    open-requires
-    refused-requires-2
-    same-length-2
-    returns-2
-    slice-aggregate-table
-    slice-aggregate-table-2
-    slice-aggregate-table-3
-    table-requires
-    judge-table-requires
-    same-length-3
-    returns-3)
+    tie.close (tie.spec (λ c κs. search needs) (λ c. search needs) returns slice-aggregate-b (λ c. search needs) (λ c. search needs)
+    (λ c. search needs) (λ c. search needs) (λ c. search needs) open-requires (λ c κs. search needs) (λ c. search needs) returns-2 (λ c. search needs)
+    (λ c. search needs) (λ c. search needs) table-requires judge-table-requires (λ c. search needs) returns-3)

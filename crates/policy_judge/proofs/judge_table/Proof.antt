@@ -20,12 +20,6 @@ same-pairs c = pairs-closed (c .before .before .before .args .t) (c .close .resu
 counted : (c : tie.After-count-pairs) → let t = c .before .before .before .before .args .t in c .count-pairs .result ≡ length (pairsOf (guardsIn t) (rowsIn t))
 counted c = c .count-pairs .ensures ∙ ap length (same-pairs (c .before))
 
-close-requires : tie.Need-close-requires
-close-requires c κs = search needs
-
-count-pairs-requires : tie.Need-count-pairs-requires
-count-pairs-requires c κs = search needs
-
 mul-if1 : tie.Need-mul-if1
 mul-if1 c =
     let a = c .before .before .before .before in
@@ -35,12 +29,6 @@ returns : tie.Need-returns
 returns c =
     let a = c .before .before .before .before .before in
     refused (pairsOf (guardsIn (a .args .t)) (rowsIn (a .args .t))) (now (a .args .out)) (omega (arith, counted (c .before), c .if1 .taken))
-
-write-pairs-requires : tie.Need-write-pairs-requires
-write-pairs-requires c κs = search needs
-
-same-length : tie.Need-same-length
-same-length c = search needs
 
 returns-2 : tie.Need-returns-2
 returns-2 c =
@@ -53,12 +41,4 @@ returns-2 c =
 
 pub judge-table-spec : {M : Type 1} → statement M
 judge-table-spec =
-    tie.close
-    (tie.spec
-    close-requires
-    count-pairs-requires
-    mul-if1
-    returns
-    write-pairs-requires
-    same-length
-    returns-2)
+    tie.close (tie.spec (λ c κs. search needs) (λ c κs. search needs) mul-if1 returns (λ c κs. search needs) (λ c. search needs) returns-2)

@@ -19,36 +19,6 @@ Inv-loop count k rows next closed₀ i₀ closed i = (i ≤ count) × (closed �
 abbrev μ-loop : tie.MeasureT-loop
 μ-loop count k rows next closed₀ i₀ closed i = count - i
 
-mul-next : tie.Need-mul-next Inv-loop μ-loop
-mul-next c = search needs
-
-array-read-next : tie.Need-array-read-next Inv-loop μ-loop
-array-read-next c = search needs
-
-loop-holds : tie.Need-loop-holds Inv-loop μ-loop
-loop-holds c = search needs
-
-mul-row : tie.Need-mul-row Inv-loop μ-loop
-mul-row c = search needs
-
-array-read-row : tie.Need-array-read-row Inv-loop μ-loop
-array-read-row c = search needs
-
-has-requires : tie.Need-has-requires Inv-loop μ-loop
-has-requires c κs = omega arith
-
-mul-closed : tie.Need-mul-closed Inv-loop μ-loop
-mul-closed c = search needs
-
-array-write-closed : tie.Need-array-write-closed Inv-loop μ-loop
-array-write-closed c = search needs
-
-add-i : tie.Need-add-i Inv-loop μ-loop
-add-i c = search needs
-
-loop-less : tie.Need-loop-less Inv-loop μ-loop
-loop-less c = search needs
-
 size : (a : tie.Start Inv-loop μ-loop) → length (a .args .t2) ≡ 64
 size a = a .good .1 .0 .1 .0 .1
 
@@ -82,19 +52,5 @@ returns c =
 
 pub close-at-spec : {M : Type 1} → statement M
 close-at-spec =
-    tie.close
-    (tie.spec
-    Inv-loop
-    μ-loop
-    mul-next
-    array-read-next
-    loop-holds
-    mul-row
-    array-read-row
-    has-requires
-    mul-closed
-    array-write-closed
-    add-i
-    loop-less
-    loop-again
-    returns)
+    tie.close (tie.spec Inv-loop μ-loop (λ c. search needs) (λ c. search needs) (λ c. search needs) (λ c. search needs) (λ c. search needs)
+    (λ c κs. omega arith) (λ c. search needs) (λ c. search needs) (λ c. search needs) (λ c. search needs) loop-again returns)

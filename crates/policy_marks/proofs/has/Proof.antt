@@ -4,12 +4,10 @@ use Rattle.policy_marks.specs.Words.{bitAt}
 use Rattle.policy_marks.proofs.has.Statement.{statement}
 use Rattle.policy_marks.proofs.has.Tie as tie
 
-shr-result : tie.Need-shr-result
-shr-result c = search needs
-
 returns : tie.Need-returns
 unfolding bitAt
 returns c = search needs
 
 pub has-spec : {M : Type 1} → statement M
-has-spec = tie.close (tie.spec shr-result returns)
+has-spec =
+    tie.close (tie.spec (λ c. search needs) returns)

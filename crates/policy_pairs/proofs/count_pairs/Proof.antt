@@ -20,9 +20,6 @@ loop-holds : tie.Need-loop-holds Inv-loop μ-loop
 unfolding pairsFrom
 loop-holds c = (omega arith, refl)
 
-count-row-requires : tie.Need-count-row-requires Inv-loop μ-loop
-count-row-requires c κs = omega arith
-
 add-n : tie.Need-add-n Inv-loop μ-loop
 add-n c =
     let l = c .before .before .before in
@@ -35,12 +32,6 @@ add-n c =
       from-few (reported t) (t .count) (l .before .pre) 0 (l .loop .g),
       with-few (reported t) (l .loop .g) 0 (t .count),
     )
-
-add-g : tie.Need-add-g Inv-loop μ-loop
-add-g c = search needs
-
-loop-less : tie.Need-loop-less Inv-loop μ-loop
-loop-less c = search needs
 
 loop-again : tie.Need-loop-again Inv-loop μ-loop
 loop-again c =
@@ -65,14 +56,4 @@ returns c =
 
 pub count-pairs-spec : {M : Type 1} → statement M
 count-pairs-spec =
-    tie.close
-    (tie.spec
-    Inv-loop
-    μ-loop
-    loop-holds
-    count-row-requires
-    add-n
-    add-g
-    loop-less
-    loop-again
-    returns)
+    tie.close (tie.spec Inv-loop μ-loop loop-holds (λ c κs. omega arith) add-n (λ c. search needs) (λ c. search needs) loop-again returns)

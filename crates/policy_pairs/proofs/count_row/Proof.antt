@@ -22,9 +22,6 @@ abbrev μ-loop : tie.MeasureT-loop
 fits : (a : tie.Start Inv-loop μ-loop) → a .args .t1 .count ≤ length (a .args .t1 .rows)
 fits a = omega (arith, table-size (a .args .t1) (a .good .0), a .pre .0)
 
-has-requires : tie.Need-has-requires Inv-loop μ-loop
-has-requires c κs = omega arith
-
 returns : tie.Need-returns Inv-loop μ-loop
 returns c =
     let a = c .before .before in
@@ -32,29 +29,14 @@ returns c =
     let e = sym (c .before .has .ensures) ∙ not-true (c .before .has .result) (c .if1 .taken) in
     sym (ap length (no-guard t (fits a) (a .args .g) (a .pre .1) e (t .count)))
 
-mul-row : tie.Need-mul-row Inv-loop μ-loop
-mul-row c = search needs
-
-element-copy-out-row : tie.Need-element-copy-out-row Inv-loop μ-loop
-element-copy-out-row c = search needs
-
 loop-holds : tie.Need-loop-holds Inv-loop μ-loop
 unfolding pairsWith
 loop-holds c = search needs
-
-has-requires-2 : tie.Need-has-requires-2 Inv-loop μ-loop
-has-requires-2 c κs = omega arith
 
 add-n : tie.Need-add-n Inv-loop μ-loop
 add-n c =
     let l = c .before .before .before .before in
     omega (arith, with-few (reported (l .before .before .before .before .args .t1)) (l .before .before .before .before .args .g) 0 (l .loop .o))
-
-add-o : tie.Need-add-o Inv-loop μ-loop
-add-o c = search needs
-
-loop-less : tie.Need-loop-less Inv-loop μ-loop
-loop-less c = search needs
 
 loop-again : tie.Need-loop-again Inv-loop μ-loop
 loop-again c =
@@ -86,18 +68,5 @@ returns-2 c =
 
 pub count-row-spec : {M : Type 1} → statement M
 count-row-spec =
-    tie.close
-    (tie.spec
-    Inv-loop
-    μ-loop
-    has-requires
-    returns
-    mul-row
-    element-copy-out-row
-    loop-holds
-    has-requires-2
-    add-n
-    add-o
-    loop-less
-    loop-again
-    returns-2)
+    tie.close (tie.spec Inv-loop μ-loop (λ c κs. omega arith) returns (λ c. search needs) (λ c. search needs) loop-holds (λ c κs. omega arith) add-n
+    (λ c. search needs) (λ c. search needs) loop-again returns-2)

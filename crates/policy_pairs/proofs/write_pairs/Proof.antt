@@ -11,7 +11,8 @@ use Rattle.policy_marks.specs.Pairs.{pairsFrom, pairsIn, reportOf}
 use Rattle.policy_marks.specs.Words.{guardsIn, rowsIn}
 use Rattle.policy_pairs.proofs.Listing.{from-next, from-grows}
 use Rattle.policy_pairs.proofs.Reported.{reported, rowPairs, tablePairs, all-pairs}
-use Rattle.policy_pairs.proofs.Writing.{WritesPairs, no-pairs-written, written-by, kept-length, left-length, more-written, pairs-written}
+use Rattle.laws.proofs.Writing as Parts
+use Rattle.policy_pairs.proofs.Writing.{WritesPairs, no-pairs-written, written-by, left-length, more-written, pairs-written}
 use Rattle.policy_pairs.proofs.write_pairs.Statement.{statement}
 use Rattle.policy_pairs.proofs.write_pairs.Tie as tie
 
@@ -44,13 +45,10 @@ room b =
     )
 
 sub-write-row : tie.Need-sub-write-row Inv-loop μ-loop
-sub-write-row c = omega (arith, room c, kept-length (c .before .before .loop .inv .1 .bytes))
+sub-write-row c = omega (arith, room c, Parts.same-length (c .before .before .loop .inv .1 .bytes))
 
 part-write-row-start : tie.Need-part-write-row-start Inv-loop μ-loop
 part-write-row-start c = sub-write-row c
-
-part-write-row-end : tie.Need-part-write-row-end Inv-loop μ-loop
-part-write-row-end c = search needs
 
 write-row-requires : tie.Need-write-row-requires Inv-loop μ-loop
 write-row-requires c κs =
@@ -87,7 +85,7 @@ loop-again : tie.Need-loop-again Inv-loop μ-loop
 loop-again c = let b = c .before .before .before .before in (omega (arith, b .if1 .taken), next (c .before .before))
 
 same-length : tie.Need-same-length Inv-loop μ-loop
-same-length c = kept-length (c .before .before .loop .inv .1 .bytes)
+same-length c = Parts.same-length (c .before .before .loop .inv .1 .bytes)
 
 returns : tie.Need-returns Inv-loop μ-loop
 returns c =
@@ -99,18 +97,5 @@ returns c =
 
 pub write-pairs-spec : {M : Type 1} → statement M
 write-pairs-spec =
-    tie.close
-    (tie.spec
-    Inv-loop
-    μ-loop
-    loop-holds
-    sub-write-row
-    part-write-row-start
-    part-write-row-end
-    write-row-requires
-    add-n
-    add-g
-    loop-less
-    loop-again
-    same-length
-    returns)
+    tie.close (tie.spec Inv-loop μ-loop loop-holds sub-write-row part-write-row-start (λ c. search needs) write-row-requires add-n add-g loop-less
+    loop-again same-length returns)

@@ -11,7 +11,8 @@ use lib.ListN.{length, length-append, length-set}
 use Rattle.policy_marks.specs.Pairs.{pairsWith}
 use Rattle.policy_pairs.proofs.Listing.{pair, with-grows}
 use Rattle.policy_pairs.proofs.Reported.{table-size, reported, rowPairs, no-guard, next-itself, next-marked, next-pair}
-use Rattle.policy_pairs.proofs.Writing.{WritesPairs, no-pairs-written, kept-length, pair-written, pairs-written}
+use Rattle.laws.proofs.Writing as Parts
+use Rattle.policy_pairs.proofs.Writing.{WritesPairs, no-pairs-written, pair-written, pairs-written}
 use Rattle.policy_pairs.proofs.write_row.Statement.{statement}
 use Rattle.policy_pairs.proofs.write_row.Tie as tie
 
@@ -27,9 +28,6 @@ fits a = omega (arith, table-size (a .args .t1) (a .good .0), a .pre .0)
 abbrev start : tie.In-loop Inv-loop μ-loop → tie.Start Inv-loop μ-loop
 start b = b .before .before .before .before .before .before
 
-has-requires : tie.Need-has-requires Inv-loop μ-loop
-has-requires c κs = omega arith
-
 returns : tie.Need-returns Inv-loop μ-loop
 returns c =
     let a = c .before .before .before in
@@ -39,18 +37,9 @@ returns c =
     let w = subst (WritesPairs out out 0) (sym e) (no-pairs-written out) in
     (w .size, pairs-written w)
 
-mul-row : tie.Need-mul-row Inv-loop μ-loop
-mul-row c = search needs
-
-element-copy-out-row : tie.Need-element-copy-out-row Inv-loop μ-loop
-element-copy-out-row c = search needs
-
 loop-holds : tie.Need-loop-holds Inv-loop μ-loop
 unfolding pairsWith
 loop-holds c = (omega arith, no-pairs-written _)
-
-has-requires-2 : tie.Need-has-requires-2 Inv-loop μ-loop
-has-requires-2 c κs = omega arith
 
 -- the next pair is listed
 next : (c : tie.Then3 Inv-loop μ-loop) → let b = c .before .before .before in let a = start b in let o = b .before .loop .o in
@@ -80,29 +69,17 @@ room c =
       with-grows (reported t) g (l .loop .o + 1) (t .count) (omega arith),
     )
 
-cast-out : tie.Need-cast-out Inv-loop μ-loop
-cast-out c = search needs
-
 slice-write-out : tie.Need-slice-write-out Inv-loop μ-loop
-slice-write-out c = omega (arith, room c, kept-length (c .before .before .before .before .loop .inv .1 .bytes))
-
-cast-out-2 : tie.Need-cast-out-2 Inv-loop μ-loop
-cast-out-2 c = search needs
+slice-write-out c = omega (arith, room c, Parts.same-length (c .before .before .before .before .loop .inv .1 .bytes))
 
 add-out : tie.Need-add-out Inv-loop μ-loop
 add-out c = omega (arith, room c, start (c .before .before .before) .good .1 .1 .0)
 
 slice-write-out-2 : tie.Need-slice-write-out-2 Inv-loop μ-loop
-slice-write-out-2 c = simp length-set (omega (arith, room c, kept-length (c .before .before .before .before .loop .inv .1 .bytes)))
+slice-write-out-2 c = simp length-set (omega (arith, room c, Parts.same-length (c .before .before .before .before .loop .inv .1 .bytes)))
 
 add-n : tie.Need-add-n Inv-loop μ-loop
 add-n c = omega (arith, room c, start (c .before .before .before) .good .1 .1 .0)
-
-add-o : tie.Need-add-o Inv-loop μ-loop
-add-o c = search needs
-
-loop-less : tie.Need-loop-less Inv-loop μ-loop
-loop-less c = search needs
 
 loop-again : tie.Need-loop-again Inv-loop μ-loop
 loop-again c =
@@ -125,7 +102,7 @@ loop-again c =
     )
 
 same-length : tie.Need-same-length Inv-loop μ-loop
-same-length c = kept-length (c .before .loop .inv .1 .bytes)
+same-length c = Parts.same-length (c .before .loop .inv .1 .bytes)
 
 returns-2 : tie.Need-returns-2 Inv-loop μ-loop
 returns-2 c =
@@ -138,24 +115,6 @@ returns-2 c =
 
 pub write-row-spec : {M : Type 1} → statement M
 write-row-spec =
-    tie.close
-    (tie.spec
-    Inv-loop
-    μ-loop
-    has-requires
-    returns
-    mul-row
-    element-copy-out-row
-    loop-holds
-    has-requires-2
-    cast-out
-    slice-write-out
-    cast-out-2
-    add-out
-    slice-write-out-2
-    add-n
-    add-o
-    loop-less
-    loop-again
-    same-length
-    returns-2)
+    tie.close (tie.spec Inv-loop μ-loop (λ c κs. omega arith) returns (λ c. search needs) (λ c. search needs) loop-holds (λ c κs. omega arith)
+    (λ c. search needs) slice-write-out (λ c. search needs) add-out slice-write-out-2 add-n (λ c. search needs) (λ c. search needs) loop-again
+    same-length returns-2)

@@ -79,9 +79,6 @@ named-by-requires c κs = let p = c .before .before .before .before .pre in (p .
 loop-holds : tie.Need-loop-holds Inv-loop μ-loop
 loop-holds c = λ y k. let a = c .before .before .before .before .before in images-none (now (a .args .b)) (a .args .t4) (a .pre .1 .few) (space a) _
 
-sub-j : tie.Need-sub-j Inv-loop μ-loop
-sub-j c = omega arith
-
 mul-r : tie.Need-mul-r Inv-loop μ-loop
 mul-r c = omega (arith, few c)
 
@@ -128,21 +125,5 @@ returns c =
 
 pub matched-spec : {M : Type 1} → statement M
 matched-spec =
-    tie.close
-    (tie.spec
-    Inv-loop
-    μ-loop
-    named-by-requires
-    loop-holds
-    sub-j
-    mul-r
-    element-copy-out-r
-    mul-word
-    has-requires
-    matches-image-requires
-    add-word
-    loop-less
-    loop-again
-    loop-less-2
-    loop-again-2
-    returns)
+    tie.close (tie.spec Inv-loop μ-loop named-by-requires loop-holds (λ c. omega arith) mul-r element-copy-out-r mul-word has-requires
+    matches-image-requires add-word loop-less loop-again loop-less-2 loop-again-2 returns)

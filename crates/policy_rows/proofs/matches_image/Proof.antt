@@ -6,24 +6,6 @@ use borrow.Author.Needs.{needs}
 use Rattle.policy_rows.proofs.matches_image.Statement.{statement}
 use Rattle.policy_rows.proofs.matches_image.Tie as tie
 
-sub-matches : tie.Need-sub-matches
-sub-matches c = search needs
-
-part-matches-start : tie.Need-part-matches-start
-part-matches-start c = search needs
-
-part-matches-end : tie.Need-part-matches-end
-part-matches-end c = search needs
-
-sub-matches-2 : tie.Need-sub-matches-2
-sub-matches-2 c = search needs
-
-part-matches-start-2 : tie.Need-part-matches-start-2
-part-matches-start-2 c = search needs
-
-part-matches-end-2 : tie.Need-part-matches-end-2
-part-matches-end-2 c = search needs
-
 matches-requires : tie.Need-matches-requires
 matches-requires c κs = c .before .before .before .before .pre .0
 
@@ -33,13 +15,5 @@ returns c = λ y k e. c .matches .ensures y _ k e ∙ matches-held y _ _
 
 pub matches-image-spec : {M : Type 1} → statement M
 matches-image-spec =
-    tie.close
-    (tie.spec
-    sub-matches
-    part-matches-start
-    part-matches-end
-    sub-matches-2
-    part-matches-start-2
-    part-matches-end-2
-    matches-requires
-    returns)
+    tie.close (tie.spec (λ c. search needs) (λ c. search needs) (λ c. search needs) (λ c. search needs) (λ c. search needs) (λ c. search needs)
+    matches-requires returns)

@@ -13,9 +13,6 @@ use Rattle.store_names.proofs.Numbering.{part-below}
 use Rattle.policy_rows.proofs.named_by.Statement.{statement}
 use Rattle.policy_rows.proofs.named_by.Tie as tie
 
-asked-requires : tie.Need-asked-requires
-asked-requires c κs = search needs
-
 -- where the names stand, for the rule that was read
 module _ (c : tie.After-asked) where
   abbrev start : tie.Start
@@ -23,18 +20,6 @@ module _ (c : tie.After-asked) where
 
   found : Asked (now (start .args .b)) (now (start .args .at)) (now (start .args .order)) (start .pre .0 .rule) (c .asked .result)
   found = c .asked .ensures (start .pre .0 .rule) (start .pre .0 .read)
-
-mul-owners : tie.Need-mul-owners
-mul-owners c = omega (arith, found c .rising, found c .within)
-
-sub-owners : tie.Need-sub-owners
-sub-owners c = found c .rising
-
-part-owners-start : tie.Need-part-owners-start
-part-owners-start c = found c .rising
-
-part-owners-end : tie.Need-part-owners-end
-part-owners-end c = found c .within
 
 owners-requires : tie.Need-owners-requires
 owners-requires c κs = λ i h.
@@ -55,12 +40,5 @@ returns c = λ y k j. c .owners .ensures j ∙ asked-any (c .before .before .ask
 
 pub named-by-spec : {M : Type 1} → statement M
 named-by-spec =
-    tie.close
-    (tie.spec
-    asked-requires
-    mul-owners
-    sub-owners
-    part-owners-start
-    part-owners-end
-    owners-requires
-    returns)
+    tie.close (tie.spec (λ c κs. search needs) (λ c. omega (arith, found c .rising, found c .within)) (λ c. found c .rising) (λ c. found c .rising)
+    (λ c. found c .within) owners-requires returns)

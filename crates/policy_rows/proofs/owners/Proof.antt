@@ -17,12 +17,6 @@ abbrev μ-loop : tie.MeasureT-loop
 loop-holds : tie.Need-loop-holds Inv-loop μ-loop
 loop-holds c = owned-none _
 
-mul-e : tie.Need-mul-e Inv-loop μ-loop
-mul-e c = search needs
-
-shared-slice-read-e : tie.Need-shared-slice-read-e Inv-loop μ-loop
-shared-slice-read-e c = search needs
-
 -- the number that is read is that of an alias
 small : (c : tie.After-shared-slice-known Inv-loop μ-loop) → getD (now (c .before .before .before .args .order)) (c .before .before .loop .i) 0 < 4096
 small c = c .before .before .before .pre _ (c .before .loop-test .taken)
@@ -32,9 +26,6 @@ cast-e c = omega (arith, small c)
 
 shl-word : tie.Need-shl-word Inv-loop μ-loop
 shl-word c = omega (arith, small c)
-
-add-i : tie.Need-add-i Inv-loop μ-loop
-add-i c = search needs
 
 loop-less : tie.Need-loop-less Inv-loop μ-loop
 loop-less c = omega (arith, c .before .loop-test .taken)
@@ -46,4 +37,6 @@ returns : tie.Need-returns Inv-loop μ-loop
 returns c = owned-all _ _ _ (c .loop-test .left) (c .before .loop .inv)
 
 pub owners-spec : {M : Type 1} → statement M
-owners-spec = tie.close (tie.spec Inv-loop μ-loop loop-holds mul-e shared-slice-read-e cast-e shl-word add-i loop-less loop-again returns)
+owners-spec =
+    tie.close (tie.spec Inv-loop μ-loop loop-holds (λ c. search needs) (λ c. search needs) cast-e shl-word (λ c. search needs) loop-less loop-again
+    returns)

@@ -60,9 +60,6 @@ mul-p c = omega (arith, few (c .before .before .before .before .before))
 array-copy-out-p : tie.Need-array-copy-out-p Inv-loop μ-loop
 array-copy-out-p c = few (c .before .before .before .before .before)
 
-slice-aggregate-place : tie.Need-slice-aggregate-place Inv-loop μ-loop
-slice-aggregate-place c = search needs
-
 place-requires : tie.Need-place-requires Inv-loop μ-loop
 unfolding between
 place-requires c κs =
@@ -96,9 +93,6 @@ read-requires c κs = some-rule-at _ _ _ (rule-here c)
 matched-requires : tie.Need-matched-requires Inv-loop μ-loop
 matched-requires c κs = let a = start (c .before) in (some-rule _ _ _ (c .read .ensures _ (rule-here (c .before))), a .pre .0 .fills, a .pre .1)
 
-add-j : tie.Need-add-j Inv-loop μ-loop
-add-j c = search needs
-
 loop-less : tie.Need-loop-less Inv-loop μ-loop
 loop-less c = omega (arith, c .before .before .loop-test .taken)
 
@@ -124,25 +118,5 @@ returns c =
 
 pub row-spec : {M : Type 1} → statement M
 row-spec =
-    tie.close
-    (tie.spec
-    Inv-loop
-    μ-loop
-    mul-x
-    element-copy-out-x
-    sub-s
-    part-s-start
-    part-s-end
-    mul-p
-    array-copy-out-p
-    slice-aggregate-place
-    place-requires
-    loop-holds
-    mul-read
-    array-read-read
-    read-requires
-    matched-requires
-    add-j
-    loop-less
-    loop-again
-    returns)
+    tie.close (tie.spec Inv-loop μ-loop mul-x element-copy-out-x sub-s part-s-start part-s-end mul-p array-copy-out-p (λ c. search needs)
+    place-requires loop-holds mul-read array-read-read read-requires matched-requires (λ c. search needs) loop-less loop-again returns)

@@ -57,9 +57,6 @@ module _ (c : tie.In-loop Inv-loop μ-loop) where
 loop-holds : tie.Need-loop-holds Inv-loop μ-loop
 loop-holds c = let a = c .before in images-none (now (a .args .b)) (a .args .t2) (a .pre .fills .few) (room a) isGuard
 
-sub-j : tie.Need-sub-j Inv-loop μ-loop
-sub-j c = omega arith
-
 mul-y : tie.Need-mul-y Inv-loop μ-loop
 mul-y c = omega (arith, below c, start c .pre .fills .few)
 
@@ -111,24 +108,5 @@ returns c = built-all isGuard _ _ _ _ (c .loop-test .left) (c .before .loop .inv
 
 pub guards-spec : {M : Type 1} → statement M
 guards-spec =
-    tie.close
-    (tie.spec
-    Inv-loop
-    μ-loop
-    loop-holds
-    sub-j
-    mul-y
-    element-copy-out-y
-    mul-q
-    array-copy-out-q
-    mul-word
-    sub-rejects
-    part-rejects-start
-    part-rejects-end
-    rejects-requires
-    add-word
-    loop-less
-    loop-again
-    loop-less-2
-    loop-again-2
-    returns)
+    tie.close (tie.spec Inv-loop μ-loop loop-holds (λ c. omega arith) mul-y element-copy-out-y mul-q array-copy-out-q mul-word sub-rejects
+    part-rejects-start part-rejects-end rejects-requires add-word loop-less loop-again loop-less-2 loop-again-2 returns)

@@ -39,9 +39,6 @@ in-order k = omega (arith, k .index-all .ensures .0, k .index-all .ensures .1, b
 abbrev indexed : tie.At-loop Inv-loop μ-loop → tie.After-index-all Inv-loop μ-loop
 indexed l = l .before .before .before
 
-slice-aggregate-place-all : tie.Need-slice-aggregate-place-all Inv-loop μ-loop
-slice-aggregate-place-all c = refl
-
 place-all-requires : tie.Need-place-all-requires Inv-loop μ-loop
 place-all-requires c κs = let p = c .before .before .before .before .before .before .before .pre in (p .0, p .3, p .1, refl)
 
@@ -124,25 +121,6 @@ returns c =
 
 pub table-spec : {M : Type 1} → statement M
 table-spec =
-    tie.close
-    (tie.spec
-    Inv-loop
-    μ-loop
-    slice-aggregate-place-all
-    place-all-requires
-    slice-aggregate-index-all
-    index-all-requires
-    loop-holds
-    slice-reshare-prefix-row
-    slice-aggregate-row
-    row-requires
-    mul-rows
-    array-write-rows
-    add-i
-    loop-less
-    loop-again
-    guards-requires
-    same-length
-    same-length-2
-    same-length-3
-    returns)
+    tie.close (tie.spec Inv-loop μ-loop (λ c. refl) place-all-requires slice-aggregate-index-all index-all-requires loop-holds
+    slice-reshare-prefix-row slice-aggregate-row row-requires mul-rows array-write-rows add-i loop-less loop-again guards-requires same-length
+    same-length-2 same-length-3 returns)

@@ -8,12 +8,6 @@ use borrow.Author.Needs.{needs}
 use Rattle.reference_aliases.proofs.is_alias.Statement.{statement}
 use Rattle.reference_aliases.proofs.is_alias.Tie as tie
 
-read-requires : tie.Need-read-requires
-read-requires c κs = search needs
-
-is-alias-part-requires : tie.Need-is-alias-part-requires
-is-alias-part-requires c κs = search needs
-
 returns : tie.Need-returns
 returns c =
     let d = c .before in
@@ -23,4 +17,5 @@ returns-2 : tie.Need-returns-2
 returns-2 c = sym (divided-alias _ (is-not-last _ _ (c .before .read .ensures .counts) (c .if1 .left)))
 
 pub is-alias-spec : {M : Type 1} → statement M
-is-alias-spec = tie.close (tie.spec read-requires is-alias-part-requires returns returns-2)
+is-alias-spec =
+    tie.close (tie.spec (λ c κs. search needs) (λ c κs. search needs) returns returns-2)

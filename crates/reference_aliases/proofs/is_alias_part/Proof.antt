@@ -7,12 +7,6 @@ use borrow.Author.Needs.{needs}
 use Rattle.reference_aliases.proofs.is_alias_part.Statement.{statement}
 use Rattle.reference_aliases.proofs.is_alias_part.Tie as tie
 
-is-name-length-requires : tie.Need-is-name-length-requires
-is-name-length-requires c κs = search needs
-
-is-reserved-requires : tie.Need-is-reserved-requires
-is-reserved-requires c κs = search needs
-
 returns : tie.Need-returns
 returns c =
     let d = c .before in
@@ -26,4 +20,4 @@ returns-2 c =
 
 pub is-alias-part-spec : {M : Type 1} → statement M
 is-alias-part-spec =
-    tie.close (tie.spec is-name-length-requires is-reserved-requires returns returns-2)
+    tie.close (tie.spec (λ c κs. search needs) (λ c κs. search needs) returns returns-2)

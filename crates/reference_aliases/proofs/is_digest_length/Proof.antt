@@ -6,15 +6,6 @@ use borrow.Author.Needs.{needs}
 use Rattle.reference_aliases.proofs.is_digest_length.Statement.{statement}
 use Rattle.reference_aliases.proofs.is_digest_length.Tie as tie
 
-hex-digits-requires : tie.Need-hex-digits-requires
-hex-digits-requires c κs = search needs
-
-hex-digits-requires-2 : tie.Need-hex-digits-requires-2
-hex-digits-requires-2 c κs = search needs
-
-hex-digits-requires-3 : tie.Need-hex-digits-requires-3
-hex-digits-requires-3 c κs = search needs
-
 returns : tie.Need-returns
 returns c = known-length _ _ _ (c .before .before .before .hex-digits .ensures) (c .if1 .taken) (lengths-known .0)
 
@@ -33,12 +24,4 @@ returns-4 c =
 
 pub is-digest-length-spec : {M : Type 1} → statement M
 is-digest-length-spec =
-    tie.close
-    (tie.spec
-    hex-digits-requires
-    hex-digits-requires-2
-    hex-digits-requires-3
-    returns
-    returns-2
-    returns-3
-    returns-4)
+    tie.close (tie.spec (λ c κs. search needs) (λ c κs. search needs) (λ c κs. search needs) returns returns-2 returns-3 returns-4)

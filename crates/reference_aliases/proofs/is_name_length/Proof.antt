@@ -15,9 +15,6 @@ returns c = sym (no-bytes _ _ (c .if1 .taken))
 returns-2 : tie.Need-returns-2
 returns-2 c = sym (too-many _ _ (omega arith) (c .if2 .taken))
 
-is-digest-length-requires : tie.Need-is-digest-length-requires
-is-digest-length-requires c κs = search needs
-
 returns-3 : tie.Need-returns-3
 returns-3 c =
     let a = c .before .before .before .before .args in
@@ -31,4 +28,4 @@ returns-4 c =
 
 pub is-name-length-spec : {M : Type 1} → statement M
 is-name-length-spec =
-    tie.close (tie.spec returns returns-2 is-digest-length-requires returns-3 returns-4)
+    tie.close (tie.spec returns returns-2 (λ c κs. search needs) returns-3 returns-4)

@@ -6,24 +6,6 @@ use borrow.Author.Needs.{needs}
 use Rattle.reference_aliases.proofs.is_reserved.Statement.{statement}
 use Rattle.reference_aliases.proofs.is_reserved.Tie as tie
 
-slice-aggregate-is : tie.Need-slice-aggregate-is
-slice-aggregate-is c = search needs
-
-is-requires : tie.Need-is-requires
-is-requires c κs = search needs
-
-slice-aggregate-is-2 : tie.Need-slice-aggregate-is-2
-slice-aggregate-is-2 c = search needs
-
-is-requires-2 : tie.Need-is-requires-2
-is-requires-2 c κs = search needs
-
-slice-aggregate-is-3 : tie.Need-slice-aggregate-is-3
-slice-aggregate-is-3 c = search needs
-
-is-requires-3 : tie.Need-is-requires-3
-is-requires-3 c κs = search needs
-
 returns : tie.Need-returns
 unfolding isReserved
 returns c = or-taken _ _ _ (c .before .is .ensures) (c .if1 .taken)
@@ -43,14 +25,5 @@ returns-3 c =
 
 pub is-reserved-spec : {M : Type 1} → statement M
 is-reserved-spec =
-    tie.close
-    (tie.spec
-    slice-aggregate-is
-    is-requires
-    slice-aggregate-is-2
-    is-requires-2
-    slice-aggregate-is-3
-    is-requires-3
-    returns
-    returns-2
-    returns-3)
+    tie.close (tie.spec (λ c. search needs) (λ c κs. search needs) (λ c. search needs) (λ c κs. search needs) (λ c. search needs)
+    (λ c κs. search needs) returns returns-2 returns-3)

@@ -18,12 +18,6 @@ Inv-loop part kept₀ store₀ out₀ t₀ at₀ kept store out t at =
 abbrev μ-loop : tie.MeasureT-loop
 μ-loop part kept₀ store₀ out₀ t₀ at₀ kept store out t at = length part - at
 
-loop-holds : tie.Need-loop-holds Inv-loop μ-loop
-loop-holds c = search needs
-
-take-part-requires : tie.Need-take-part-requires Inv-loop μ-loop
-take-part-requires c κs = search needs
-
 slice-reshare-prefix-answer : tie.Need-slice-reshare-prefix-answer Inv-loop μ-loop
 slice-reshare-prefix-answer c =
     let t = c .before .before .before .take-part in
@@ -34,19 +28,10 @@ slice-aggregate-answer c =
     let t = c .before .before .before .before .take-part in
     sym (length-take-le (t .result .length) (t .last .0) (omega (arith, taken-kept (t .ensures), t .kept .0)))
 
-answer-requires : tie.Need-answer-requires Inv-loop μ-loop
-answer-requires c κs = search needs
-
 loop-less : tie.Need-loop-less Inv-loop μ-loop
 loop-less c =
     let p = c .before .before .before .before .before .before .before .before .before .before .before in
     omega (arith, taken-more (p .take-part .ensures) (p .before .before .loop-test .taken), taken-within (p .take-part .ensures))
-
-loop-again : tie.Need-loop-again Inv-loop μ-loop
-loop-again c = search needs
-
-with-kept-requires : tie.Need-with-kept-requires Inv-loop μ-loop
-with-kept-requires c κs = search needs
 
 loop-less-2 : tie.Need-loop-less-2 Inv-loop μ-loop
 loop-less-2 c =
@@ -58,35 +43,8 @@ loop-again-2 c =
     let p = c .before .before .before .before in
     omega (arith, taken-within (p .take-part .ensures), taken-kept (p .take-part .ensures), p .take-part .kept .0, c .with-kept .ensures)
 
-same-length : tie.Need-same-length Inv-loop μ-loop
-same-length c = search needs
-
-same-length-2 : tie.Need-same-length-2 Inv-loop μ-loop
-same-length-2 c = search needs
-
-same-length-3 : tie.Need-same-length-3 Inv-loop μ-loop
-same-length-3 c = search needs
-
-returns : tie.Need-returns Inv-loop μ-loop
-returns c = search needs
-
 pub feed-spec : {M : Type 1} → statement M
 feed-spec =
-    tie.close
-    (tie.spec
-    Inv-loop
-    μ-loop
-    loop-holds
-    take-part-requires
-    slice-reshare-prefix-answer
-    slice-aggregate-answer
-    answer-requires
-    loop-less
-    loop-again
-    with-kept-requires
-    loop-less-2
-    loop-again-2
-    same-length
-    same-length-2
-    same-length-3
-    returns)
+    tie.close (tie.spec Inv-loop μ-loop (λ c. search needs) (λ c κs. search needs) slice-reshare-prefix-answer slice-aggregate-answer
+    (λ c κs. search needs) loop-less (λ c. search needs) (λ c κs. search needs) loop-less-2 loop-again-2 (λ c. search needs) (λ c. search needs)
+    (λ c. search needs) (λ c. search needs))

@@ -6,21 +6,9 @@ use borrow.Author.Needs.{needs}
 use Rattle.roomreport.proofs.place_for_line.Statement.{statement}
 use Rattle.roomreport.proofs.place_for_line.Tie as tie
 
-sub-if1 : tie.Need-sub-if1
-sub-if1 c = search needs
-
-returns : tie.Need-returns
-returns c = search needs
-
 slice-aggregate-write-all : tie.Need-slice-aggregate-write-all
 slice-aggregate-write-all c = let s = c .before .before .before in sym (length-take-le (s .args .n) (now (s .args .out)) (s .pre .1))
 
-write-all-requires : tie.Need-write-all-requires
-write-all-requires c κs = search needs
-
-returns-2 : tie.Need-returns-2
-returns-2 c = search needs
-
 pub place-for-line-spec : {M : Type 1} → statement M
 place-for-line-spec =
-    tie.close (tie.spec sub-if1 returns slice-aggregate-write-all write-all-requires returns-2)
+    tie.close (tie.spec (λ c. search needs) (λ c. search needs) slice-aggregate-write-all (λ c κs. search needs) (λ c. search needs))

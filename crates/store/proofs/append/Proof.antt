@@ -28,20 +28,11 @@ needed c =
 within : (c : tie.After-head-size) → begin c .args .used + c .head-size .result + length (now (begin c .args .text)) ≤ length (now (begin c .args .store))
 within c = omega (arith, needed c, begin c .pre .fits .within, begin c .pre .fits .space)
 
-head-size-requires : tie.Need-head-size-requires
-head-size-requires c κs = search needs
-
 add-end : tie.Need-add-end
 add-end c = omega (arith, within c, begin c .good .1 .1 .1 .1 .0 .0)
 
 add-end-2 : tie.Need-add-end-2
 add-end-2 c = omega (arith, within c, begin c .good .1 .1 .1 .1 .0 .0)
-
-put-record-requires : tie.Need-put-record-requires
-put-record-requires c κs = search needs
-
-same-length : tie.Need-same-length
-same-length c = search needs
 
 returns : tie.Need-returns
 unfolding usedAfter bytesAfter
@@ -51,5 +42,4 @@ returns c =
 
 pub append-spec : {M : Type 1} → statement M
 append-spec =
-    tie.close
-    (tie.spec head-size-requires add-end add-end-2 put-record-requires same-length returns)
+    tie.close (tie.spec (λ c κs. search needs) add-end add-end-2 (λ c κs. search needs) (λ c. search needs) returns)

@@ -17,24 +17,6 @@ use borrow.Author.Needs.{needs}
 use Rattle.store.proofs.load.Statement.{statement}
 use Rattle.store.proofs.load.Tie as tie
 
-slice-aggregate-canonical-with : tie.Need-slice-aggregate-canonical-with
-slice-aggregate-canonical-with c = search needs
-
-slice-aggregate-canonical-with-2 : tie.Need-slice-aggregate-canonical-with-2
-slice-aggregate-canonical-with-2 c = search needs
-
-slice-aggregate-canonical-with-3 : tie.Need-slice-aggregate-canonical-with-3
-slice-aggregate-canonical-with-3 c = search needs
-
-canonical-with-requires : tie.Need-canonical-with-requires
-canonical-with-requires c κs = search needs
-
-refused-requires : tie.Need-refused-requires
-refused-requires c κs = search needs
-
-same-length : tie.Need-same-length
-same-length c = search needs
-
 returns : tie.Need-returns
 returns c =
     let k = c .before .before .before .before .before .before .before .before in
@@ -70,12 +52,6 @@ array-share-prefix-form c = omega (arith, short (c .before .before .before .befo
 slice-aggregate-load-form : tie.Need-slice-aggregate-load-form
 slice-aggregate-load-form c = sym (length-take-le _ _ (array-share-prefix-form (c .before)))
 
-slice-aggregate-load-form-2 : tie.Need-slice-aggregate-load-form-2
-slice-aggregate-load-form-2 c = search needs
-
-slice-aggregate-load-form-3 : tie.Need-slice-aggregate-load-form-3
-slice-aggregate-load-form-3 c = search needs
-
 load-form-requires : tie.Need-load-form-requires
 load-form-requires c κs =
     let k = c .before .before .before .before .before .before .before .before in
@@ -84,9 +60,6 @@ load-form-requires c κs =
       subst (λ (t : List ℕ). isCanonical t ≡ true) (sym (is-form k z)) (form-canonical (manifest k) (its-text k z)),
       record { names-size = omega (arith, n .0); spare-size = omega (arith, n .1 .0) },
     )
-
-same-length-2 : tie.Need-same-length-2
-same-length-2 c = search needs
 
 returns-2 : tie.Need-returns-2
 returns-2 c =
@@ -97,19 +70,5 @@ returns-2 c =
 
 pub load-spec : {M : Type 1} → statement M
 load-spec =
-    tie.close
-    (tie.spec
-    slice-aggregate-canonical-with
-    slice-aggregate-canonical-with-2
-    slice-aggregate-canonical-with-3
-    canonical-with-requires
-    refused-requires
-    same-length
-    returns
-    array-share-prefix-form
-    slice-aggregate-load-form
-    slice-aggregate-load-form-2
-    slice-aggregate-load-form-3
-    load-form-requires
-    same-length-2
-    returns-2)
+    tie.close (tie.spec (λ c. search needs) (λ c. search needs) (λ c. search needs) (λ c κs. search needs) (λ c κs. search needs) (λ c. search needs)
+    returns array-share-prefix-form slice-aggregate-load-form (λ c. search needs) (λ c. search needs) load-form-requires (λ c. search needs) returns-2)

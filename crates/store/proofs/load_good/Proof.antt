@@ -11,38 +11,17 @@ use borrow.Author.Needs.{needs}
 use Rattle.store.proofs.load_good.Statement.{statement}
 use Rattle.store.proofs.load_good.Tie as tie
 
-read-requires : tie.Need-read-requires
-read-requires c κs = search needs
-
-enum-told : tie.Need-enum-told
-enum-told c = search needs
-
-refused-requires : tie.Need-refused-requires
-refused-requires c κs = search needs
-
-enum-known-algorithm : tie.Need-enum-known-algorithm
-enum-known-algorithm c = search needs
-
-slice-aggregate-write-plain : tie.Need-slice-aggregate-write-plain
-slice-aggregate-write-plain c = search needs
-
 write-plain-requires : tie.Need-write-plain-requires
 write-plain-requires c κs =
     let g = c .before .before .algorithm .given in
     let k = rw (g .1) at (c .before .before .before .before .read .ensures) in
     (k .0, digest-bounds (g .0 .0) .1)
 
-slice-aggregate-write-plain-2 : tie.Need-slice-aggregate-write-plain-2
-slice-aggregate-write-plain-2 c = search needs
-
 write-plain-requires-2 : tie.Need-write-plain-requires-2
 write-plain-requires-2 c κs =
     let g = c .before .before .before .before .before .algorithm .given in
     let k = rw (g .1) at (c .before .before .before .before .before .before .before .read .ensures) in
     (k .1, digest-bounds (g .0 .0) .1)
-
-digest-bytes-requires : tie.Need-digest-bytes-requires
-digest-bytes-requires c κs = search needs
 
 array-share-prefix-signer-bytes : tie.Need-array-share-prefix-signer-bytes
 array-share-prefix-signer-bytes c =
@@ -89,24 +68,12 @@ load-image-requires c κs =
       p .1,
     )
 
-same-length : tie.Need-same-length
-same-length c = search needs
-
 returns : tie.Need-returns
 returns c =
     let a = c .before .before .before .before .before .before .before .before .before .before .before .before .args in
     let r = c .before .before .refused .ensures in
     let e = rw (c .before .before .before .before .enum-told .given .1) at (c .before .before .before .before .before .before .read .ensures) in
     refused-loads (sym (bad-id _ _ (now (a .id)) (now (a .text)) e)) (λ z. omega arith) (r .0) (r .1)
-
-same-length-2 : tie.Need-same-length-2
-same-length-2 c = search needs
-
-same-length-3 : tie.Need-same-length-3
-same-length-3 c = search needs
-
-same-length-4 : tie.Need-same-length-4
-same-length-4 c = search needs
 
 returns-2 : tie.Need-returns-2
 returns-2 c =
@@ -117,25 +84,7 @@ returns-2 c =
 
 pub load-good-spec : {M : Type 1} → statement M
 load-good-spec =
-    tie.close
-    (tie.spec
-    read-requires
-    enum-told
-    refused-requires
-    enum-known-algorithm
-    slice-aggregate-write-plain
-    write-plain-requires
-    slice-aggregate-write-plain-2
-    write-plain-requires-2
-    digest-bytes-requires
-    array-share-prefix-signer-bytes
-    slice-aggregate-load-image
-    array-share-prefix-digest-bytes
-    slice-aggregate-load-image-2
-    load-image-requires
-    same-length
-    returns
-    same-length-2
-    same-length-3
-    same-length-4
-    returns-2)
+    tie.close (tie.spec (λ c κs. search needs) (λ c. search needs) (λ c κs. search needs) (λ c. search needs) (λ c. search needs) write-plain-requires
+    (λ c. search needs) write-plain-requires-2 (λ c κs. search needs) array-share-prefix-signer-bytes slice-aggregate-load-image
+    array-share-prefix-digest-bytes slice-aggregate-load-image-2 load-image-requires (λ c. search needs) returns (λ c. search needs)
+    (λ c. search needs) (λ c. search needs) returns-2)

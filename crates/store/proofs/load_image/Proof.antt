@@ -26,41 +26,14 @@ asked : (c : tie.After-number-in) → let a = begin c in
     c .number-in .result ≡ lowest (storeQuestions (length (now (a .args .store))) (held (now (a .args .store)) (a .args .used)) (its-image a))
 asked c = c .number-in .ensures ∙ number-within _ (now (begin c .args .store)) (begin c .args .used) (c .before .before .before .before .if1 .left) _ refl
 
-refused-requires : tie.Need-refused-requires
-refused-requires c κs = search needs
-
-same-length : tie.Need-same-length
-same-length c = search needs
-
 returns : tie.Need-returns
 returns c =
     let a = c .before .before .before .before .before .before .before .before .before .before .before .args in
     let r = c .before .before .refused .ensures in
     refused-loads (sym (past-number _ (now (a .store)) (a .used) (c .before .before .before .before .if1 .taken))) (λ z. omega arith) (r .0) (r .1)
 
-sub-left : tie.Need-sub-left
-sub-left c = search needs
-
-slice-reshare-prefix-number-in : tie.Need-slice-reshare-prefix-number-in
-slice-reshare-prefix-number-in c = search needs
-
 slice-aggregate-number-in : tie.Need-slice-aggregate-number-in
 slice-aggregate-number-in c = sym (length-take-le _ _ (c .before .if1 .left))
-
-number-in-requires : tie.Need-number-in-requires
-number-in-requires c κs = search needs
-
-refused-requires-2 : tie.Need-refused-requires-2
-refused-requires-2 c κs = search needs
-
-same-length-2 : tie.Need-same-length-2
-same-length-2 c = search needs
-
-same-length-3 : tie.Need-same-length-3
-same-length-3 c = search needs
-
-same-length-4 : tie.Need-same-length-4
-same-length-4 c = search needs
 
 returns-2 : tie.Need-returns-2
 returns-2 c =
@@ -79,15 +52,6 @@ append-requires c κs =
           (λ j. k .before .before .before .before .before .before .before .slice-known .given j .fits) (sym (asked k) ∙ c .before .if2 .left);
     }
 
-same-length-5 : tie.Need-same-length-5
-same-length-5 c = search needs
-
-same-length-6 : tie.Need-same-length-6
-same-length-6 c = search needs
-
-same-length-7 : tie.Need-same-length-7
-same-length-7 c = search needs
-
 returns-3 : tie.Need-returns-3
 returns-3 c =
     let e = c .before .before .before .before in
@@ -95,22 +59,6 @@ returns-3 c =
 
 pub load-image-spec : {M : Type 1} → statement M
 load-image-spec =
-    tie.close
-    (tie.spec
-    refused-requires
-    same-length
-    returns
-    sub-left
-    slice-reshare-prefix-number-in
-    slice-aggregate-number-in
-    number-in-requires
-    refused-requires-2
-    same-length-2
-    same-length-3
-    same-length-4
-    returns-2
-    append-requires
-    same-length-5
-    same-length-6
-    same-length-7
-    returns-3)
+    tie.close (tie.spec (λ c κs. search needs) (λ c. search needs) returns (λ c. search needs) (λ c. search needs) slice-aggregate-number-in
+    (λ c κs. search needs) (λ c κs. search needs) (λ c. search needs) (λ c. search needs) (λ c. search needs) returns-2 append-requires
+    (λ c. search needs) (λ c. search needs) (λ c. search needs) returns-3)

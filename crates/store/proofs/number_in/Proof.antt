@@ -94,24 +94,6 @@ other c = asked-12 (c .before) ∙ c .if2 .left
 short : (a : tie.Start) → length (text a) ≤ 16384
 short a = opened-short (text a) (a .args .places) (a .pre .0 .opens)
 
-slice-aggregate-open : tie.Need-slice-aggregate-open
-slice-aggregate-open c = search needs
-
-slice-aggregate-open-2 : tie.Need-slice-aggregate-open-2
-slice-aggregate-open-2 c = search needs
-
-slice-aggregate-open-3 : tie.Need-slice-aggregate-open-3
-slice-aggregate-open-3 c = search needs
-
-open-requires : tie.Need-open-requires
-open-requires c κs = search needs
-
-same-length : tie.Need-same-length
-same-length c = search needs
-
-same-length-2 : tie.Need-same-length-2
-same-length-2 c = search needs
-
 returns : tie.Need-returns
 returns c =
     let o = c .before .before .before .before .before .before .before .before .before in
@@ -120,23 +102,11 @@ returns c =
 is-held-requires : tie.Need-is-held-requires
 is-held-requires c κs = opened (c .before) .fills
 
-same-length-3 : tie.Need-same-length-3
-same-length-3 c = search needs
-
-same-length-4 : tie.Need-same-length-4
-same-length-4 c = search needs
-
 returns-2 : tie.Need-returns-2
 returns-2 c =
     let e = c .before .before .before in
     let a = begin (opening e) in
     number-12 (size a) (images a) (its-image a) (sound e) (asked-12 (c .before) ∙ c .if2 .taken)
-
-slice-aggregate-clashes-with-any : tie.Need-slice-aggregate-clashes-with-any
-slice-aggregate-clashes-with-any c = search needs
-
-slice-aggregate-clashes-with-any-2 : tie.Need-slice-aggregate-clashes-with-any-2
-slice-aggregate-clashes-with-any-2 c = search needs
 
 clashes-with-any-requires : tie.Need-clashes-with-any-requires
 clashes-with-any-requires c κs =
@@ -158,12 +128,6 @@ number-left-requires c κs =
     let a = begin (opening (known (c .before .before .before .before .before .before))) in
     (short a, size-small (a .args .a) (now (a .args .signer)) (now (a .args .digest)) (text a) (a .pre .1) (short a))
 
-same-length-5 : tie.Need-same-length-5
-same-length-5 c = search needs
-
-same-length-6 : tie.Need-same-length-6
-same-length-6 c = search needs
-
 returns-3 : tie.Need-returns-3
 returns-3 c =
     let k = c .before .before .before .before .before .before .before in
@@ -177,23 +141,6 @@ returns-3 c =
 
 pub number-in-spec : {M : Type 1} → statement M
 number-in-spec =
-    tie.close
-    (tie.spec
-    slice-aggregate-open
-    slice-aggregate-open-2
-    slice-aggregate-open-3
-    open-requires
-    same-length
-    same-length-2
-    returns
-    is-held-requires
-    same-length-3
-    same-length-4
-    returns-2
-    slice-aggregate-clashes-with-any
-    slice-aggregate-clashes-with-any-2
-    clashes-with-any-requires
-    number-left-requires
-    same-length-5
-    same-length-6
-    returns-3)
+    tie.close (tie.spec (λ c. search needs) (λ c. search needs) (λ c. search needs) (λ c κs. search needs) (λ c. search needs) (λ c. search needs)
+    returns is-held-requires (λ c. search needs) (λ c. search needs) returns-2 (λ c. search needs) (λ c. search needs) clashes-with-any-requires
+    number-left-requires (λ c. search needs) (λ c. search needs) returns-3)

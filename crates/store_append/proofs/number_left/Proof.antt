@@ -21,12 +21,6 @@ returns-2 c =
     let t = c .before .if1 .left in
     record { clashes = λ e. false-true (sym t ∙ e); too-many = λ f e. refl; too-long = λ f l. refl; none = λ f n l. absurd (n (c .if2 .taken)) }
 
-head-size-requires : tie.Need-head-size-requires
-head-size-requires c κs = search needs
-
-add-if3 : tie.Need-add-if3
-add-if3 c = search needs
-
 returns-3 : tie.Need-returns-3
 returns-3 c =
     let k = c .before in
@@ -50,4 +44,5 @@ returns-4 c =
     }
 
 pub number-left-spec : {M : Type 1} → statement M
-number-left-spec = tie.close (tie.spec returns returns-2 head-size-requires add-if3 returns-3 returns-4)
+number-left-spec =
+    tie.close (tie.spec returns returns-2 (λ c κs. search needs) (λ c. search needs) returns-3 returns-4)

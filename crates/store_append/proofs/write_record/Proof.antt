@@ -10,7 +10,9 @@ use lib.ListN.{length, take, drop, length-append}
 use Rattle.reference.specs.References.{image-id}
 use Rattle.store_record.specs.Image.{Image}
 use Rattle.store_record.specs.Record.{headOf, recordOf}
-use Rattle.store_write.proofs.Writing.{Writes, kept-length, lent-length, part-written}
+use Rattle.laws.specs.Writes.{Writes}
+use Rattle.laws.proofs.Writing
+use Rattle.laws.proofs.Writing.{lent-length, part-written}
 use Rattle.store_append.specs.Append.{appended, imageWith}
 use Rattle.store_append.proofs.Appending.{record-parts, record-length, first-length, begun, ended}
 use Rattle.store_append.proofs.write_record.Statement.{statement}
@@ -85,15 +87,6 @@ all-written c =
     let h = headed c in
     part-written (head-written h) (at h) _ (text (begin h)) (at-length h) (record { fits = text-fits h; all = c .copy .ensures })
 
-sub-write-head : tie.Need-sub-write-head
-sub-write-head c = search needs
-
-part-write-head-start : tie.Need-part-write-head-start
-part-write-head-start c = search needs
-
-part-write-head-end : tie.Need-part-write-head-end
-part-write-head-end c = search needs
-
 write-head-requires : tie.Need-write-head-requires
 write-head-requires c κs =
     let a = c .before .before .before .before .before in
@@ -108,19 +101,16 @@ add-at c =
 sub-copy : tie.Need-sub-copy
 sub-copy c =
     let h = c .before .before in
-    omega (arith, space (begin h), h .write-head .ensures .0, kept-length (head-written h))
+    omega (arith, space (begin h), h .write-head .ensures .0, Writing.same-length (head-written h))
 
 part-copy-start : tie.Need-part-copy-start
 part-copy-start c = sub-copy c
-
-part-copy-end : tie.Need-part-copy-end
-part-copy-end c = search needs
 
 copy-requires : tie.Need-copy-requires
 copy-requires c κs = text-fits (c .before .before .before)
 
 same-length : tie.Need-same-length
-same-length c = kept-length (all-written (c .before .before))
+same-length c = Writing.same-length (all-written (c .before .before))
 
 returns : tie.Need-returns
 returns c =
@@ -131,16 +121,5 @@ returns c =
 
 pub write-record-spec : {M : Type 1} → statement M
 write-record-spec =
-    tie.close
-    (tie.spec
-    sub-write-head
-    part-write-head-start
-    part-write-head-end
-    write-head-requires
-    add-at
-    sub-copy
-    part-copy-start
-    part-copy-end
-    copy-requires
-    same-length
-    returns)
+    tie.close (tie.spec (λ c. search needs) (λ c. search needs) (λ c. search needs) write-head-requires add-at sub-copy part-copy-start
+    (λ c. search needs) copy-requires same-length returns)

@@ -42,15 +42,6 @@ any-shared-requires c κs =
     let n = p .2 .names in
     (p .0, p .1, n .space, omega (arith, n .space, n .sorting))
 
-same-length : tie.Need-same-length
-same-length c = search needs
-
-same-length-2 : tie.Need-same-length-2
-same-length-2 c = search needs
-
-same-length-3 : tie.Need-same-length-3
-same-length-3 c = search needs
-
 returns-2 : tie.Need-returns-2
 returns-2 c = sym (parts (c .before .before .before .before .before .before .before) (c .if2 .taken))
 
@@ -61,21 +52,6 @@ any-conflict-requires c κs =
     let n = k .any-shared .ensures .1 in
     (p .0, space-kept (p .2) _ _ _ _ (n .1) (n .2) refl refl)
 
-same-length-4 : tie.Need-same-length-4
-same-length-4 c = search needs
-
-same-length-5 : tie.Need-same-length-5
-same-length-5 c = search needs
-
-same-length-6 : tie.Need-same-length-6
-same-length-6 c = search needs
-
-same-length-7 : tie.Need-same-length-7
-same-length-7 c = search needs
-
-same-length-8 : tie.Need-same-length-8
-same-length-8 c = search needs
-
 returns-3 : tie.Need-returns-3
 returns-3 c =
     let d = c .before .before .before .before .before .before .before .before in
@@ -84,18 +60,5 @@ returns-3 c =
 
 pub any-clash-spec : {M : Type 1} → statement M
 any-clash-spec =
-    tie.close
-    (tie.spec
-    returns
-    any-shared-requires
-    same-length
-    same-length-2
-    same-length-3
-    returns-2
-    any-conflict-requires
-    same-length-4
-    same-length-5
-    same-length-6
-    same-length-7
-    same-length-8
-    returns-3)
+    tie.close (tie.spec returns any-shared-requires (λ c. search needs) (λ c. search needs) (λ c. search needs) returns-2 any-conflict-requires
+    (λ c. search needs) (λ c. search needs) (λ c. search needs) (λ c. search needs) (λ c. search needs) returns-3)

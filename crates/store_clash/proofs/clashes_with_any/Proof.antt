@@ -12,31 +12,16 @@ use Rattle.store_clash.proofs.clashes_with_any.Tie as tie
 
 -- where the image's own names were looked up
 abbrev start : tie.After-shares-from → tie.Start
-start c = c .before .before .before .before .before .before .before .before .before .before .before .before .before
+start c = c .before .before .before .before .before .before .before .before .before .before .before .before .before .before
 
 -- where those of its layers are sorted
 abbrev shared : tie.After-sort-layers → tie.After-shares-from
 shared c = c .before .before .before .before .before .before .before .before .before .before .before .before
 
-has-signer-requires : tie.Need-has-signer-requires
-has-signer-requires c κs = search needs
-
 returns : tie.Need-returns
 returns c =
     let a = c .before .before .before .before .before .before .before .before .before .args in
     sym (clash-none (now (a .b)) (a .v) 0 (a .a) (now (a .signer)) (now (a .s)) (sym (c .before .has-signer .ensures) ∙ not-true _ (c .if1 .taken)))
-
-shares-from-requires : tie.Need-shares-from-requires
-shares-from-requires c κs = search needs
-
-same-length : tie.Need-same-length
-same-length c = search needs
-
-same-length-2 : tie.Need-same-length-2
-same-length-2 c = search needs
-
-same-length-3 : tie.Need-same-length-3
-same-length-3 c = search needs
 
 returns-2 : tie.Need-returns-2
 returns-2 c =
@@ -51,30 +36,15 @@ sort-layers-requires c κs =
     let n = k .shares-from .kept .1 .1 .1 .1 .1 .1 .1 .1 in
     (p .0, space-kept (p .2) _ _ _ _ (n .0) (n .1 .0) (n .1 .1 .0) refl)
 
-slice-reshare-prefix-conflicts-with-any : tie.Need-slice-reshare-prefix-conflicts-with-any
-slice-reshare-prefix-conflicts-with-any c = search needs
-
-slice-aggregate-conflicts-with-any : tie.Need-slice-aggregate-conflicts-with-any
-slice-aggregate-conflicts-with-any c =
+slice-aggregate-any-clashes-in : tie.Need-slice-aggregate-any-clashes-in
+slice-aggregate-any-clashes-in c =
     sym (length-take-le _ _ (c .before .before .before .before .before .before .before .before .before .sort-layers .ensures .0))
 
-conflicts-with-any-requires : tie.Need-conflicts-with-any-requires
-conflicts-with-any-requires c κs =
+any-clashes-in-requires : tie.Need-any-clashes-in-requires
+any-clashes-in-requires c κs =
     let f = c .before .before .before .before .before .before .before .before .before .before .before in
     let r = f .sort-layers .ensures in
     (r .1, r .2, start (shared f) .pre .1)
-
-same-length-4 : tie.Need-same-length-4
-same-length-4 c = search needs
-
-same-length-5 : tie.Need-same-length-5
-same-length-5 c = search needs
-
-same-length-6 : tie.Need-same-length-6
-same-length-6 c = search needs
-
-same-length-7 : tie.Need-same-length-7
-same-length-7 c = search needs
 
 returns-3 : tie.Need-returns-3
 returns-3 c =
@@ -82,25 +52,10 @@ returns-3 c =
     let k = shared f in
     let a = start k .args in
     let none = sym (k .shares-from .ensures) ∙ f .before .before .before .before .before .if2 .left in
-    c .conflicts-with-any .ensures ∙ sym (clash-layers (now (a .b)) (a .v) 0 (a .a) (now (a .signer)) (now (a .s)) none)
+    c .any-clashes-in .ensures ∙ sym (clash-layers (now (a .b)) (a .v) 0 (a .a) (now (a .signer)) (now (a .s)) none)
 
 pub clashes-with-any-spec : {M : Type 1} → statement M
 clashes-with-any-spec =
-    tie.close
-    (tie.spec
-    has-signer-requires
-    returns
-    shares-from-requires
-    same-length
-    same-length-2
-    same-length-3
-    returns-2
-    sort-layers-requires
-    slice-reshare-prefix-conflicts-with-any
-    slice-aggregate-conflicts-with-any
-    conflicts-with-any-requires
-    same-length-4
-    same-length-5
-    same-length-6
-    same-length-7
-    returns-3)
+    tie.close (tie.spec (λ c κs. search needs) returns (λ c κs. search needs) (λ c. search needs) (λ c. search needs) (λ c. search needs)
+    (λ c. search needs) returns-2 sort-layers-requires (λ c. search needs) slice-aggregate-any-clashes-in any-clashes-in-requires (λ c. search needs)
+    (λ c. search needs) (λ c. search needs) (λ c. search needs) returns-3)

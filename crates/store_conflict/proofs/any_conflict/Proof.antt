@@ -110,22 +110,5 @@ returns-2 c =
 
 pub any-conflict-spec : {M : Type 1} → statement M
 any-conflict-spec =
-    tie.close
-    (tie.spec
-    Inv-loop
-    μ-loop
-    loop-holds
-    conflicts-later-requires
-    same-length
-    same-length-2
-    same-length-3
-    same-length-4
-    returns
-    add-i
-    loop-less
-    loop-again
-    same-length-5
-    same-length-6
-    same-length-7
-    same-length-8
-    returns-2)
+    tie.close (tie.spec Inv-loop μ-loop loop-holds conflicts-later-requires same-length same-length-2 same-length-3 same-length-4 returns add-i
+    loop-less loop-again same-length-5 same-length-6 same-length-7 same-length-8 returns-2)

@@ -24,15 +24,6 @@ read c = c .before .before .before
 inside : (a : tie.Start) → RecordIn (now (a .args .b)) (getD (a .args .t2 .records) (a .args .i .0) noRecord)
 inside a = a .pre .0 .fills .each (a .args .i .0) (a .pre .1)
 
-mul-r : tie.Need-mul-r
-mul-r c = search needs
-
-element-copy-out-r : tie.Need-element-copy-out-r
-element-copy-out-r c = search needs
-
-add-has-signer : tie.Need-add-has-signer
-add-has-signer c = search needs
-
 sub-has-signer : tie.Need-sub-has-signer
 sub-has-signer c = let r = inside (start c) in omega (arith, r .signer)
 
@@ -42,21 +33,12 @@ part-has-signer-start c = let r = inside (start c) in omega (arith, r .signer)
 part-has-signer-end : tie.Need-part-has-signer-end
 part-has-signer-end c = let r = inside (start c) in omega (arith, r .manifest, r .text, r .within)
 
-has-signer-requires : tie.Need-has-signer-requires
-has-signer-requires c κs = search needs
-
 returns : tie.Need-returns
 unfolding between
 returns c =
     let a = start (c .before .before .before) .args in
     sym (layers-held (now (a .b)) (a .t2) (a .i .0 + 1) _
     ∙ layers-none (now (a .b)) (a .t2) (a .i .0 + 1) _ _ _ (sym (c .before .has-signer .ensures) ∙ not-true _ (c .if1 .taken)))
-
-mul-p : tie.Need-mul-p
-mul-p c = search needs
-
-array-copy-out-p : tie.Need-array-copy-out-p
-array-copy-out-p c = search needs
 
 sub-s : tie.Need-sub-s
 sub-s c = let r = inside (start (read (c .before))) in omega (arith, r .text)
@@ -80,61 +62,20 @@ sort-layers-requires : tie.Need-sort-layers-requires
 unfolding between
 sort-layers-requires c κs = let p = start (read (c .before .before .before .before .before .before .before)) .pre in (opened-at _ _ _ (p .0) _ (p .1) _, p .2)
 
-slice-reshare-prefix-conflicts-with-any : tie.Need-slice-reshare-prefix-conflicts-with-any
-slice-reshare-prefix-conflicts-with-any c = search needs
-
-slice-aggregate-conflicts-with-any : tie.Need-slice-aggregate-conflicts-with-any
-slice-aggregate-conflicts-with-any c =
+slice-aggregate-any-clashes-in : tie.Need-slice-aggregate-any-clashes-in
+slice-aggregate-any-clashes-in c =
     sym (length-take-le _ _ (c .before .before .before .before .before .before .before .before .before .sort-layers .ensures .0))
-
-conflicts-with-any-requires : tie.Need-conflicts-with-any-requires
-conflicts-with-any-requires c κs = search needs
-
-same-length : tie.Need-same-length
-same-length c = search needs
-
-same-length-2 : tie.Need-same-length-2
-same-length-2 c = search needs
-
-same-length-3 : tie.Need-same-length-3
-same-length-3 c = search needs
-
-same-length-4 : tie.Need-same-length-4
-same-length-4 c = search needs
 
 returns-2 : tie.Need-returns-2
 unfolding between
 returns-2 c =
     let f = c .before .before .before .before .before .before .before .before .before .before .before .before in
     let a = start (read (f .before .before .before .before .before .before .before .before)) .args in
-    c .conflicts-with-any .ensures ∙ sym (layers-held (now (a .b)) (a .t2) (a .i .0 + 1) _)
+    c .any-clashes-in .ensures ∙ sym (layers-held (now (a .b)) (a .t2) (a .i .0 + 1) _)
 
 pub conflicts-later-spec : {M : Type 1} → statement M
 conflicts-later-spec =
-    tie.close
-    (tie.spec
-    mul-r
-    element-copy-out-r
-    add-has-signer
-    sub-has-signer
-    part-has-signer-start
-    part-has-signer-end
-    has-signer-requires
-    returns
-    mul-p
-    array-copy-out-p
-    sub-s
-    part-s-start
-    part-s-end
-    sub-signer
-    part-signer-start
-    part-signer-end
-    sort-layers-requires
-    slice-reshare-prefix-conflicts-with-any
-    slice-aggregate-conflicts-with-any
-    conflicts-with-any-requires
-    same-length
-    same-length-2
-    same-length-3
-    same-length-4
-    returns-2)
+    tie.close (tie.spec (λ c. search needs) (λ c. search needs) (λ c. search needs) sub-has-signer part-has-signer-start part-has-signer-end
+    (λ c κs. search needs) returns (λ c. search needs) (λ c. search needs) sub-s part-s-start part-s-end sub-signer part-signer-start part-signer-end
+    sort-layers-requires (λ c. search needs) slice-aggregate-any-clashes-in (λ c κs. search needs) (λ c. search needs) (λ c. search needs)
+    (λ c. search needs) (λ c. search needs) returns-2)

@@ -25,9 +25,6 @@ start l = l .before .before .before
 fits : (a : tie.Start Inv-loop μ-loop) → a .args .t2 .count ≤ length (a .args .t2 .records)
 fits a = omega (arith, records-size (a .args .t2) (a .good .1 .0), a .pre .few)
 
-loop-holds : tie.Need-loop-holds Inv-loop μ-loop
-loop-holds c = refl
-
 mul-r : tie.Need-mul-r Inv-loop μ-loop
 mul-r c = omega (arith, start (c .before) .pre .few, c .loop-test .taken)
 
@@ -71,16 +68,4 @@ returns-2 c =
 
 pub has-signer-spec : {M : Type 1} → statement M
 has-signer-spec =
-    tie.close
-    (tie.spec
-    Inv-loop
-    μ-loop
-    loop-holds
-    mul-r
-    element-copy-out-r
-    is-signed-by-requires
-    returns
-    add-j
-    loop-less
-    loop-again
-    returns-2)
+    tie.close (tie.spec Inv-loop μ-loop (λ c. refl) mul-r element-copy-out-r is-signed-by-requires returns add-j loop-less loop-again returns-2)

@@ -13,9 +13,6 @@ sort-contents-requires c κs =
     let p = c .before .before .before .before .before .before .before .before .pre in
     (p .0, p .1 .names, omega (arith, opened-short _ _ (p .0), p .1 .keys-space))
 
-slice-reshare-prefix-fill-heads : tie.Need-slice-reshare-prefix-fill-heads
-slice-reshare-prefix-fill-heads c = search needs
-
 slice-aggregate-fill-heads : tie.Need-slice-aggregate-fill-heads
 slice-aggregate-fill-heads c = sym (length-take-le _ _ (c .before .before .before .before .before .before .before .sort-contents .ensures .0))
 
@@ -27,18 +24,6 @@ fill-heads-requires c κs =
     let p = f .before .before .before .before .before .before .before .before .before .pre in
     (contents-names (r .ensures .1), omega (arith, l, r .ensures .0, r .kept .1 .1 .0, p .1 .heads-space))
 
-same-length : tie.Need-same-length
-same-length c = search needs
-
-same-length-2 : tie.Need-same-length-2
-same-length-2 c = search needs
-
-same-length-3 : tie.Need-same-length-3
-same-length-3 c = search needs
-
-same-length-4 : tie.Need-same-length-4
-same-length-4 c = search needs
-
 returns : tie.Need-returns
 returns c =
     let r = c .before .before .before .before .before .before .before .before .before .before .before .sort-contents .ensures in
@@ -46,14 +31,5 @@ returns c =
 
 pub sort-layers-spec : {M : Type 1} → statement M
 sort-layers-spec =
-    tie.close
-    (tie.spec
-    sort-contents-requires
-    slice-reshare-prefix-fill-heads
-    slice-aggregate-fill-heads
-    fill-heads-requires
-    same-length
-    same-length-2
-    same-length-3
-    same-length-4
-    returns)
+    tie.close (tie.spec sort-contents-requires (λ c. search needs) slice-aggregate-fill-heads fill-heads-requires (λ c. search needs)
+    (λ c. search needs) (λ c. search needs) (λ c. search needs) returns)

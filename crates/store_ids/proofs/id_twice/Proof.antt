@@ -99,23 +99,5 @@ returns-2 c =
 
 pub id-twice-spec : {M : Type 1} → statement M
 id-twice-spec =
-    tie.close
-    (tie.spec
-    Inv-loop
-    μ-loop
-    loop-holds
-    mul-r
-    element-copy-out-r
-    sub-is-held
-    part-is-held-start
-    part-is-held-end
-    sub-is-held-2
-    part-is-held-start-2
-    part-is-held-end-2
-    add-t24
-    is-held-requires
-    returns
-    add-i
-    loop-less
-    loop-again
-    returns-2)
+    tie.close (tie.spec Inv-loop μ-loop loop-holds mul-r element-copy-out-r sub-is-held part-is-held-start part-is-held-end sub-is-held-2
+    part-is-held-start-2 part-is-held-end-2 add-t24 is-held-requires returns add-i loop-less loop-again returns-2)

@@ -23,9 +23,6 @@ abbrev μ-loop : tie.MeasureT-loop
 fits : (a : tie.Start Inv-loop μ-loop) → a .args .t2 .count ≤ length (a .args .t2 .records)
 fits a = omega (arith, records-size (a .args .t2) (a .good .1 .0), a .pre .few)
 
-loop-holds : tie.Need-loop-holds Inv-loop μ-loop
-loop-holds c = refl
-
 mul-r : tie.Need-mul-r Inv-loop μ-loop
 mul-r c = omega (arith, c .before .before .before .before .before .pre .few, c .loop-test .taken)
 
@@ -69,16 +66,4 @@ returns-2 c =
 
 pub is-held-spec : {M : Type 1} → statement M
 is-held-spec =
-    tie.close
-    (tie.spec
-    Inv-loop
-    μ-loop
-    loop-holds
-    mul-r
-    element-copy-out-r
-    has-id-requires
-    returns
-    add-j
-    loop-less
-    loop-again
-    returns-2)
+    tie.close (tie.spec Inv-loop μ-loop (λ c. refl) mul-r element-copy-out-r has-id-requires returns add-j loop-less loop-again returns-2)

@@ -31,18 +31,6 @@ module _ (t : tie.In-loop Inv-loop μ-loop) where
 abbrev turn : tie.After-slice-known2 Inv-loop μ-loop → tie.In-loop Inv-loop μ-loop
 turn c = c .before .before .before .before .before
 
-loop-holds : tie.Need-loop-holds Inv-loop μ-loop
-loop-holds c = (omega arith, indexed-none _ _ _ _)
-
-mul-count : tie.Need-mul-count Inv-loop μ-loop
-mul-count c = omega (arith, few c)
-
-shared-slice-read-count : tie.Need-shared-slice-read-count Inv-loop μ-loop
-shared-slice-read-count c = let t = c .before in omega (arith, few t, start t .pre .2)
-
-cast-count : tie.Need-cast-count Inv-loop μ-loop
-cast-count c = omega (arith, few-aliases (c .before))
-
 index-image-requires : tie.Need-index-image-requires Inv-loop μ-loop
 index-image-requires c κs =
     let t = c .before .before in
@@ -55,21 +43,12 @@ index-image-requires c κs =
       start t .pre .0 .each (l .i) (t .loop-test .taken),
     )
 
-add-i : tie.Need-add-i Inv-loop μ-loop
-add-i c = omega (arith, few (turn c))
-
-loop-less : tie.Need-loop-less Inv-loop μ-loop
-loop-less c = omega (arith, turn c .loop-test .taken)
-
 loop-again : tie.Need-loop-again Inv-loop μ-loop
 loop-again c =
     let t = turn c in
     let l = t .before .loop in
     let e = c .before .before .index-image .ensures in
     (omega (arith, t .loop-test .taken), indexed-next _ _ _ _ (l .i) (l .n) (l .order) (l .inv .1) (few-aliases t) _ _ (e .0) (e .1) (e .2))
-
-same-length : tie.Need-same-length Inv-loop μ-loop
-same-length c = c .before .loop .inv .1 .space
 
 returns : tie.Need-returns Inv-loop μ-loop
 returns c =
@@ -81,17 +60,6 @@ returns c =
 
 pub index-all-spec : {M : Type 1} → statement M
 index-all-spec =
-    tie.close
-    (tie.spec
-    Inv-loop
-    μ-loop
-    loop-holds
-    mul-count
-    shared-slice-read-count
-    cast-count
-    index-image-requires
-    add-i
-    loop-less
-    loop-again
-    same-length
-    returns)
+    tie.close (tie.spec Inv-loop μ-loop (λ c. (omega arith, indexed-none _ _ _ _)) (λ c. omega (arith, few c))
+    (λ c. let t = c .before in omega (arith, few t, start t .pre .2)) (λ c. omega (arith, few-aliases (c .before))) index-image-requires
+    (λ c. omega (arith, few (turn c))) (λ c. omega (arith, turn c .loop-test .taken)) loop-again (λ c. c .before .loop .inv .1 .space) returns)

@@ -15,12 +15,6 @@ abbrev μ-loop : tie.MeasureT-loop
 abbrev start : tie.In-loop Inv-loop μ-loop → tie.Start Inv-loop μ-loop
 start t = t .before .before .before .before .before .before
 
-mul-first : tie.Need-mul-first Inv-loop μ-loop
-mul-first c = omega (arith, c .before .before .before .before .pre .1)
-
-loop-holds : tie.Need-loop-holds Inv-loop μ-loop
-loop-holds c = (omega arith, adding-none _ _ _ _ _)
-
 add-e : tie.Need-add-e Inv-loop μ-loop
 add-e c = let p = start c .pre in omega (arith, p .1, p .2, c .loop-test .taken)
 
@@ -56,9 +50,6 @@ loop-again c =
 add-result : tie.Need-add-result Inv-loop μ-loop
 add-result c = omega (arith, c .before .before .before .before .before .before .pre .3)
 
-same-length : tie.Need-same-length Inv-loop μ-loop
-same-length c = c .before .loop .inv .1 .length-kept
-
 returns : tie.Need-returns Inv-loop μ-loop
 returns c =
     let l = c .before .loop in
@@ -68,19 +59,5 @@ returns c =
 
 pub index-image-spec : {M : Type 1} → statement M
 index-image-spec =
-    tie.close
-    (tie.spec
-    Inv-loop
-    μ-loop
-    mul-first
-    loop-holds
-    add-e
-    add-add
-    cast-add
-    add-requires
-    add-k
-    loop-less
-    loop-again
-    add-result
-    same-length
-    returns)
+    tie.close (tie.spec Inv-loop μ-loop (λ c. omega (arith, c .before .before .before .before .pre .1)) (λ c. (omega arith, adding-none _ _ _ _ _))
+    add-e add-add cast-add add-requires add-k loop-less loop-again add-result (λ c. c .before .loop .inv .1 .length-kept) returns)

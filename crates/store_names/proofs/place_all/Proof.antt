@@ -5,12 +5,8 @@ use mathlib.Core.Path.{_≡_, refl, sym, _∙_}
 use native.Mathlib.Omega.{arith}
 use borrow.Author.Needs.{needs}
 use borrow.Rule.Slice.PartMut.{midOf, mid-len}
-use denote.Ref.{now}
-use lib.ListN.{getD, length}
-use Rattle.manifest.specs.Opened.{Opens}
-use Rattle.manifest.specs.declared.Places.{Places}
-use Rattle.store_record.specs.Reading.{between, noRecord, RecordIn}
-use Rattle.store_record.specs.declared.Record.{Record}
+use lib.ListN.{length}
+use Rattle.store_record.specs.Reading.{between}
 use Rattle.store_names.proofs.Opened.{opened-at}
 use Rattle.store_names.specs.Placed.{PlacedUpTo}
 use Rattle.store_names.proofs.Placing.{placed-none, placed-next}
@@ -28,17 +24,8 @@ module _ (t : tie.In-loop Inv-loop μ-loop) where
   abbrev start : tie.Start Inv-loop μ-loop
   start = t .before .before .before .before .before .before
 
-  abbrev reached : Record
-  reached = getD (start .args .t2 .records) (t .before .loop .i) noRecord
-
   few : t .before .loop .i < 64
   few = omega (arith, t .loop-test .taken, start .pre .0 .fills .few)
-
-  inside : RecordIn (now (start .args .b)) reached
-  inside = start .pre .0 .fills .each _ (t .loop-test .taken)
-
-  opened : (d : Places) → Opens (between (now (start .args .b)) (reached .text) (reached .end)) (getD (start .args .t3) (t .before .loop .i) d)
-  opened = opened-at _ _ _ (start .pre .0) _ (t .loop-test .taken)
 
   -- the first of its places
   abbrev first : ℕ
@@ -60,53 +47,21 @@ placed c = c .before .before .before .before
 loop-holds : tie.Need-loop-holds Inv-loop μ-loop
 loop-holds c = let p = c .before .before .before .before .pre in (omega arith, placed-none _ _ _ _ (p .2) (p .3), refl)
 
-mul-r : tie.Need-mul-r Inv-loop μ-loop
-mul-r c = omega (arith, few c)
-
-element-copy-out-r : tie.Need-element-copy-out-r Inv-loop μ-loop
-element-copy-out-r c = few c
-
-mul-q : tie.Need-mul-q Inv-loop μ-loop
-mul-q c = omega (arith, few (c .before))
-
-array-copy-out-q : tie.Need-array-copy-out-q Inv-loop μ-loop
-array-copy-out-q c = few (c .before)
-
-mul-first : tie.Need-mul-first Inv-loop μ-loop
-mul-first c = omega (arith, few (c .before .before))
-
-mul-place-self : tie.Need-mul-place-self Inv-loop μ-loop
-mul-place-self c = omega (arith, few (c .before .before .before))
-
-sub-place-self : tie.Need-sub-place-self Inv-loop μ-loop
-sub-place-self c = omega (arith, fits (c .before .before .before))
-
-part-place-self-start : tie.Need-part-place-self-start Inv-loop μ-loop
-part-place-self-start c = omega (arith, fits (c .before .before .before))
-
-part-place-self-end : tie.Need-part-place-self-end Inv-loop μ-loop
-part-place-self-end c = search needs
-
 place-self-requires : tie.Need-place-self-requires Inv-loop μ-loop
 unfolding between
 place-self-requires c κs =
     let t = c .before .before .before .before in
-    (inside t .text, inside t .within, opened t _, omega (arith, t .before .loop .inv .2, start t .pre .1), omega (arith, lent t, fits t))
-
-cast-counts : tie.Need-cast-counts Inv-loop μ-loop
-cast-counts c = omega (arith, placed c .place-self .ensures .0)
-
-mul-counts : tie.Need-mul-counts Inv-loop μ-loop
-mul-counts c = omega (arith, few (turn c))
+    let o = start t .pre .0 in
+    let r = o .fills .each _ (t .loop-test .taken) in (
+      r .text,
+      r .within,
+      opened-at _ _ _ o _ (t .loop-test .taken) _,
+      omega (arith, t .before .loop .inv .2, start t .pre .1),
+      omega (arith, lent t, fits t),
+    )
 
 slice-write-counts : tie.Need-slice-write-counts Inv-loop μ-loop
 slice-write-counts c = omega (arith, few (turn c), turn c .before .loop .inv .1 .counts-space)
-
-add-i : tie.Need-add-i Inv-loop μ-loop
-add-i c = omega (arith, few (turn c))
-
-loop-less : tie.Need-loop-less Inv-loop μ-loop
-loop-less c = omega (arith, turn c .loop-test .taken)
 
 loop-again : tie.Need-loop-again Inv-loop μ-loop
 unfolding between
@@ -118,9 +73,6 @@ loop-again c =
       placed-next _ _ _ _ (l .i) (l .inv .1) (few t) (placed c .place-self .result) _ (e .0) (omega (arith, e .1, lent t, fits t)) (e .3),
       e .4 ∙ l .inv .2,
     )
-
-same-length : tie.Need-same-length Inv-loop μ-loop
-same-length c = c .before .loop .inv .2
 
 same-length-2 : tie.Need-same-length-2 Inv-loop μ-loop
 same-length-2 c = c .before .loop .inv .1 .at-space ∙ sym (c .before .before .before .before .before .before .pre .2)
@@ -136,28 +88,9 @@ returns c =
 
 pub place-all-spec : {M : Type 1} → statement M
 place-all-spec =
-    tie.close
-    (tie.spec
-    Inv-loop
-    μ-loop
-    loop-holds
-    mul-r
-    element-copy-out-r
-    mul-q
-    array-copy-out-q
-    mul-first
-    mul-place-self
-    sub-place-self
-    part-place-self-start
-    part-place-self-end
-    place-self-requires
-    cast-counts
-    mul-counts
-    slice-write-counts
-    add-i
-    loop-less
-    loop-again
-    same-length
-    same-length-2
-    same-length-3
-    returns)
+    tie.close (tie.spec Inv-loop μ-loop loop-holds (λ c. omega (arith, few c)) (λ c. few c) (λ c. omega (arith, few (c .before)))
+    (λ c. few (c .before)) (λ c. omega (arith, few (c .before .before))) (λ c. omega (arith, few (c .before .before .before)))
+    (λ c. omega (arith, fits (c .before .before .before))) (λ c. omega (arith, fits (c .before .before .before))) (λ c. search needs)
+    place-self-requires (λ c. omega (arith, placed c .place-self .ensures .0)) (λ c. omega (arith, few (turn c))) slice-write-counts
+    (λ c. omega (arith, few (turn c))) (λ c. omega (arith, turn c .loop-test .taken)) loop-again (λ c. c .before .loop .inv .2) same-length-2
+    same-length-3 returns)

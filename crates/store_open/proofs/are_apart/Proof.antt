@@ -13,21 +13,6 @@ returns c = twice-apart _ (c .before .id-twice .ensures) (c .if1 .taken)
 any-clash-requires : tie.Need-any-clash-requires
 any-clash-requires c κs = c .before .before .before .before .before .before .before .before .before .before .before .before .before .pre
 
-same-length : tie.Need-same-length
-same-length c = search needs
-
-same-length-2 : tie.Need-same-length-2
-same-length-2 c = search needs
-
-same-length-3 : tie.Need-same-length-3
-same-length-3 c = search needs
-
-same-length-4 : tie.Need-same-length-4
-same-length-4 c = search needs
-
-same-length-5 : tie.Need-same-length-5
-same-length-5 c = search needs
-
 returns-2 : tie.Need-returns-2
 returns-2 c =
     let k = c .before .before .before .before .before .before .before .before .before .before in
@@ -36,14 +21,5 @@ returns-2 c =
 
 pub are-apart-spec : {M : Type 1} → statement M
 are-apart-spec =
-    tie.close
-    (tie.spec
-    id-twice-requires
-    returns
-    any-clash-requires
-    same-length
-    same-length-2
-    same-length-3
-    same-length-4
-    same-length-5
-    returns-2)
+    tie.close (tie.spec id-twice-requires returns any-clash-requires (λ c. search needs) (λ c. search needs) (λ c. search needs) (λ c. search needs)
+    (λ c. search needs) returns-2)

@@ -40,12 +40,6 @@ sorted-kept c = ⊎-elim (λ w. omega (arith, ap length (w .9), w .3 .kept .1 .1
 spare-kept : (c : tie.Joined1) → length (c .if1 .spare) ≡ length (now (start (surveyed c) .args .spare))
 spare-kept c = ⊎-elim (λ w. omega (arith, ap length (w .10), w .3 .kept .1 .1 .1 .0)) (λ w. omega (arith, ap length (w .2))) (c .if1 .came)
 
-of-requires : tie.Need-of-requires
-of-requires c κs = search needs
-
-none-requires : tie.Need-none-requires
-none-requires c κs = search needs
-
 open-all-requires : tie.Need-open-all-requires
 open-all-requires c κs = let o = c .before .before .before .before in (fills o (c .before .before .if1 .taken), start o .pre .1 .names)
 
@@ -65,9 +59,6 @@ are-apart-requires c κs =
       },
     )
 
-same-length : tie.Need-same-length
-same-length c = search needs
-
 same-length-2 : tie.Need-same-length-2
 same-length-2 c =
     let k = c .before .before .before .before .before .before .before .before .before .before in
@@ -77,12 +68,6 @@ same-length-3 : tie.Need-same-length-3
 same-length-3 c =
     let k = c .before .before .before .before .before .before .before .before .before .before in
     omega (arith, spare-kept (k .before .before .before .before .before .before .before), k .are-apart .kept .1 .1 .1 .1 .1 .0)
-
-same-length-4 : tie.Need-same-length-4
-same-length-4 c = search needs
-
-same-length-5 : tie.Need-same-length-5
-same-length-5 c = search needs
 
 returns : tie.Need-returns
 returns c =
@@ -101,18 +86,5 @@ returns-2 c = tried (c .before) .broken (c .if2 .left)
 
 pub open-spec : {M : Type 1} → statement M
 open-spec =
-    tie.close
-    (tie.spec
-    of-requires
-    none-requires
-    open-all-requires
-    are-apart-requires
-    same-length
-    same-length-2
-    same-length-3
-    same-length-4
-    same-length-5
-    returns
-    same-length-6
-    same-length-7
-    returns-2)
+    tie.close (tie.spec (λ c κs. search needs) (λ c κs. search needs) open-all-requires are-apart-requires (λ c. search needs) same-length-2
+    same-length-3 (λ c. search needs) (λ c. search needs) returns same-length-6 same-length-7 returns-2)

@@ -52,9 +52,6 @@ free c =
     let r = at-record (c .before .before .before .before .before .before .before .before) in
     omega (arith, r .before .loop-test .taken, start (head r) .pre .0 .few)
 
-none-requires : tie.Need-none-requires Inv-loop μ-loop
-none-requires c κs = search needs
-
 loop-holds : tie.Need-loop-holds Inv-loop μ-loop
 loop-holds c = (nothing-opened _ _ _ refl, refl, refl)
 
@@ -79,9 +76,6 @@ check-with-requires c κs =
     let p = start l .pre .1 in
     record { space = omega (arith, l .loop .inv .1, p .space); sorting = omega (arith, l .loop .inv .1, l .loop .inv .2, p .sorting) }
 
-enum-told : tie.Need-enum-told Inv-loop μ-loop
-enum-told c = search needs
-
 same-length : tie.Need-same-length Inv-loop μ-loop
 same-length c = let k = c .before .before .before .before .before .before in omega (arith, head (at-record k) .loop .inv .1, k .check-with .kept .1 .0)
 
@@ -96,9 +90,6 @@ returns c =
     let a = start l in
     found-unfit (now (a .args .b)) (a .args .t2) (fits a) (l .loop .places) (l .loop .i) (l .loop .inv .0) (r .before .loop-test .taken)
     (refused-unfit _ _ (answers k) (c .enum-told .given .1))
-
-enum-known-canonical : tie.Need-enum-known-canonical Inv-loop μ-loop
-enum-known-canonical c = search needs
 
 same-length-3 : tie.Need-same-length-3 Inv-loop μ-loop
 same-length-3 c =
@@ -158,31 +149,6 @@ returns-3 c =
 
 pub open-all-spec : {M : Type 1} → statement M
 open-all-spec =
-    tie.close
-    (tie.spec
-    Inv-loop
-    μ-loop
-    none-requires
-    loop-holds
-    mul-r
-    element-copy-out-r
-    sub-check-with
-    part-check-with-start
-    part-check-with-end
-    check-with-requires
-    enum-told
-    same-length
-    same-length-2
-    returns
-    enum-known-canonical
-    same-length-3
-    same-length-4
-    returns-2
-    mul-places
-    array-set-from-places
-    add-i
-    loop-less
-    loop-again
-    same-length-5
-    same-length-6
-    returns-3)
+    tie.close (tie.spec Inv-loop μ-loop (λ c κs. search needs) loop-holds mul-r element-copy-out-r sub-check-with part-check-with-start
+    part-check-with-end check-with-requires (λ c. search needs) same-length same-length-2 returns (λ c. search needs) same-length-3 same-length-4
+    returns-2 mul-places array-set-from-places add-i loop-less loop-again same-length-5 same-length-6 returns-3)

@@ -8,15 +8,6 @@ use Rattle.store_record.proofs.Reading.{no-length, too-long, with-body}
 use Rattle.store_record.proofs.read.Statement.{statement}
 use Rattle.store_record.proofs.read.Tie as tie
 
-read-requires : tie.Need-read-requires
-read-requires c κs = search needs
-
-enum-told : tie.Need-enum-told
-enum-told c = search needs
-
-enum-known-value : tie.Need-enum-known-value
-enum-known-value c = search needs
-
 -- the number, once it is read
 number-here : (c : tie.After-value)
     → let a = c .before .before .before .before in
@@ -56,14 +47,4 @@ returns-3 c =
 
 pub read-spec : {M : Type 1} → statement M
 read-spec =
-    tie.close
-    (tie.spec
-    read-requires
-    enum-told
-    enum-known-value
-    sub-if1
-    returns
-    add-body
-    body-requires
-    returns-2
-    returns-3)
+    tie.close (tie.spec (λ c κs. search needs) (λ c. search needs) (λ c. search needs) sub-if1 returns add-body body-requires returns-2 returns-3)

@@ -27,15 +27,6 @@ in-order k = let e = k .index-all .ensures in omega (arith, e .0, e .1, start (p
 fits : (a : tie.Start) → a .args .v .count ≤ length (a .args .v .records)
 fits a = omega (arith, records-size (a .args .v) (a .good .1 .0), a .pre .0 .fills .few)
 
-slice-aggregate-place-all : tie.Need-slice-aggregate-place-all
-slice-aggregate-place-all c = search needs
-
-place-all-requires : tie.Need-place-all-requires
-place-all-requires c κs = search needs
-
-slice-aggregate-index-all : tie.Need-slice-aggregate-index-all
-slice-aggregate-index-all c = search needs
-
 index-all-requires : tie.Need-index-all-requires
 index-all-requires c κs =
     let k = c .before .before .before .before .before .before .before .before in
@@ -43,34 +34,16 @@ index-all-requires c κs =
     let few = start k .pre .0 .fills .few in
     (placed-numbered _ _ _ _ _ few p, few, p .counts-space, start k .pre .2)
 
-slice-aggregate-group-all : tie.Need-slice-aggregate-group-all
-slice-aggregate-group-all c = search needs
-
-group-all-requires : tie.Need-group-all-requires
-group-all-requires c κs = search needs
-
 slice-reshare-prefix-shares-any : tie.Need-slice-reshare-prefix-shares-any
 slice-reshare-prefix-shares-any c = in-order (c .before .before .before .before .before .before)
 
 slice-aggregate-shares-any : tie.Need-slice-aggregate-shares-any
 slice-aggregate-shares-any c = sym (length-take-le _ _ (in-order (c .before .before .before .before .before .before .before)))
 
-slice-aggregate-shares-any-2 : tie.Need-slice-aggregate-shares-any-2
-slice-aggregate-shares-any-2 c = search needs
-
 shares-any-requires : tie.Need-shares-any-requires
 shares-any-requires c κs =
     let k = c .before .before .before .before .before .before .before .before in
     (some-index (k .index-all .ensures .2), placed k .place-all .ensures .at-space, c .before .before .before .before .group-all .ensures .0)
-
-same-length : tie.Need-same-length
-same-length c = search needs
-
-same-length-2 : tie.Need-same-length-2
-same-length-2 c = search needs
-
-same-length-3 : tie.Need-same-length-3
-same-length-3 c = search needs
 
 returns : tie.Need-returns
 returns c =
@@ -86,19 +59,6 @@ returns c =
 
 pub any-shared-spec : {M : Type 1} → statement M
 any-shared-spec =
-    tie.close
-    (tie.spec
-    slice-aggregate-place-all
-    place-all-requires
-    slice-aggregate-index-all
-    index-all-requires
-    slice-aggregate-group-all
-    group-all-requires
-    slice-reshare-prefix-shares-any
-    slice-aggregate-shares-any
-    slice-aggregate-shares-any-2
-    shares-any-requires
-    same-length
-    same-length-2
-    same-length-3
-    returns)
+    tie.close (tie.spec (λ c. search needs) (λ c κs. search needs) (λ c. search needs) index-all-requires (λ c. search needs) (λ c κs. search needs)
+    slice-reshare-prefix-shares-any slice-aggregate-shares-any (λ c. search needs) shares-any-requires (λ c. search needs) (λ c. search needs)
+    (λ c. search needs) returns)

@@ -72,16 +72,4 @@ returns-2 c =
 
 pub first-signed-spec : {M : Type 1} → statement M
 first-signed-spec =
-    tie.close
-    (tie.spec
-    Inv-loop
-    μ-loop
-    loop-holds
-    mul-r
-    element-copy-out-r
-    is-signed-by-requires
-    returns
-    add-j
-    loop-less
-    loop-again
-    returns-2)
+    tie.close (tie.spec Inv-loop μ-loop loop-holds mul-r element-copy-out-r is-signed-by-requires returns add-j loop-less loop-again returns-2)

@@ -86,22 +86,5 @@ returns c =
 
 pub group-all-spec : {M : Type 1} → statement M
 group-all-spec =
-    tie.close
-    (tie.spec
-    Inv-loop
-    μ-loop
-    loop-holds
-    mul-r
-    element-copy-out-r
-    sub-first-signed
-    part-first-signed-start
-    part-first-signed-end
-    first-signed-requires
-    cast-groups
-    mul-groups
-    slice-write-groups
-    add-i
-    loop-less
-    loop-again
-    same-length
-    returns)
+    tie.close (tie.spec Inv-loop μ-loop loop-holds mul-r element-copy-out-r sub-first-signed part-first-signed-start part-first-signed-end
+    first-signed-requires cast-groups mul-groups slice-write-groups add-i loop-less loop-again same-length returns)

@@ -12,7 +12,7 @@ use lib.Dec.{eqb}
 use lib.ListN.{length, take, drop, getD}
 use Rattle.laws.specs.Any.{anyOf}
 use Rattle.store_names.specs.Shared.{groupOf}
-use Rattle.store_names.proofs.Pairs.{any-part, any-part-end}
+use Rattle.laws.proofs.Pairs.{any-part, any-part-end}
 use Rattle.store_shared.proofs.meets.Statement.{statement}
 use Rattle.store_shared.proofs.meets.Tie as tie
 
@@ -53,9 +53,6 @@ module _ (t : tie.In-loop Inv-loop μ-loop) where
       ≡ (its (now (start .args .order)) (now (start .args .groups)) (start .args .m) (getD (now (start .args .order)) (t .before .loop .k) 0) || later)
   step = any-part _ _ _ _ (t .loop-test .taken) (omega (arith, start .pre .3))
 
-mul-e : tie.Need-mul-e Inv-loop μ-loop
-mul-e c = search needs
-
 shared-slice-read-e : tie.Need-shared-slice-read-e Inv-loop μ-loop
 shared-slice-read-e c = c .before .pre .3
 
@@ -67,12 +64,6 @@ mul-g c = omega (arith, at-m (c .before))
 
 shared-slice-read-g : tie.Need-shared-slice-read-g Inv-loop μ-loop
 shared-slice-read-g c = omega (arith, at-m (c .before .before), c .before .before .pre .1)
-
-loop-holds : tie.Need-loop-holds Inv-loop μ-loop
-loop-holds c = refl
-
-mul-f : tie.Need-mul-f Inv-loop μ-loop
-mul-f c = search needs
 
 shared-slice-read-f : tie.Need-shared-slice-read-f Inv-loop μ-loop
 shared-slice-read-f c = reached (c .before)
@@ -112,23 +103,5 @@ returns-2 c =
 
 pub meets-spec : {M : Type 1} → statement M
 meets-spec =
-    tie.close
-    (tie.spec
-    Inv-loop
-    μ-loop
-    mul-e
-    shared-slice-read-e
-    cast-e
-    mul-g
-    shared-slice-read-g
-    loop-holds
-    mul-f
-    shared-slice-read-f
-    cast-f
-    mul-if1
-    shared-slice-read-if1
-    returns
-    add-k
-    loop-less
-    loop-again
-    returns-2)
+    tie.close (tie.spec Inv-loop μ-loop (λ c. search needs) shared-slice-read-e cast-e mul-g shared-slice-read-g (λ c. refl) (λ c. search needs)
+    shared-slice-read-f cast-f mul-if1 shared-slice-read-if1 returns add-k loop-less loop-again returns-2)

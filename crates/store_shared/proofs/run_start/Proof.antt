@@ -10,21 +10,6 @@ use Rattle.store_shared.proofs.run_start.Tie as tie
 returns : tie.Need-returns
 returns c = run-first _ _ _ _ (c .if1 .taken)
 
-sub-is-same : tie.Need-sub-is-same
-sub-is-same c = search needs
-
-mul-is-same : tie.Need-mul-is-same
-mul-is-same c = search needs
-
-shared-slice-read-is-same : tie.Need-shared-slice-read-is-same
-shared-slice-read-is-same c = search needs
-
-mul-is-same-2 : tie.Need-mul-is-same-2
-mul-is-same-2 c = search needs
-
-shared-slice-read-is-same-2 : tie.Need-shared-slice-read-is-same-2
-shared-slice-read-is-same-2 c = search needs
-
 is-same-requires : tie.Need-is-same-requires
 is-same-requires c κs =
     let p = c .before .before .before .before .before .before .pre in
@@ -44,14 +29,5 @@ returns-3 c =
 
 pub run-start-spec : {M : Type 1} → statement M
 run-start-spec =
-    tie.close
-    (tie.spec
-    returns
-    sub-is-same
-    mul-is-same
-    shared-slice-read-is-same
-    mul-is-same-2
-    shared-slice-read-is-same-2
-    is-same-requires
-    returns-2
-    returns-3)
+    tie.close (tie.spec returns (λ c. search needs) (λ c. search needs) (λ c. search needs) (λ c. search needs) (λ c. search needs) is-same-requires
+    returns-2 returns-3)

@@ -36,9 +36,6 @@ returns c =
     sym (some-shared _ _ _ _ (t .before .loop .start) _ _ (t .before .loop .inv) (t .loop-test .taken) (k .run-start .ensures)
     (sym (c .before .meets .ensures) ∙ c .if1 .taken))
 
-add-m : tie.Need-add-m Inv-loop μ-loop
-add-m c = search needs
-
 loop-less : tie.Need-loop-less Inv-loop μ-loop
 loop-less c = omega (arith, c .before .before .before .loop-test .taken)
 
@@ -54,15 +51,4 @@ returns-2 c = sym (none-shared _ _ _ _ _ _ (c .loop-test .left) (c .before .loop
 
 pub shares-any-spec : {M : Type 1} → statement M
 shares-any-spec =
-    tie.close
-    (tie.spec
-    Inv-loop
-    μ-loop
-    loop-holds
-    run-start-requires
-    meets-requires
-    returns
-    add-m
-    loop-less
-    loop-again
-    returns-2)
+    tie.close (tie.spec Inv-loop μ-loop loop-holds run-start-requires meets-requires returns (λ c. search needs) loop-less loop-again returns-2)

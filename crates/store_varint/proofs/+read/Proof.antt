@@ -26,10 +26,6 @@ read-below t = and 1 read-kinds.ps (falls 1 read-kinds.ps _<_ μ-read t) read.Pr
 read-returns : (t : ℕ) → read-lts.Need-returns (read-below t, read.Post) (read-at t) read.Post
 read-returns t c = past-end _ _ _ (c .if1 .taken)
 
-read-shared-slice-read-b :
-    (t : ℕ) → read-lts.Need-shared-slice-read-b (read-below t, read.Post) (read-at t) read.Post
-read-shared-slice-read-b t c = omega arith
-
 read-cast-b : (t : ℕ) → read-lts.Need-cast-b (read-below t, read.Post) (read-at t) read.Post
 read-cast-b t c = omega (arith, c .shared-slice-known2 .given (c .before .before .before .args .i))
 
@@ -37,9 +33,6 @@ read-returns-2 : (t : ℕ) → read-lts.Need-returns-2 (read-below t, read.Post)
 read-returns-2 t c =
     let a = c .before .before .before .before .before in
     large-byte (now (a .args .s)) (a .args .i) (a .args .most) (omega arith) (c .before .if2 .taken) (c .if3 .taken)
-
-read-add-t13 : (t : ℕ) → read-lts.Need-add-t13 (read-below t, read.Post) (read-at t) read.Post
-read-add-t13 t c = omega arith
 
 read-returns-3 : (t : ℕ) → read-lts.Need-returns-3 (read-below t, read.Post) (read-at t) read.Post
 read-returns-3 t c =
@@ -50,20 +43,6 @@ read-returns-4 : (t : ℕ) → read-lts.Need-returns-4 (read-below t, read.Post)
 read-returns-4 t c =
     let a = c .before .before .before .before .before in
     none-here (now (a .args .s)) (a .args .i) (a .args .most) (omega arith) (c .before .if2 .left) (λ m r e p. omega arith)
-
-read-add-read : (t : ℕ) → read-lts.Need-add-read (read-below t, read.Post) (read-at t) read.Post
-read-add-read t c = omega arith
-
-read-read-requires :
-    (t : ℕ) → read-lts.Need-read-requires (read-below t, read.Post) (read-at t) read.Post
-read-read-requires t c κs = omega arith
-
-read-enum-told : (t : ℕ) → read-lts.Need-enum-told (read-below t, read.Post) (read-at t) read.Post
-read-enum-told t c = search needs
-
-read-enum-known-value :
-    (t : ℕ) → read-lts.Need-enum-known-value (read-below t, read.Post) (read-at t) read.Post
-read-enum-known-value t c = search needs
 
 -- the groups past the first, once they are read
 read-rest : (t : ℕ) (c : read-lts.After-value (read-below t, read.Post) (read-at t) read.Post)
@@ -126,27 +105,6 @@ read-returns-8 t c =
 
 pub +read-spec : {M : Type 1} → statement M
 +read-spec =
-    close
-    μ-read
-    λ t. read-lts.spec
-    (read-below t, read.Post)
-    (read-at t)
-    read.Post
-    (read-returns t)
-    (read-shared-slice-read-b t)
-    (read-cast-b t)
-    (read-returns-2 t)
-    (read-add-t13 t)
-    (read-returns-3 t)
-    (read-returns-4 t)
-    (read-add-read t)
-    (read-read-requires t)
-    (read-enum-told t)
-    (read-enum-known-value t)
-    (read-returns-5 t)
-    (read-sub-if6 t)
-    (read-returns-6 t)
-    (read-mul-t18 t)
-    (read-add-t19 t)
-    (read-returns-7 t)
-    (read-returns-8 t)
+    close μ-read λ t. read-lts.spec (read-below t, read.Post) (read-at t) read.Post (read-returns t) (λ c. omega arith) (read-cast-b t)
+    (read-returns-2 t) (λ c. omega arith) (read-returns-3 t) (read-returns-4 t) (λ c. omega arith) (λ c κs. omega arith) (λ c. search needs)
+    (λ c. search needs) (read-returns-5 t) (read-sub-if6 t) (read-returns-6 t) (read-mul-t18 t) (read-add-t19 t) (read-returns-7 t) (read-returns-8 t)

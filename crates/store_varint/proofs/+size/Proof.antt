@@ -23,10 +23,6 @@ size-below t = and 0 size-kinds.ps (falls 0 size-kinds.ps _<_ μ-size t) size.Pr
 size-returns : (t : ℕ) → size-lts.Need-returns (size-below t, size.Post) (size-at t) size.Post
 size-returns t c = sym (length-small _ (c .if1 .taken))
 
-size-size-requires :
-    (t : ℕ) → size-lts.Need-size-requires (size-below t, size.Post) (size-at t) size.Post
-size-size-requires t c κs = omega arith
-
 size-add-result :
     (t : ℕ) → size-lts.Need-add-result (size-below t, size.Post) (size-at t) size.Post
 size-add-result t c = omega (arith, varint-least (c .before .before .args .n / 128), c .size .ensures)
@@ -36,13 +32,5 @@ size-returns-2 t c = ap (λ (k : ℕ). 1 + k) (c .size .ensures) ∙ sym (length
 
 pub +size-spec : {M : Type 1} → statement M
 +size-spec =
-    close
-    μ-size
-    λ t. size-lts.spec
-    (size-below t, size.Post)
-    (size-at t)
-    size.Post
-    (size-returns t)
-    (size-size-requires t)
-    (size-add-result t)
+    close μ-size λ t. size-lts.spec (size-below t, size.Post) (size-at t) size.Post (size-returns t) (λ c κs. omega arith) (size-add-result t)
     (size-returns-2 t)

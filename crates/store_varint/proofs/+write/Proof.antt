@@ -24,29 +24,13 @@ write-at t = and 1 write-kinds.ps (is 1 write-kinds.ps μ-write t) write.Pre
 abbrev write-below : ℕ → In 1 write-kinds.ps
 write-below t = and 1 write-kinds.ps (falls 1 write-kinds.ps _<_ μ-write t) write.Pre
 
-write-cast-out :
-    (t : ℕ) → write-lts.Need-cast-out (write-below t, write.Post) (write-at t) write.Post
-write-cast-out t c = omega arith
-
 write-slice-write-out :
     (t : ℕ) → write-lts.Need-slice-write-out (write-below t, write.Post) (write-at t) write.Post
 write-slice-write-out t c = let a = c .before .before in space _ (now (a .args .out)) (a .pre .1)
 
-write-same-length :
-    (t : ℕ) → write-lts.Need-same-length (write-below t, write.Post) (write-at t) write.Post
-write-same-length t c = simp length-set
-
 write-returns :
     (t : ℕ) → write-lts.Need-returns (write-below t, write.Post) (write-at t) write.Post
 write-returns t c = let a = c .before .before in (sym (length-small _ (c .if1 .taken)), one-written _ _ (a .pre .1) (c .if1 .taken))
-
-write-add-out :
-    (t : ℕ) → write-lts.Need-add-out (write-below t, write.Post) (write-at t) write.Post
-write-add-out t c = omega arith
-
-write-cast-out-2 :
-    (t : ℕ) → write-lts.Need-cast-out-2 (write-below t, write.Post) (write-at t) write.Post
-write-cast-out-2 t c = omega arith
 
 write-slice-write-out-2 :
     (t : ℕ) → write-lts.Need-slice-write-out-2 (write-below t, write.Post) (write-at t) write.Post
@@ -59,10 +43,6 @@ write-sub-write t c = let a = c .before .before in begun-space _ (now (a .args .
 write-part-write-start :
     (t : ℕ) → write-lts.Need-part-write-start (write-below t, write.Post) (write-at t) write.Post
 write-part-write-start t c = let a = c .before .before in begun-space _ (now (a .args .out)) (a .pre .1) (c .if1 .left)
-
-write-part-write-end :
-    (t : ℕ) → write-lts.Need-part-write-end (write-below t, write.Post) (write-at t) write.Post
-write-part-write-end t c = le-refl _
 
 write-write-requires :
     (t : ℕ) → write-lts.Need-write-requires (write-below t, write.Post) (write-at t) write.Post
@@ -89,23 +69,6 @@ write-returns-2 t c =
 
 pub +write-spec : {M : Type 1} → statement M
 +write-spec =
-    close
-    μ-write
-    λ t. write-lts.spec
-    (write-below t, write.Post)
-    (write-at t)
-    write.Post
-    (write-cast-out t)
-    (write-slice-write-out t)
-    (write-same-length t)
-    (write-returns t)
-    (write-add-out t)
-    (write-cast-out-2 t)
-    (write-slice-write-out-2 t)
-    (write-sub-write t)
-    (write-part-write-start t)
-    (write-part-write-end t)
-    (write-write-requires t)
-    (write-add-result t)
-    (write-same-length-2 t)
-    (write-returns-2 t)
+    close μ-write λ t. write-lts.spec (write-below t, write.Post) (write-at t) write.Post (λ c. omega arith) (write-slice-write-out t)
+    (λ c. simp length-set) (write-returns t) (λ c. omega arith) (λ c. omega arith) (write-slice-write-out-2 t) (write-sub-write t)
+    (write-part-write-start t) (λ c. le-refl _) (write-write-requires t) (write-add-result t) (write-same-length-2 t) (write-returns-2 t)

@@ -1,9 +1,13 @@
 -- `store_record::copy` meets its contract. The loop's invariant: the first i bytes are written. The measure is how many are left.
 use Prim.Native.Nat.{_≤_, _-_}
 use denote.Ref.{now}
+use native.Mathlib.Nat.{zero-add}
 use native.Mathlib.Omega.{arith}
 use lib.ListN.{length, take}
-use Rattle.store_write.proofs.Writing.{Writes, nothing-written, kept-length, copied-byte, all-copied}
+use lib.Seq.{take-all}
+use Rattle.laws.specs.Writes.{Writes}
+use Rattle.laws.proofs.Writing
+use Rattle.laws.proofs.Writing.{nothing-written, copied-byte}
 use Rattle.store_write.proofs.copy.Statement.{statement}
 use Rattle.store_write.proofs.copy.Tie as tie
 
@@ -16,43 +20,24 @@ abbrev μ-loop : tie.MeasureT-loop
 loop-holds : tie.Need-loop-holds Inv-loop μ-loop
 loop-holds c = (omega arith, nothing-written _)
 
-shared-slice-read-out : tie.Need-shared-slice-read-out Inv-loop μ-loop
-shared-slice-read-out c = omega arith
-
 slice-write-out : tie.Need-slice-write-out Inv-loop μ-loop
-slice-write-out c = omega (arith, kept-length (c .before .before .loop .inv .1))
-
-add-i : tie.Need-add-i Inv-loop μ-loop
-add-i c = omega arith
-
-loop-less : tie.Need-loop-less Inv-loop μ-loop
-loop-less c = omega arith
+slice-write-out c = omega (arith, Writing.same-length (c .before .before .loop .inv .1))
 
 loop-again : tie.Need-loop-again Inv-loop μ-loop
 loop-again c =
     let l = c .before .before in
-    (omega arith, copied-byte (now (l .before .args .from)) (l .loop .i) (omega arith) (omega arith) (l .loop .inv .1))
+    (omega arith, rw zero-add at (copied-byte (now (l .before .args .from)) 0 (l .loop .i) (omega arith) (omega arith) (l .loop .inv .1)))
 
 same-length : tie.Need-same-length Inv-loop μ-loop
-same-length c = kept-length (c .before .loop .inv .1)
+same-length c = Writing.same-length (c .before .loop .inv .1)
 
 returns : tie.Need-returns Inv-loop μ-loop
 returns c =
     let l = c .before in
-    let w = all-copied (now (l .before .args .from)) (l .loop .i) (omega arith) (l .loop .inv .1) in
+    let w = rw (take-all (l .loop .i) (now (l .before .args .from)) (omega arith)) at (l .loop .inv .1) in
     w .all
 
 pub copy-spec : {M : Type 1} → statement M
 copy-spec =
-    tie.close
-    (tie.spec
-    Inv-loop
-    μ-loop
-    loop-holds
-    shared-slice-read-out
-    slice-write-out
-    add-i
-    loop-less
-    loop-again
-    same-length
+    tie.close (tie.spec Inv-loop μ-loop loop-holds (λ c. omega arith) slice-write-out (λ c. omega arith) (λ c. omega arith) loop-again same-length
     returns)

@@ -10,21 +10,6 @@ use Rattle.store_record.specs.Record.{headSize}
 use Rattle.store_write.proofs.head_size.Statement.{statement}
 use Rattle.store_write.proofs.head_size.Tie as tie
 
-digest-bytes-requires : tie.Need-digest-bytes-requires
-digest-bytes-requires c κs = search needs
-
-mul-rest : tie.Need-mul-rest
-mul-rest c = search needs
-
-add-rest : tie.Need-add-rest
-add-rest c = search needs
-
-add-size : tie.Need-add-size
-add-size c = search needs
-
-size-requires : tie.Need-size-requires
-size-requires c κs = search needs
-
 add-result : tie.Need-add-result
 add-result c =
     let a = c .before .before .args in
@@ -39,5 +24,4 @@ returns c =
 
 pub head-size-spec : {M : Type 1} → statement M
 head-size-spec =
-    tie.close
-    (tie.spec digest-bytes-requires mul-rest add-rest add-size size-requires add-result returns)
+    tie.close (tie.spec (λ c κs. search needs) (λ c. search needs) (λ c. search needs) (λ c. search needs) (λ c κs. search needs) add-result returns)

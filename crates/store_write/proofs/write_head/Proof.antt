@@ -7,12 +7,14 @@ use native.Mathlib.Omega.{arith}
 use denote.Ref.{now}
 use lib.ListN.{length, drop, set, length-append}
 use borrow.Rule.Slice.PartMut.{midOf, putMid}
+use Rattle.laws.specs.Writes.{Writes}
+use Rattle.laws.proofs.Writing
+use Rattle.laws.proofs.Writing.{lent-length, byte-written, part-written}
 use Rattle.store_varint.specs.Varint.{varint}
 use Rattle.store_varint.proofs.Laws.{varint-short}
 use Rattle.reference.specs.References.{image-id}
 use Rattle.store_record.specs.Record.{headOf}
 use Rattle.store_write.proofs.Heads.{head-is, head-length}
-use Rattle.store_write.proofs.Writing.{Writes, kept-length, lent-length, byte-written, part-written}
 use Rattle.store_write.proofs.write_head.Statement.{statement}
 use Rattle.store_write.proofs.write_head.Tie as tie
 
@@ -135,28 +137,13 @@ all-written c =
     (start (sized b) .pre .1)))
     (part-written (second-written d) (second d) _ (now (a .manifest)) (second-length d) (record { fits = manifest-fits d; all = c .copy2 .ensures }))
 
-digest-bytes-requires : tie.Need-digest-bytes-requires
-digest-bytes-requires c κs = search needs
-
-mul-write : tie.Need-mul-write
-mul-write c = search needs
-
-add-write : tie.Need-add-write
-add-write c = search needs
-
-add-write-2 : tie.Need-add-write-2
-add-write-2 c = search needs
-
 write-requires : tie.Need-write-requires
 write-requires c κs = omega (arith, space (c .before))
-
-byte-requires : tie.Need-byte-requires
-byte-requires c κs = search needs
 
 slice-write-out : tie.Need-slice-write-out
 slice-write-out c =
     let w = c .before .before .before in
-    omega (arith, space (w .before .before), w .write .ensures .0, kept-length (number-written w))
+    omega (arith, space (w .before .before), w .write .ensures .0, Writing.same-length (number-written w))
 
 add-first : tie.Need-add-first
 add-first c =
@@ -166,13 +153,10 @@ add-first c =
 sub-copy : tie.Need-sub-copy
 sub-copy c =
     let w = c .before .before .before in
-    omega (arith, space (w .before .before), w .write .ensures .0, kept-length (first-written c))
+    omega (arith, space (w .before .before), w .write .ensures .0, Writing.same-length (first-written c))
 
 part-copy-start : tie.Need-part-copy-start
 part-copy-start c = sub-copy c
-
-part-copy-end : tie.Need-part-copy-end
-part-copy-end c = search needs
 
 copy-requires : tie.Need-copy-requires
 copy-requires c κs = signer-fits (c .before)
@@ -184,13 +168,10 @@ sub-copy-2 : tie.Need-sub-copy-2
 sub-copy-2 c =
     let d = c .before .before in
     let b = d .before .before in
-    omega (arith, space (sized b), b .before .before .before .write .ensures .0, kept-length (second-written d))
+    omega (arith, space (sized b), b .before .before .before .write .ensures .0, Writing.same-length (second-written d))
 
 part-copy-start-2 : tie.Need-part-copy-start-2
 part-copy-start-2 c = sub-copy-2 c
-
-part-copy-end-2 : tie.Need-part-copy-end-2
-part-copy-end-2 c = search needs
 
 copy-requires-2 : tie.Need-copy-requires-2
 copy-requires-2 c κs = manifest-fits (c .before .before .before)
@@ -200,7 +181,7 @@ add-result c = let b = c .before .before .before .before .before .before .before
     omega (arith, short (sized b), b .before .before .before .write .ensures .0)
 
 same-length : tie.Need-same-length
-same-length c = kept-length (all-written (c .before .before))
+same-length c = Writing.same-length (all-written (c .before .before))
 
 returns : tie.Need-returns
 returns c =
@@ -211,25 +192,6 @@ returns c =
 
 pub write-head-spec : {M : Type 1} → statement M
 write-head-spec =
-    tie.close
-    (tie.spec
-    digest-bytes-requires
-    mul-write
-    add-write
-    add-write-2
-    write-requires
-    byte-requires
-    slice-write-out
-    add-first
-    sub-copy
-    part-copy-start
-    part-copy-end
-    copy-requires
-    add-second
-    sub-copy-2
-    part-copy-start-2
-    part-copy-end-2
-    copy-requires-2
-    add-result
-    same-length
-    returns)
+    tie.close (tie.spec (λ c κs. search needs) (λ c. search needs) (λ c. search needs) (λ c. search needs) write-requires (λ c κs. search needs)
+    slice-write-out add-first sub-copy part-copy-start (λ c. search needs) copy-requires add-second sub-copy-2 part-copy-start-2 (λ c. search needs)
+    copy-requires-2 add-result same-length returns)

@@ -5,9 +5,6 @@ use Rattle.test_bench.specs.Bit.{bit}
 use Rattle.test_bench.proofs.text_is_canonical.Statement.{statement}
 use Rattle.test_bench.proofs.text_is_canonical.Tie as tie
 
-is-canonical-requires : tie.Need-is-canonical-requires
-is-canonical-requires c κs = search needs
-
 returns : tie.Need-returns
 returns c = ap bit (sym (c .if1 .taken) ∙ c .before .is-canonical .ensures)
 
@@ -15,4 +12,5 @@ returns-2 : tie.Need-returns-2
 returns-2 c = ap bit (sym (c .if1 .left) ∙ c .before .is-canonical .ensures)
 
 pub text-is-canonical-spec : {M : Type 1} → statement M
-text-is-canonical-spec = tie.close (tie.spec is-canonical-requires returns returns-2)
+text-is-canonical-spec =
+    tie.close (tie.spec (λ c κs. search needs) returns returns-2)

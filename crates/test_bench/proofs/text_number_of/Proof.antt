@@ -5,18 +5,6 @@ use Rattle.text.specs.Answer.{numberOf}
 use Rattle.test_bench.proofs.text_number_of.Statement.{statement}
 use Rattle.test_bench.proofs.text_number_of.Tie as tie
 
-check-requires : tie.Need-check-requires
-check-requires c κs = search needs
-
-enum-known-f : tie.Need-enum-known-f
-enum-known-f c = search needs
-
-number-requires : tie.Need-number-requires
-number-requires c κs = search needs
-
-enum-told : tie.Need-enum-told
-enum-told c = search needs
-
 returns : tie.Need-returns
 returns c =
     let k = c .before in
@@ -27,4 +15,4 @@ returns-2 c = ap numberOf (sym (c .enum-told .given .1) ∙ c .before .before .c
 
 pub text-number-of-spec : {M : Type 1} → statement M
 text-number-of-spec =
-    tie.close (tie.spec check-requires enum-known-f number-requires enum-told returns returns-2)
+    tie.close (tie.spec (λ c κs. search needs) (λ c. search needs) (λ c κs. search needs) (λ c. search needs) returns returns-2)

@@ -18,12 +18,6 @@ abbrev μ-loop : tie.MeasureT-loop
 abbrev start : tie.In-loop Inv-loop μ-loop → tie.Start Inv-loop μ-loop
 start t = t .before .before .before .before .before
 
-loop-holds : tie.Need-loop-holds Inv-loop μ-loop
-loop-holds c = (omega arith, some-index (no-names _ _), refl)
-
-cast-add : tie.Need-cast-add Inv-loop μ-loop
-cast-add c = let t = c .before in omega (arith, start t .pre .1, t .loop-test .taken)
-
 add-requires : tie.Need-add-requires Inv-loop μ-loop
 add-requires c κs =
     let t = c .before in
@@ -31,21 +25,12 @@ add-requires c κs =
     let p = start t .pre in
     (l .inv .1, omega (arith, p .2, t .loop-test .taken, l .inv .2), p .0 (l .k) (t .loop-test .taken))
 
-add-k : tie.Need-add-k Inv-loop μ-loop
-add-k c = let t = c .before .before .before .before in omega (arith, start t .pre .1, t .loop-test .taken)
-
-loop-less : tie.Need-loop-less Inv-loop μ-loop
-loop-less c = omega (arith, c .before .before .before .before .loop-test .taken)
-
 loop-again : tie.Need-loop-again Inv-loop μ-loop
 loop-again c =
     let t = c .before .before .before .before in
     let l = t .before .loop in
     let e = c .before .before .add .ensures in
     (omega (arith, t .loop-test .taken), some-index (e .1 _ (l .inv .1 .index)), e .0 ∙ l .inv .2)
-
-same-length : tie.Need-same-length Inv-loop μ-loop
-same-length c = c .before .loop .inv .2
 
 returns : tie.Need-returns Inv-loop μ-loop
 returns c =
@@ -56,15 +41,7 @@ returns c =
 
 pub index-names-spec : {M : Type 1} → statement M
 index-names-spec =
-    tie.close
-    (tie.spec
-    Inv-loop
-    μ-loop
-    loop-holds
-    cast-add
-    add-requires
-    add-k
-    loop-less
-    loop-again
-    same-length
-    returns)
+    tie.close (tie.spec Inv-loop μ-loop (λ c. (omega arith, some-index (no-names _ _), refl))
+    (λ c. let t = c .before in omega (arith, start t .pre .1, t .loop-test .taken)) add-requires
+    (λ c. let t = c .before .before .before .before in omega (arith, start t .pre .1, t .loop-test .taken))
+    (λ c. omega (arith, c .before .before .before .before .loop-test .taken)) loop-again (λ c. c .before .loop .inv .2) returns)

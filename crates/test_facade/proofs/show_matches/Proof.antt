@@ -12,23 +12,11 @@ use Rattle.manifest_index.proofs.Indexing.{names-number}
 use Rattle.test_facade.proofs.show_matches.Statement.{statement}
 use Rattle.test_facade.proofs.show_matches.Tie as tie
 
-slice-aggregate-place-self : tie.Need-slice-aggregate-place-self
-slice-aggregate-place-self c = search needs
-
-slice-aggregate-place-self-2 : tie.Need-slice-aggregate-place-self-2
-slice-aggregate-place-self-2 c = search needs
-
 place-self-requires : tie.Need-place-self-requires
 place-self-requires c κs =
     let a = c .before .before .before .before .before .before in
     let t = now (a .args .t) in
     (omega arith, omega arith, rw (take-all (length t - 0) t (omega arith)) (a .pre .1), omega arith, omega arith)
-
-slice-aggregate-index-names : tie.Need-slice-aggregate-index-names
-slice-aggregate-index-names c = search needs
-
-slice-aggregate-index-names-2 : tie.Need-slice-aggregate-index-names-2
-slice-aggregate-index-names-2 c = search needs
 
 index-names-requires : tie.Need-index-names-requires
 index-names-requires c κs =
@@ -40,36 +28,13 @@ index-names-requires c κs =
       e .0,
     )
 
-slice-aggregate-show-rules : tie.Need-slice-aggregate-show-rules
-slice-aggregate-show-rules c = search needs
-
-array-share-prefix-order : tie.Need-array-share-prefix-order
-array-share-prefix-order c = search needs
-
 slice-aggregate-show-rules-2 : tie.Need-slice-aggregate-show-rules-2
 slice-aggregate-show-rules-2 c =
     let k = c .before .before .before .index-names in
     let p = c .before .before .before .before .before .before .before .before .place-self in
     sym (length-take-le _ _ (omega (arith, p .ensures .0, k .ensures .1)))
 
-show-rules-requires : tie.Need-show-rules-requires
-show-rules-requires c κs = search needs
-
-returns : tie.Need-returns
-returns c = search needs
-
 pub show-matches-spec : {M : Type 1} → statement M
 show-matches-spec =
-    tie.close
-    (tie.spec
-    slice-aggregate-place-self
-    slice-aggregate-place-self-2
-    place-self-requires
-    slice-aggregate-index-names
-    slice-aggregate-index-names-2
-    index-names-requires
-    slice-aggregate-show-rules
-    array-share-prefix-order
-    slice-aggregate-show-rules-2
-    show-rules-requires
-    returns)
+    tie.close (tie.spec (λ c. search needs) (λ c. search needs) place-self-requires (λ c. search needs) (λ c. search needs) index-names-requires
+    (λ c. search needs) (λ c. search needs) slice-aggregate-show-rules-2 (λ c κs. search needs) (λ c. search needs))

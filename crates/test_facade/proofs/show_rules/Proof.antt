@@ -19,14 +19,8 @@ Inv-loop s signer digest t at order at-rules n i₀ i = i ≤ n
 abbrev μ-loop : tie.MeasureT-loop
 μ-loop s signer digest t at order at-rules n i₀ i = n - i
 
-slice-aggregate-place : tie.Need-slice-aggregate-place Inv-loop μ-loop
-slice-aggregate-place c = search needs
-
 place-requires : tie.Need-place-requires Inv-loop μ-loop
 place-requires c κs = (c .before .before .before .before .before .before .before .pre .0, omega arith)
-
-loop-holds : tie.Need-loop-holds Inv-loop μ-loop
-loop-holds c = search needs
 
 abbrev start : tie.In-loop Inv-loop μ-loop → tie.Start Inv-loop μ-loop
 start t = t .before .before .before .before .before .before .before .before .before .before .before
@@ -53,37 +47,7 @@ asked-requires c κs = (some-rule _ _ _ (c .read .ensures _ (rule-here (c .befor
 matches-requires : tie.Need-matches-requires Inv-loop μ-loop
 matches-requires c κs = let r = c .before .before in some-rule _ _ _ (r .read .ensures _ (rule-here (r .before)))
 
-show-flag-requires : tie.Need-show-flag-requires Inv-loop μ-loop
-show-flag-requires c κs = search needs
-
-add-i : tie.Need-add-i Inv-loop μ-loop
-add-i c = search needs
-
-loop-less : tie.Need-loop-less Inv-loop μ-loop
-loop-less c = search needs
-
-loop-again : tie.Need-loop-again Inv-loop μ-loop
-loop-again c = search needs
-
-returns : tie.Need-returns Inv-loop μ-loop
-returns c = search needs
-
 pub show-rules-spec : {M : Type 1} → statement M
 show-rules-spec =
-    tie.close
-    (tie.spec
-    Inv-loop
-    μ-loop
-    slice-aggregate-place
-    place-requires
-    loop-holds
-    mul-read
-    array-read-read
-    read-requires
-    asked-requires
-    matches-requires
-    show-flag-requires
-    add-i
-    loop-less
-    loop-again
-    returns)
+    tie.close (tie.spec Inv-loop μ-loop (λ c. search needs) place-requires (λ c. search needs) mul-read array-read-read read-requires asked-requires
+    matches-requires (λ c κs. search needs) (λ c. search needs) (λ c. search needs) (λ c. search needs) (λ c. search needs))

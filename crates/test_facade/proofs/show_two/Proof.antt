@@ -5,26 +5,10 @@ use Rattle.manifest.proofs.Opening.{good-opens}
 use Rattle.test_facade.proofs.show_two.Statement.{statement}
 use Rattle.test_facade.proofs.show_two.Tie as tie
 
-check-requires : tie.Need-check-requires
-check-requires c κs = search needs
-
-enum-told : tie.Need-enum-told
-enum-told c = search needs
-
-show-bad-requires : tie.Need-show-bad-requires
-show-bad-requires c κs = search needs
-
-enum-known-places : tie.Need-enum-known-places
-enum-known-places c = search needs
-
 show-pair-requires : tie.Need-show-pair-requires
 show-pair-requires c κs = good-opens _ (c .before .before .before .check .ensures) (c .before .places .given .1)
 
-returns : tie.Need-returns
-returns c = search needs
-
-returns-2 : tie.Need-returns-2
-returns-2 c = search needs
-
 pub show-two-spec : {M : Type 1} → statement M
-show-two-spec = tie.close (tie.spec check-requires enum-told show-bad-requires enum-known-places show-pair-requires returns returns-2)
+show-two-spec =
+    tie.close (tie.spec (λ c κs. search needs) (λ c. search needs) (λ c κs. search needs) (λ c. search needs) show-pair-requires (λ c. search needs)
+    (λ c. search needs))

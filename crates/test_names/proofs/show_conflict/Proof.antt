@@ -8,71 +8,24 @@ use borrow.Author.Needs.{needs}
 use Rattle.test_names.proofs.show_conflict.Statement.{statement}
 use Rattle.test_names.proofs.show_conflict.Tie as tie
 
-slice-aggregate-sort-contents : tie.Need-slice-aggregate-sort-contents
-slice-aggregate-sort-contents c = search needs
-
-slice-aggregate-sort-contents-2 : tie.Need-slice-aggregate-sort-contents-2
-slice-aggregate-sort-contents-2 c = search needs
-
-slice-aggregate-sort-contents-3 : tie.Need-slice-aggregate-sort-contents-3
-slice-aggregate-sort-contents-3 c = search needs
-
 sort-contents-requires : tie.Need-sort-contents-requires
 sort-contents-requires c κs =
     let a = c .before .before .before .before .before in
     (a .pre .0, record { space = omega arith; sorting = omega arith }, omega (arith, opened-short _ _ (a .pre .0)))
 
-array-share-prefix-names : tie.Need-array-share-prefix-names
-array-share-prefix-names c = search needs
-
 slice-aggregate-fill-heads : tie.Need-slice-aggregate-fill-heads
 slice-aggregate-fill-heads c = sym (length-take-le _ _ (c .before .before .before .before .sort-contents .ensures .0))
-
-slice-aggregate-fill-heads-2 : tie.Need-slice-aggregate-fill-heads-2
-slice-aggregate-fill-heads-2 c = search needs
 
 fill-heads-requires : tie.Need-fill-heads-requires
 fill-heads-requires c κs =
     let r = c .before .before .before .before .before .sort-contents in
     (contents-names (r .ensures .1), omega (arith, length-take-le (r .result) (r .last .1 .1 .0) (r .ensures .0), r .ensures .0, r .kept .1 .1 .0))
 
-array-share-prefix-names-2 : tie.Need-array-share-prefix-names-2
-array-share-prefix-names-2 c = search needs
-
 slice-aggregate-conflicts : tie.Need-slice-aggregate-conflicts
 slice-aggregate-conflicts c = sym (length-take-le _ _ (c .before .before .before .before .before .before .before .before .sort-contents .ensures .0))
 
-slice-aggregate-conflicts-2 : tie.Need-slice-aggregate-conflicts-2
-slice-aggregate-conflicts-2 c = search needs
-
-slice-aggregate-conflicts-3 : tie.Need-slice-aggregate-conflicts-3
-slice-aggregate-conflicts-3 c = search needs
-
-conflicts-requires : tie.Need-conflicts-requires
-conflicts-requires c κs = search needs
-
-say-requires : tie.Need-say-requires
-say-requires c κs = search needs
-
-returns : tie.Need-returns
-returns c = search needs
-
 pub show-conflict-spec : {M : Type 1} → statement M
 show-conflict-spec =
-    tie.close
-    (tie.spec
-    slice-aggregate-sort-contents
-    slice-aggregate-sort-contents-2
-    slice-aggregate-sort-contents-3
-    sort-contents-requires
-    array-share-prefix-names
-    slice-aggregate-fill-heads
-    slice-aggregate-fill-heads-2
-    fill-heads-requires
-    array-share-prefix-names-2
-    slice-aggregate-conflicts
-    slice-aggregate-conflicts-2
-    slice-aggregate-conflicts-3
-    conflicts-requires
-    say-requires
-    returns)
+    tie.close (tie.spec (λ c. search needs) (λ c. search needs) (λ c. search needs) sort-contents-requires (λ c. search needs)
+    slice-aggregate-fill-heads (λ c. search needs) fill-heads-requires (λ c. search needs) slice-aggregate-conflicts (λ c. search needs)
+    (λ c. search needs) (λ c κs. search needs) (λ c κs. search needs) (λ c. search needs))

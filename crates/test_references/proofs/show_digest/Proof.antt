@@ -14,12 +14,6 @@ few c =
     let e = c .digest-bytes .ensures .0 in
     (omega arith, omega arith)
 
-digest-bytes-requires : tie.Need-digest-bytes-requires
-digest-bytes-requires c κs = search needs
-
-slice-aggregate-write : tie.Need-slice-aggregate-write
-slice-aggregate-write c = search needs
-
 write-requires : tie.Need-write-requires
 write-requires c κs = let a = c .before .before .before in (a .pre, omega (arith, digest-bounds (a .args .a) .1))
 
@@ -31,9 +25,6 @@ part-print-bytes-start c = let f = few (c .before .before .before .before) in om
 
 part-print-bytes-end : tie.Need-part-print-bytes-end
 part-print-bytes-end c = let f = few (c .before .before .before .before) in omega arith
-
-print-bytes-requires : tie.Need-print-bytes-requires
-print-bytes-requires c κs = search needs
 
 sub-show-is : tie.Need-sub-show-is
 sub-show-is c = let f = few (c .before .before .before .before .before .before) in omega arith
@@ -58,9 +49,6 @@ part-show-is-end-2 c = let f = few (c .before .before .before .before .before .b
 
 show-is-requires-2 : tie.Need-show-is-requires-2
 show-is-requires-2 c κs = c .before .before .before .before .before .before .before .before .before .before .before .before .before .pre
-
-slice-aggregate-change-last : tie.Need-slice-aggregate-change-last
-slice-aggregate-change-last c = search needs
 
 change-last-requires : tie.Need-change-last-requires
 change-last-requires c κs =
@@ -87,32 +75,9 @@ show-is-requires-3 c κs =
     let d = c .before .before .before .before .before .before .before .before .before .before .before .before .before .before .before .before .before in
     d .before .before .pre
 
-returns : tie.Need-returns
-returns c = search needs
-
 pub show-digest-spec : {M : Type 1} → statement M
 show-digest-spec =
-    tie.close
-    (tie.spec
-    digest-bytes-requires
-    slice-aggregate-write
-    write-requires
-    sub-print-bytes
-    part-print-bytes-start
-    part-print-bytes-end
-    print-bytes-requires
-    sub-show-is
-    part-show-is-start
-    part-show-is-end
-    show-is-requires
-    sub-show-is-2
-    part-show-is-start-2
-    part-show-is-end-2
-    show-is-requires-2
-    slice-aggregate-change-last
-    change-last-requires
-    sub-show-is-3
-    part-show-is-start-3
-    part-show-is-end-3
-    show-is-requires-3
-    returns)
+    tie.close (tie.spec (λ c κs. search needs) (λ c. search needs) write-requires sub-print-bytes part-print-bytes-start part-print-bytes-end
+    (λ c κs. search needs) sub-show-is part-show-is-start part-show-is-end show-is-requires sub-show-is-2 part-show-is-start-2 part-show-is-end-2
+    show-is-requires-2 (λ c. search needs) change-last-requires sub-show-is-3 part-show-is-start-3 part-show-is-end-3 show-is-requires-3
+    (λ c. search needs))

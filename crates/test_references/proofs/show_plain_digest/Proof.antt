@@ -14,12 +14,6 @@ few c =
     let e = c .digest-bytes .ensures .0 in
     (omega arith, omega arith)
 
-digest-bytes-requires : tie.Need-digest-bytes-requires
-digest-bytes-requires c κs = search needs
-
-slice-aggregate-write-plain : tie.Need-slice-aggregate-write-plain
-slice-aggregate-write-plain c = search needs
-
 write-plain-requires : tie.Need-write-plain-requires
 write-plain-requires c κs = let a = c .before .before .before in (a .pre, omega (arith, digest-bounds (a .args .a) .1))
 
@@ -32,21 +26,7 @@ part-print-bytes-start c = let f = few (c .before .before .before .before) in om
 part-print-bytes-end : tie.Need-part-print-bytes-end
 part-print-bytes-end c = let f = few (c .before .before .before .before) in omega arith
 
-print-bytes-requires : tie.Need-print-bytes-requires
-print-bytes-requires c κs = search needs
-
-returns : tie.Need-returns
-returns c = search needs
-
 pub show-plain-digest-spec : {M : Type 1} → statement M
 show-plain-digest-spec =
-    tie.close
-    (tie.spec
-    digest-bytes-requires
-    slice-aggregate-write-plain
-    write-plain-requires
-    sub-print-bytes
-    part-print-bytes-start
-    part-print-bytes-end
-    print-bytes-requires
-    returns)
+    tie.close (tie.spec (λ c κs. search needs) (λ c. search needs) write-plain-requires sub-print-bytes part-print-bytes-start part-print-bytes-end
+    (λ c κs. search needs) (λ c. search needs))

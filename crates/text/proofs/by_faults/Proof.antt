@@ -4,20 +4,11 @@ use Rattle.text.proofs.Checks.{bad-string, bad-number, same-keys, accep
 use Rattle.text.proofs.by_faults.Statement.{statement}
 use Rattle.text.proofs.by_faults.Tie as tie
 
-offset-requires : tie.Need-offset-requires
-offset-requires c κs = search needs
-
 returns : tie.Need-returns
 returns c = λ t e. bad-string _ t e _ _ _ (c .offset .ensures) (c .before .if1 .taken)
 
-offset-requires-2 : tie.Need-offset-requires-2
-offset-requires-2 c κs = search needs
-
 returns-2 : tie.Need-returns-2
 returns-2 c = λ t e. bad-number _ t e _ _ (c .before .before .before .if1 .left) _ (c .offset2 .ensures) (c .before .if2 .taken)
-
-offset-requires-3 : tie.Need-offset-requires-3
-offset-requires-3 c κs = search needs
 
 returns-3 : tie.Need-returns-3
 returns-3 c = λ t e. same-keys _ t e _ _ (c .before .before .before .before .before .if1 .left) (c .before .before .before .if2 .left) _ (c .offset3 .ensures)
@@ -28,12 +19,4 @@ returns-4 c = λ t e. accepted _ t e _ _ (c .before .before .before .before .if1
 
 pub by-faults-spec : {M : Type 1} → statement M
 by-faults-spec =
-    tie.close
-    (tie.spec
-    offset-requires
-    returns
-    offset-requires-2
-    returns-2
-    offset-requires-3
-    returns-3
-    returns-4)
+    tie.close (tie.spec (λ c κs. search needs) returns (λ c κs. search needs) returns-2 (λ c κs. search needs) returns-3 returns-4)

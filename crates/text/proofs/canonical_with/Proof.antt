@@ -1,42 +1,15 @@
 -- `text::canonical_with` meets its contract. Assumes nothing.
 use borrow.Author.Needs.{needs}
-use mathlib.Core.Path.{_≡_, sym, _∙_}
+use mathlib.Core.Path.{sym, _∙_}
 use native.Mathlib.Omega.{arith}
 use denote.Ref.{now}
 use Rattle.text.proofs.Outcome.{refused-positive, refused-number, refused-length, refused-bytes}
-use Rattle.text.proofs.Outcome.{accepted-number, accepted-size, too-small, done-number, done-length, done-bytes}
+use Rattle.text.proofs.Outcome.{accepted-number, accepted-length, too-small, done-number, done-length, done-bytes}
 use Rattle.text.proofs.canonical_with.Statement.{statement}
 use Rattle.text.proofs.canonical_with.Tie as tie
 
 abbrev start : tie.After-check-with → tie.Start
 start k = k .before .before .before .before .before .before .before
-
-check-with-requires : tie.Need-check-with-requires
-check-with-requires c κs = search needs
-
-enum-known-answer : tie.Need-enum-known-answer
-enum-known-answer c = search needs
-
-number-requires : tie.Need-number-requires
-number-requires c κs = search needs
-
-refused-requires : tie.Need-refused-requires
-refused-requires c κs = search needs
-
-enum-known-answer-2 : tie.Need-enum-known-answer-2
-enum-known-answer-2 c = search needs
-
-refused-requires-2 : tie.Need-refused-requires-2
-refused-requires-2 c κs = search needs
-
-same-length : tie.Need-same-length
-same-length c = search needs
-
-same-length-2 : tie.Need-same-length-2
-same-length-2 c = search needs
-
-same-length-3 : tie.Need-same-length-3
-same-length-3 c = search needs
 
 returns : tie.Need-returns
 returns c =
@@ -59,19 +32,10 @@ write-form-requires c κs =
     let space = start k .pre in
     record {
       taken = accepted-number s out _ _ e;
-      fits = omega (arith, accepted-size s out _ _ e, c .before .before .before .if1 .left);
+      fits = omega (arith, accepted-length s _ _ e, c .before .before .before .if1 .left);
       space = record { enough = omega (arith, l .0, space .enough); sorting = omega (arith, l .0, l .1 .0, space .sorting) };
       sorted = (rw g at (k .check-with .ensures .1)) .1;
     }
-
-same-length-4 : tie.Need-same-length-4
-same-length-4 c = search needs
-
-same-length-5 : tie.Need-same-length-5
-same-length-5 c = search needs
-
-same-length-6 : tie.Need-same-length-6
-same-length-6 c = search needs
 
 returns-2 : tie.Need-returns-2
 returns-2 c =
@@ -84,15 +48,6 @@ returns-2 c =
     let n = c .before .before .before .number .ensures ∙ refused-number s out (g .0 .0) e in
     let h = refused-positive (g .0 .0) _ (c .before .before .before .number .ensures) in
     (r .0 .0 ∙ n, (r .0 .1 ∙ refused-length s out _ h n, r .1 ∙ refused-bytes s out _ h n))
-
-same-length-7 : tie.Need-same-length-7
-same-length-7 c = search needs
-
-same-length-8 : tie.Need-same-length-8
-same-length-8 c = search needs
-
-same-length-9 : tie.Need-same-length-9
-same-length-9 c = search needs
 
 returns-3 : tie.Need-returns-3
 returns-3 c =
@@ -107,24 +62,6 @@ returns-3 c =
 
 pub canonical-with-spec : {M : Type 1} → statement M
 canonical-with-spec =
-    tie.close
-    (tie.spec
-    check-with-requires
-    enum-known-answer
-    number-requires
-    refused-requires
-    enum-known-answer-2
-    refused-requires-2
-    same-length
-    same-length-2
-    same-length-3
-    returns
-    write-form-requires
-    same-length-4
-    same-length-5
-    same-length-6
-    returns-2
-    same-length-7
-    same-length-8
-    same-length-9
-    returns-3)
+    tie.close (tie.spec (λ c κs. search needs) (λ c. search needs) (λ c κs. search needs) (λ c κs. search needs) (λ c. search needs)
+    (λ c κs. search needs) (λ c. search needs) (λ c. search needs) (λ c. search needs) returns write-form-requires (λ c. search needs)
+    (λ c. search needs) (λ c. search needs) returns-2 (λ c. search needs) (λ c. search needs) (λ c. search needs) returns-3)

@@ -8,32 +8,8 @@ use Rattle.text.proofs.Keys.{refused-keys}
 use Rattle.text.proofs.check_with.Statement.{statement}
 use Rattle.text.proofs.check_with.Tie as tie
 
-refusal-requires : tie.Need-refusal-requires
-refusal-requires c κs = search needs
-
 returns : tie.Need-returns
 returns c = refused-keys _ _ _ _ _ (c .refusal .ensures) (too-long _ (c .before .if1 .taken))
-
-check-requires : tie.Need-check-requires
-check-requires c κs = search needs
-
-enum-told : tie.Need-enum-told
-enum-told c = search needs
-
-check-json-requires : tie.Need-check-json-requires
-check-json-requires c κs = search needs
-
-enum-known-at : tie.Need-enum-known-at
-enum-known-at c = search needs
-
-refusal-requires-2 : tie.Need-refusal-requires-2
-refusal-requires-2 c κs = search needs
-
-same-length : tie.Need-same-length
-same-length c = search needs
-
-same-length-2 : tie.Need-same-length-2
-same-length-2 c = search needs
 
 returns-2 : tie.Need-returns-2
 unfolding byVerdict
@@ -56,16 +32,5 @@ returns-3 c =
 
 pub check-with-spec : {M : Type 1} → statement M
 check-with-spec =
-    tie.close
-    (tie.spec
-    refusal-requires
-    returns
-    check-requires
-    enum-told
-    check-json-requires
-    enum-known-at
-    refusal-requires-2
-    same-length
-    same-length-2
-    returns-2
-    returns-3)
+    tie.close (tie.spec (λ c κs. search needs) returns (λ c κs. search needs) (λ c. search needs) (λ c κs. search needs) (λ c. search needs)
+    (λ c κs. search needs) (λ c. search needs) (λ c. search needs) returns-2 returns-3)

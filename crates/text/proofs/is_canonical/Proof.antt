@@ -5,15 +5,6 @@ use Rattle.text.proofs.Outcome.{accepted-flag, refused-flag}
 use Rattle.text.proofs.is_canonical.Statement.{statement}
 use Rattle.text.proofs.is_canonical.Tie as tie
 
-check-requires : tie.Need-check-requires
-check-requires c κs = search needs
-
-enum-known-canonical : tie.Need-enum-known-canonical
-enum-known-canonical c = search needs
-
-enum-told : tie.Need-enum-told
-enum-told c = search needs
-
 returns : tie.Need-returns
 returns c = accepted-flag _ _ _ (sym (c .before .before .before .check .ensures) ∙ c .before .canonical .given .1)
 
@@ -21,4 +12,5 @@ returns-2 : tie.Need-returns-2
 returns-2 c = sym (refused-flag _ _ (sym (c .before .before .check .ensures) ∙ c .enum-told .given .1))
 
 pub is-canonical-spec : {M : Type 1} → statement M
-is-canonical-spec = tie.close (tie.spec check-requires enum-known-canonical enum-told returns returns-2)
+is-canonical-spec =
+    tie.close (tie.spec (λ c κs. search needs) (λ c. search needs) (λ c. search needs) returns returns-2)

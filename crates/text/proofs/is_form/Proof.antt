@@ -10,4 +10,5 @@ returns-2 : tie.Need-returns-2
 returns-2 c = λ t e. same-size _ t e _ (c .if1 .left)
 
 pub is-form-spec : {M : Type 1} → statement M
-is-form-spec = tie.close (tie.spec returns returns-2)
+is-form-spec =
+    tie.close (tie.spec returns returns-2)

@@ -13,9 +13,6 @@ use Rattle.text.proofs.Keys.{root-sorted}
 use Rattle.text.proofs.write_form.Statement.{statement}
 use Rattle.text.proofs.write_form.Tie as tie
 
-root-requires : tie.Need-root-requires
-root-requires c κs = search needs
-
 write-value-requires : tie.Need-write-value-requires
 write-value-requires c κs =
     let s = now (c .before .before .before .before .before .before .before .before .args .text) in
@@ -38,15 +35,6 @@ write-value-requires c κs =
           (subst (λ (v : Value). ValueAt s at 8 v) e here);
     }
 
-same-length : tie.Need-same-length
-same-length c = search needs
-
-same-length-2 : tie.Need-same-length-2
-same-length-2 c = search needs
-
-same-length-3 : tie.Need-same-length-3
-same-length-3 c = search needs
-
 returns : tie.Need-returns
 returns c =
     let s = now (c .before .before .before .before .before .before .before .before .before .before .before .before .before .before .before .args .text) in
@@ -61,11 +49,4 @@ returns c =
 
 pub write-form-spec : {M : Type 1} → statement M
 write-form-spec =
-    tie.close
-    (tie.spec
-    root-requires
-    write-value-requires
-    same-length
-    same-length-2
-    same-length-3
-    returns)
+    tie.close (tie.spec (λ c κs. search needs) write-value-requires (λ c. search needs) (λ c. search needs) (λ c. search needs) returns)

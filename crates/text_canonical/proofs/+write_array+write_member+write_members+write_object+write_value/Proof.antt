@@ -3,18 +3,19 @@
 use borrow.Author.Needs.{needs}
 use Prim.Native.Nat.{ℕ, _+_, _-_, _*_, _≤_, _<_}
 use mathlib.Core.Path.{_≡_, refl, sym, subst, _∙_}
+use mathlib.Core.List.{List}
 use mathlib.Core.Bool.{false}
 use native.Mathlib.Omega.{arith}
 use denote.Ref.{now}
 use lib.ListN.{length, length-set}
-use borrow.Fn.Kinds.{In, Out}
+use borrow.Fn.Kinds.{In, Out, PK}
 use borrow.Fn.PlainCycle.{Measures, is, falls, and}
-use Rattle.text_printer.proofs.Written
-use Rattle.text_view.specs.Listed.{Gives}
+use Rattle.laws.proofs.Writing as Written
+use Rattle.text_view.specs.Listed.{GivesItem}
 use Rattle.text_view.specs.declared.value.Item.the-variants.{At, End}
 use Rattle.text_view.proofs.Values.{within}
-use Rattle.text_canonical.proofs.Values.{array-value, object-value, no-branch}
-use Rattle.text_canonical.proofs.Marks.{from-mark, space-of}
+use Rattle.text_canonical.proofs.Values.{writable-array, writable-object, no-branch}
+use Rattle.text_canonical.proofs.Marks.{from-mark}
 use Rattle.text_canonical.proofs.Arrays
 use Rattle.text_canonical.proofs.Objects
 use Rattle.text_canonical.proofs.MemberParts
@@ -58,57 +59,12 @@ abbrev μ-write-object : Measures 4 write-object-kinds.ps ℕ
 abbrev μ-write-value : Measures 4 write-value-kinds.ps ℕ
 μ-write-value κs a = 4 * (a .1 .1 .0) + 2
 
-abbrev write-array-at : ℕ → In 4 write-array-kinds.ps
-write-array-at t =
-    and 4 write-array-kinds.ps (is 4 write-array-kinds.ps μ-write-array t) write-array.Pre
+-- what holds where a function is called at the measure t, and what has to hold for a call at a lower one
+abbrev at-measure : (ps : List (PK 4)) → Measures 4 ps ℕ → In 4 ps → ℕ → In 4 ps
+at-measure ps μ pre t = and 4 ps (is 4 ps μ t) pre
 
-abbrev write-array-below : ℕ → In 4 write-array-kinds.ps
-write-array-below t =
-    and 4 write-array-kinds.ps (falls 4 write-array-kinds.ps _<_ μ-write-array t) write-array.Pre
-
-abbrev write-member-at : ℕ → In 4 write-member-kinds.ps
-write-member-at t =
-    and 4 write-member-kinds.ps (is 4 write-member-kinds.ps μ-write-member t) write-member.Pre
-
-abbrev write-member-below : ℕ → In 4 write-member-kinds.ps
-write-member-below t =
-    and
-    4
-    write-member-kinds.ps
-    (falls 4 write-member-kinds.ps _<_ μ-write-member t)
-    write-member.Pre
-
-abbrev write-members-at : ℕ → In 4 write-members-kinds.ps
-write-members-at t =
-    and 4 write-members-kinds.ps (is 4 write-members-kinds.ps μ-write-members t) write-members.Pre
-
-abbrev write-members-below : ℕ → In 4 write-members-kinds.ps
-write-members-below t =
-    and
-    4
-    write-members-kinds.ps
-    (falls 4 write-members-kinds.ps _<_ μ-write-members t)
-    write-members.Pre
-
-abbrev write-object-at : ℕ → In 4 write-object-kinds.ps
-write-object-at t =
-    and 4 write-object-kinds.ps (is 4 write-object-kinds.ps μ-write-object t) write-object.Pre
-
-abbrev write-object-below : ℕ → In 4 write-object-kinds.ps
-write-object-below t =
-    and
-    4
-    write-object-kinds.ps
-    (falls 4 write-object-kinds.ps _<_ μ-write-object t)
-    write-object.Pre
-
-abbrev write-value-at : ℕ → In 4 write-value-kinds.ps
-write-value-at t =
-    and 4 write-value-kinds.ps (is 4 write-value-kinds.ps μ-write-value t) write-value.Pre
-
-abbrev write-value-below : ℕ → In 4 write-value-kinds.ps
-write-value-below t =
-    and 4 write-value-kinds.ps (falls 4 write-value-kinds.ps _<_ μ-write-value t) write-value.Pre
+abbrev below-measure : (ps : List (PK 4)) → Measures 4 ps ℕ → In 4 ps → ℕ → In 4 ps
+below-measure ps μ pre t = and 4 ps (falls 4 ps _<_ μ t) pre
 
 abbrev write-array-calls : ℕ → write-array-lts.Claims
 write-array-calls t = (
@@ -116,7 +72,7 @@ write-array-calls t = (
   read-item-reads.Learnt,
   separate-reads.Asked,
   separate-reads.Learnt,
-  write-value-below t,
+  below-measure write-value-kinds.ps μ-write-value write-value.Pre t,
   write-value.Post,
 )
 
@@ -126,23 +82,28 @@ write-member-calls t = (
   write-string-reads.Learnt,
   item-value-reads.Asked,
   item-value-reads.Learnt,
-  write-value-below t,
+  below-measure write-value-kinds.ps μ-write-value write-value.Pre t,
   write-value.Post,
 )
 
 abbrev write-members-calls : ℕ → write-members-lts.Claims
-write-members-calls t = (separate-reads.Asked, separate-reads.Learnt, write-member-below t, write-member.Post)
+write-members-calls t = (separate-reads.Asked, separate-reads.Learnt, below-measure write-member-kinds.ps μ-write-member write-member.Pre t, write-member.Post)
 
 abbrev write-object-calls : ℕ → write-object-lts.Claims
-write-object-calls t = (sorted-keys-reads.Asked, sorted-keys-reads.Learnt, write-members-below t, write-members.Post)
+write-object-calls t = (
+  sorted-keys-reads.Asked,
+  sorted-keys-reads.Learnt,
+  below-measure write-members-kinds.ps μ-write-members write-members.Pre t,
+  write-members.Post,
+)
 
 abbrev write-value-calls : ℕ → write-value-lts.Claims
 write-value-calls t = (
   kind-reads.Asked,
   kind-reads.Learnt,
-  write-array-below t,
+  below-measure write-array-kinds.ps μ-write-array write-array.Pre t,
   write-array.Post,
-  write-object-below t,
+  below-measure write-object-kinds.ps μ-write-object write-object.Pre t,
   write-object.Post,
   write-scalar-reads.Asked,
   write-scalar-reads.Learnt,
@@ -150,7 +111,7 @@ write-value-calls t = (
 
 abbrev write-array-Inv-loop : write-array-lts.InvT-loop
 write-array-Inv-loop s at depth out₀ keys₀ spare₀ n₀ start₀ i₀ out keys spare n start i =
-    Arrays.Progress s at depth out₀ keys₀ spare₀ out n start i × (length keys ≡ length keys₀) × (length spare ≡ length spare₀)
+    Arrays.ArrayWritten s at depth out₀ keys₀ spare₀ out n start i × (length keys ≡ length keys₀) × (length spare ≡ length spare₀)
 
 abbrev write-array-μ-loop : write-array-lts.MeasureT-loop
 write-array-μ-loop s at depth out₀ keys₀ spare₀ n₀ start₀ i₀ out keys spare n start i = length s - i
@@ -158,7 +119,8 @@ write-array-μ-loop s at depth out₀ keys₀ spare₀ n₀ start₀ i₀ out ke
 -- a need or a place of `write_array`, at the measure t
 abbrev In-array : ℕ → (write-array-lts.Claims → In 4 write-array-kinds.ps → Out 4 write-array-kinds.ps write-array-kinds.r
     → write-array-lts.InvT-loop → write-array-lts.MeasureT-loop → Type 0) → Type 0
-In-array t F = F (write-array-calls t) (write-array-at t) write-array.Post write-array-Inv-loop write-array-μ-loop
+In-array t F =
+    F (write-array-calls t) (at-measure write-array-kinds.ps μ-write-array write-array.Pre t) write-array.Post write-array-Inv-loop write-array-μ-loop
 
 write-array-slice-write-out : (t : ℕ) → In-array t write-array-lts.Need-slice-write-out
 write-array-slice-write-out t c = Arrays.mark-fits (c .before .before .before .before .pre .1)
@@ -177,21 +139,18 @@ write-array-sub-read-item t c = omega (arith, c .loop .inv .0 .some)
 write-array-read-item-requires : (t : ℕ) → In-array t write-array-lts.Need-read-item-requires
 write-array-read-item-requires t c κs = Arrays.items-left (c .loop .inv .0)
 
-write-array-enum-known-value : (t : ℕ) → In-array t write-array-lts.Need-enum-known-value
-write-array-enum-known-value t c = search needs
-
 abbrev array-entry : (t : ℕ) → In-array t write-array-lts.At-loop → In-array t write-array-lts.Start
 array-entry t l = l .before .before .before .before .before
 
 -- what is left is an element and others
 element-given : (t : ℕ) (c : In-array t write-array-lts.After-known-told)
     → let l = c .before .before .before .before in let a = array-entry t l .args in let g = c .before .value .given .0 in
-    Gives (now (a .s)) (l .loop .i) (a .depth - 1) false (l .loop .inv .0 .trees) (l .loop .inv .0 .rest) (At (g .0) (g .1 .0) (g .1 .1 .0))
+    GivesItem (now (a .s)) (l .loop .i) (a .depth - 1) false (l .loop .inv .0 .trees) (l .loop .inv .0 .rest) (At (g .0) (g .1 .0) (g .1 .1 .0))
 element-given t c =
     let d = c .before .before .before in
     let p = d .before .loop .inv .0 in
     let a = d .before .before .before .before .before .before .args in
-    subst (Gives (now (a .s)) (d .before .loop .i) (a .depth - 1) false (p .trees) (p .rest)) (c .before .value .given .1)
+    subst (GivesItem (now (a .s)) (d .before .loop .i) (a .depth - 1) false (p .trees) (p .rest)) (c .before .value .given .1)
     (d .read-item .ensures (p .trees) (p .rest) (p .left))
 
 write-array-separate-requires : (t : ℕ) → In-array t write-array-lts.Need-separate-requires
@@ -212,9 +171,6 @@ write-array-sub-write-value-2 t c =
 
 write-array-part-write-value-start : (t : ℕ) → In-array t write-array-lts.Need-part-write-value-start
 write-array-part-write-value-start t c = write-array-sub-write-value-2 t c
-
-write-array-part-write-value-end : (t : ℕ) → In-array t write-array-lts.Need-part-write-value-end
-write-array-part-write-value-end t c = search needs
 
 write-array-write-value-requires : (t : ℕ) → In-array t write-array-lts.Need-write-value-requires
 write-array-write-value-requires t c κs =
@@ -258,18 +214,15 @@ write-array-loop-again t c =
       v .kept .1 .1 .1 .1 .1 .0 ∙ l .loop .inv .2,
     )
 
-write-array-enum-told : (t : ℕ) → In-array t write-array-lts.Need-enum-told
-write-array-enum-told t c = search needs
-
 -- nothing is left
 elements-ended : (t : ℕ) (c : In-array t write-array-lts.After-enum-told)
     → let l = c .before .before .before in let a = array-entry t l .args in
-    Gives (now (a .s)) (l .loop .i) (a .depth - 1) false (l .loop .inv .0 .trees) (l .loop .inv .0 .rest) (End (c .enum-told .given .0 .0))
+    GivesItem (now (a .s)) (l .loop .i) (a .depth - 1) false (l .loop .inv .0 .trees) (l .loop .inv .0 .rest) (End (c .enum-told .given .0 .0))
 elements-ended t c =
     let d = c .before .before in
     let p = d .before .loop .inv .0 in
     let a = d .before .before .before .before .before .before .args in
-    subst (Gives (now (a .s)) (d .before .loop .i) (a .depth - 1) false (p .trees) (p .rest)) (c .enum-told .given .1)
+    subst (GivesItem (now (a .s)) (d .before .loop .i) (a .depth - 1) false (p .trees) (p .rest)) (c .enum-told .given .1)
     (d .read-item .ensures (p .trees) (p .rest) (p .left))
 
 write-array-slice-write-out-2 : (t : ℕ) → In-array t write-array-lts.Need-slice-write-out-2
@@ -300,7 +253,7 @@ write-array-returns t c =
 
 -- a need or a place of `write_member`, at the measure t
 abbrev In-member : ℕ → (write-member-lts.Claims → In 4 write-member-kinds.ps → Out 4 write-member-kinds.ps write-member-kinds.r → Type 0) → Type 0
-In-member t F = F (write-member-calls t) (write-member-at t) write-member.Post
+In-member t F = F (write-member-calls t) (at-measure write-member-kinds.ps μ-write-member write-member.Pre t) write-member.Post
 
 write-member-write-string-requires : (t : ℕ) → In-member t write-member-lts.Need-write-string-requires
 write-member-write-string-requires t c κs =
@@ -329,9 +282,6 @@ write-member-sub-write-value t c =
 write-member-part-write-value-start : (t : ℕ) → In-member t write-member-lts.Need-part-write-value-start
 write-member-part-write-value-start t c = write-member-sub-write-value t c
 
-write-member-part-write-value-end : (t : ℕ) → In-member t write-member-lts.Need-part-write-value-end
-write-member-part-write-value-end t c = search needs
-
 write-member-write-value-requires : (t : ℕ) → In-member t write-member-lts.Need-write-value-requires
 write-member-write-value-requires t c κs =
     let i = c .before .before .before in
@@ -358,12 +308,6 @@ write-member-same-length t c =
     let h = MemberParts.completed p _ _ (d .write-string .ensures) _ (i .item-value .ensures) _ _ (w .write-value .ensures) in
     Written.same-length (h (p .key) (p .value) (p .here) .1)
 
-write-member-same-length-2 : (t : ℕ) → In-member t write-member-lts.Need-same-length-2
-write-member-same-length-2 t c = search needs
-
-write-member-same-length-3 : (t : ℕ) → In-member t write-member-lts.Need-same-length-3
-write-member-same-length-3 t c = search needs
-
 write-member-returns : (t : ℕ) → In-member t write-member-lts.Need-returns
 write-member-returns t c =
     let w = c .before .before .before .before .before .before in
@@ -374,7 +318,7 @@ write-member-returns t c =
 
 abbrev write-members-Inv-loop : write-members-lts.InvT-loop
 write-members-Inv-loop s at depth count out₀ keys₀ spare₀ n₀ i₀ out keys spare n i =
-    Objects.Progress s at depth out₀ keys₀ spare₀ out keys count n i × (i ≤ count) × (length spare ≡ length spare₀)
+    Objects.ObjectWritten s at depth out₀ keys₀ spare₀ out keys count n i × (i ≤ count) × (length spare ≡ length spare₀)
 
 abbrev write-members-μ-loop : write-members-lts.MeasureT-loop
 write-members-μ-loop s at depth count out₀ keys₀ spare₀ n₀ i₀ out keys spare n i = count - i
@@ -382,7 +326,9 @@ write-members-μ-loop s at depth count out₀ keys₀ spare₀ n₀ i₀ out key
 -- a need or a place of `write_members`, at the measure t
 abbrev In-members : ℕ → (write-members-lts.Claims → In 4 write-members-kinds.ps → Out 4 write-members-kinds.ps write-members-kinds.r
     → write-members-lts.InvT-loop → write-members-lts.MeasureT-loop → Type 0) → Type 0
-In-members t F = F (write-members-calls t) (write-members-at t) write-members.Post write-members-Inv-loop write-members-μ-loop
+In-members t F =
+    F (write-members-calls t) (at-measure write-members-kinds.ps μ-write-members write-members.Pre t) write-members.Post write-members-Inv-loop
+    write-members-μ-loop
 
 write-members-slice-write-out : (t : ℕ) → In-members t write-members-lts.Need-slice-write-out
 write-members-slice-write-out t c = Objects.mark-fits (c .before .before .before .before .pre .1)
@@ -424,9 +370,6 @@ write-members-sub-write-member-2 t c =
 write-members-part-write-member-start : (t : ℕ) → In-members t write-members-lts.Need-part-write-member-start
 write-members-part-write-member-start t c = write-members-sub-write-member-2 t c
 
-write-members-part-write-member-end : (t : ℕ) → In-members t write-members-lts.Need-part-write-member-end
-write-members-part-write-member-end t c = search needs
-
 write-members-mul-write-member : (t : ℕ) → In-members t write-members-lts.Need-mul-write-member
 write-members-mul-write-member t c =
     let l = c .before .before .before .before .before .before .before in
@@ -437,9 +380,6 @@ write-members-sub-write-member-3 t c = c .before .before .before .before .before
 
 write-members-part-write-member-start-2 : (t : ℕ) → In-members t write-members-lts.Need-part-write-member-start-2
 write-members-part-write-member-start-2 t c = c .before .before .before .before .before .before .before .loop .inv .0 .within
-
-write-members-part-write-member-end-2 : (t : ℕ) → In-members t write-members-lts.Need-part-write-member-end-2
-write-members-part-write-member-end-2 t c = search needs
 
 write-members-write-member-requires : (t : ℕ) → In-members t write-members-lts.Need-write-member-requires
 write-members-write-member-requires t c κs =
@@ -512,7 +452,7 @@ write-members-returns t c = λ v h. from-mark _ 0x7B _ (Objects.finished (c .bef
 
 -- a need or a place of `write_object`, at the measure t
 abbrev In-object : ℕ → (write-object-lts.Claims → In 4 write-object-kinds.ps → Out 4 write-object-kinds.ps write-object-kinds.r → Type 0) → Type 0
-In-object t F = F (write-object-calls t) (write-object-at t) write-object.Post
+In-object t F = F (write-object-calls t) (at-measure write-object-kinds.ps μ-write-object write-object.Pre t) write-object.Post
 
 write-object-sorted-keys-requires : (t : ℕ) → In-object t write-object-lts.Need-sorted-keys-requires
 write-object-sorted-keys-requires t c κs = Objects.keys-space (c .before .before .before .before .before .before .pre .1)
@@ -524,50 +464,31 @@ write-object-write-members-requires t c κs =
     let b = k .before .before .before .before .before .before .before in
     (omega (arith, b .pre .0), Objects.keys-given (b .pre .1) _ _ _ (f .kept .1 .1 .1 .0) (f .kept .1 .1 .1 .1 .0) (f .ensures))
 
-write-object-same-length : (t : ℕ) → In-object t write-object-lts.Need-same-length
-write-object-same-length t c = search needs
-
-write-object-same-length-2 : (t : ℕ) → In-object t write-object-lts.Need-same-length-2
-write-object-same-length-2 t c = search needs
-
-write-object-same-length-3 : (t : ℕ) → In-object t write-object-lts.Need-same-length-3
-write-object-same-length-3 t c = search needs
-
 write-object-returns : (t : ℕ) → In-object t write-object-lts.Need-returns
 write-object-returns t c = c .before .before .before .before .before .before .write-members .ensures
 
 -- a need or a place of `write_value`, at the measure t
 abbrev In-value : ℕ → (write-value-lts.Claims → In 4 write-value-kinds.ps → Out 4 write-value-kinds.ps write-value-kinds.r → Type 0) → Type 0
-In-value t F = F (write-value-calls t) (write-value-at t) write-value.Post
+In-value t F = F (write-value-calls t) (at-measure write-value-kinds.ps μ-write-value write-value.Pre t) write-value.Post
 
 write-value-kind-requires : (t : ℕ) → In-value t write-value-lts.Need-kind-requires
 write-value-kind-requires t c κs =
     let b = c .before .before .before .before in
     record { depth = b .args .depth; value = b .pre .1 .value; here = b .pre .1 .space .here }
 
-write-value-enum-told : (t : ℕ) → In-value t write-value-lts.Need-enum-told
-write-value-enum-told t c = search needs
-
 write-value-write-array-requires : (t : ℕ) → In-value t write-value-lts.Need-write-array-requires
 write-value-write-array-requires t c κs =
     let d = c .before .before .before in
     let b = d .before .before .before .before .before .before .before in
-    let p = b .pre .1 in
-    let k = sym (d .enum-told .given .1) ∙ d .before .before .kind .ensures (b .args .depth) (p .value) (p .space .here) in
-    let v = array-value (p .value) k in
-    (omega (arith, b .pre .0), record { values = v .0; space = space-of (v .1) (p .space) })
-
-write-value-enum-told-2 : (t : ℕ) → In-value t write-value-lts.Need-enum-told-2
-write-value-enum-told-2 t c = search needs
+    let k = d .before .before .kind .ensures (b .args .depth) (b .pre .1 .value) (b .pre .1 .space .here) in
+    (omega (arith, b .pre .0), writable-array (b .pre .1) (sym (d .enum-told .given .1) ∙ k))
 
 write-value-write-object-requires : (t : ℕ) → In-value t write-value-lts.Need-write-object-requires
 write-value-write-object-requires t c κs =
     let d = c .before .before .before in
     let b = d .before .before .before .before .before .before .before in
-    let p = b .pre .1 in
-    let k = sym (d .enum-told2 .given .1) ∙ d .before .before .kind .ensures (b .args .depth) (p .value) (p .space .here) in
-    let v = object-value (p .value) k in
-    (omega (arith, b .pre .0), record { fields = v .0; space = space-of (v .1) (p .space) })
+    let k = d .before .before .kind .ensures (b .args .depth) (b .pre .1 .value) (b .pre .1 .space .here) in
+    (omega (arith, b .pre .0), writable-object (b .pre .1) (sym (d .enum-told2 .given .1) ∙ k))
 
 write-value-write-scalar-requires : (t : ℕ) → In-value t write-value-lts.Need-write-scalar-requires
 write-value-write-scalar-requires t c κs =
@@ -585,131 +506,39 @@ write-value-write-scalar-requires t c κs =
       form = p .space .form;
     }
 
-write-value-same-length : (t : ℕ) → In-value t write-value-lts.Need-same-length
-write-value-same-length t c = search needs
-
-write-value-same-length-2 : (t : ℕ) → In-value t write-value-lts.Need-same-length-2
-write-value-same-length-2 t c = search needs
-
-write-value-same-length-3 : (t : ℕ) → In-value t write-value-lts.Need-same-length-3
-write-value-same-length-3 t c = search needs
-
 write-value-returns : (t : ℕ) → In-value t write-value-lts.Need-returns
 write-value-returns t c = c .before .before .before .before .before .before .write-array .ensures
 
-write-value-same-length-4 : (t : ℕ) → In-value t write-value-lts.Need-same-length-4
-write-value-same-length-4 t c = search needs
-
-write-value-same-length-5 : (t : ℕ) → In-value t write-value-lts.Need-same-length-5
-write-value-same-length-5 t c = search needs
-
-write-value-same-length-6 : (t : ℕ) → In-value t write-value-lts.Need-same-length-6
-write-value-same-length-6 t c = search needs
-
 write-value-returns-2 : (t : ℕ) → In-value t write-value-lts.Need-returns-2
 write-value-returns-2 t c = c .before .before .before .before .before .before .write-object .ensures
-
-write-value-same-length-7 : (t : ℕ) → In-value t write-value-lts.Need-same-length-7
-write-value-same-length-7 t c = search needs
 
 write-value-returns-3 : (t : ℕ) → In-value t write-value-lts.Need-returns-3
 write-value-returns-3 t c = c .before .before .write-scalar .ensures _
 
 pub +write-array+write-member+write-members+write-object+write-value-spec : {M : Type 1} → statement M
 +write-array+write-member+write-members+write-object+write-value-spec =
-    close μ-write-array μ-write-member μ-write-members μ-write-object μ-write-value (λ t. write-array-lts.spec (write-array-calls t) (write-array-at t)
-    write-array.Post
-    write-array-Inv-loop
-    write-array-μ-loop
-    (write-array-slice-write-out t)
-    (write-array-add-i t)
-    (write-array-loop-holds t)
-    (write-array-sub-read-item t)
-    (write-array-read-item-requires t)
-    (write-array-enum-known-value t)
-    (write-array-separate-requires t)
-    (write-array-sub-write-value t)
-    (write-array-sub-write-value-2 t)
-    (write-array-part-write-value-start t)
-    (write-array-part-write-value-end t)
-    (write-array-write-value-requires t)
-    (write-array-add-n t)
-    (write-array-loop-less t)
-    (write-array-loop-again t)
-    (write-array-enum-told t)
-    (write-array-slice-write-out-2 t)
-    (write-array-add-result t)
-    (write-array-same-length t)
-    (write-array-same-length-2 t)
-    (write-array-same-length-3 t)
-    (write-array-returns t))
-    (λ t. write-member-lts.spec (write-member-calls t) (write-member-at t)
-    write-member.Post
-    (write-member-write-string-requires t)
-    (write-member-slice-write-out t)
-    (write-member-add-start t)
-    (write-member-item-value-requires t)
-    (write-member-sub-write-value t)
-    (write-member-part-write-value-start t)
-    (write-member-part-write-value-end t)
-    (write-member-write-value-requires t)
-    (write-member-add-result t)
-    (write-member-same-length t)
-    (write-member-same-length-2 t)
-    (write-member-same-length-3 t)
-    (write-member-returns t))
-    (λ t. write-members-lts.spec (write-members-calls t) (write-members-at t)
-    write-members.Post
-    write-members-Inv-loop
-    write-members-μ-loop
-    (write-members-slice-write-out t)
-    (write-members-loop-holds t)
-    (write-members-mul-key t)
-    (write-members-slice-read-key t)
-    (write-members-cast-key t)
-    (write-members-separate-requires t)
-    (write-members-sub-write-member t)
-    (write-members-sub-write-member-2 t)
-    (write-members-part-write-member-start t)
-    (write-members-part-write-member-end t)
-    (write-members-mul-write-member t)
-    (write-members-sub-write-member-3 t)
-    (write-members-part-write-member-start-2 t)
-    (write-members-part-write-member-end-2 t)
-    (write-members-write-member-requires t)
-    (write-members-add-n t)
-    (write-members-add-i t)
-    (write-members-loop-less t)
-    (write-members-loop-again t)
-    (write-members-slice-write-out-2 t)
-    (write-members-add-result t)
-    (write-members-same-length t)
-    (write-members-same-length-2 t)
-    (write-members-same-length-3 t)
-    (write-members-returns t))
-    (λ t. write-object-lts.spec (write-object-calls t) (write-object-at t)
-    write-object.Post
-    (write-object-sorted-keys-requires t)
-    (write-object-write-members-requires t)
-    (write-object-same-length t)
-    (write-object-same-length-2 t)
-    (write-object-same-length-3 t)
-    (write-object-returns t))
-    λ t. write-value-lts.spec (write-value-calls t) (write-value-at t)
-    write-value.Post
-    (write-value-kind-requires t)
-    (write-value-enum-told t)
-    (write-value-write-array-requires t)
-    (write-value-enum-told-2 t)
-    (write-value-write-object-requires t)
-    (write-value-write-scalar-requires t)
-    (write-value-same-length t)
-    (write-value-same-length-2 t)
-    (write-value-same-length-3 t)
-    (write-value-returns t)
-    (write-value-same-length-4 t)
-    (write-value-same-length-5 t)
-    (write-value-same-length-6 t)
-    (write-value-returns-2 t)
-    (write-value-same-length-7 t)
+    close μ-write-array μ-write-member μ-write-members μ-write-object μ-write-value (λ t. write-array-lts.spec (write-array-calls t)
+    (at-measure write-array-kinds.ps μ-write-array write-array.Pre t) write-array.Post write-array-Inv-loop write-array-μ-loop
+    (write-array-slice-write-out t) (write-array-add-i t) (write-array-loop-holds t) (write-array-sub-read-item t) (write-array-read-item-requires t)
+    (λ c. search needs) (write-array-separate-requires t) (write-array-sub-write-value t) (write-array-sub-write-value-2 t)
+    (write-array-part-write-value-start t) (λ c. search needs) (write-array-write-value-requires t) (write-array-add-n t) (write-array-loop-less t)
+    (write-array-loop-again t) (λ c. search needs) (write-array-slice-write-out-2 t) (write-array-add-result t) (write-array-same-length t)
+    (write-array-same-length-2 t) (write-array-same-length-3 t) (write-array-returns t)) (λ t. write-member-lts.spec (write-member-calls t)
+    (at-measure write-member-kinds.ps μ-write-member write-member.Pre t) write-member.Post (write-member-write-string-requires t)
+    (write-member-slice-write-out t) (write-member-add-start t) (write-member-item-value-requires t) (write-member-sub-write-value t)
+    (write-member-part-write-value-start t) (λ c. search needs) (write-member-write-value-requires t) (write-member-add-result t)
+    (write-member-same-length t) (λ c. search needs) (λ c. search needs) (write-member-returns t)) (λ t. write-members-lts.spec
+    (write-members-calls t) (at-measure write-members-kinds.ps μ-write-members write-members.Pre t) write-members.Post write-members-Inv-loop
+    write-members-μ-loop (write-members-slice-write-out t) (write-members-loop-holds t) (write-members-mul-key t) (write-members-slice-read-key t)
+    (write-members-cast-key t) (write-members-separate-requires t) (write-members-sub-write-member t) (write-members-sub-write-member-2 t)
+    (write-members-part-write-member-start t) (λ c. search needs) (write-members-mul-write-member t) (write-members-sub-write-member-3 t)
+    (write-members-part-write-member-start-2 t) (λ c. search needs) (write-members-write-member-requires t) (write-members-add-n t)
+    (write-members-add-i t) (write-members-loop-less t) (write-members-loop-again t) (write-members-slice-write-out-2 t) (write-members-add-result t)
+    (write-members-same-length t) (write-members-same-length-2 t) (write-members-same-length-3 t) (write-members-returns t)) (λ t.
+    write-object-lts.spec (write-object-calls t) (at-measure write-object-kinds.ps μ-write-object write-object.Pre t) write-object.Post
+    (write-object-sorted-keys-requires t) (write-object-write-members-requires t) (λ c. search needs) (λ c. search needs) (λ c. search needs)
+    (write-object-returns t)) λ t. write-value-lts.spec (write-value-calls t) (at-measure write-value-kinds.ps μ-write-value write-value.Pre t)
+    write-value.Post (write-value-kind-requires t) (λ c. search needs) (write-value-write-array-requires t) (λ c. search needs)
+    (write-value-write-object-requires t) (write-value-write-scalar-requires t) (λ c. search needs) (λ c. search needs) (λ c. search needs)
+    (write-value-returns t) (λ c. search needs) (λ c. search needs) (λ c. search needs) (write-value-returns-2 t) (λ c. search needs)
     (write-value-returns-3 t)

@@ -7,16 +7,16 @@ use mathlib.Core.Path.{_≡_, refl, subst}
 use native.Mathlib.Omega.{arith}
 use denote.Ref.{now}
 use lib.ListN.{length, length-set}
-use Rattle.text_view.specs.Listed.{Gives}
+use Rattle.text_view.specs.Listed.{GivesItem}
 use Rattle.text_view.specs.declared.value.Item.the-variants.{At}
 use Rattle.text_view.proofs.Values.{within}
 use Rattle.text_canonical.proofs.Collect
-use Rattle.text_canonical.proofs.Collect.{Progress}
+use Rattle.text_canonical.proofs.Collect.{KeysGathered}
 use Rattle.text_canonical.proofs.collect_keys.Statement.{statement}
 use Rattle.text_canonical.proofs.collect_keys.Tie as tie
 
 abbrev Inv-loop : tie.InvT-loop
-Inv-loop s at depth keys₀ n₀ i₀ keys n i = Progress s at depth keys n i × (length keys ≡ length keys₀)
+Inv-loop s at depth keys₀ n₀ i₀ keys n i = KeysGathered s at depth keys n i × (length keys ≡ length keys₀)
 
 abbrev μ-loop : tie.MeasureT-loop
 μ-loop s at depth keys₀ n₀ i₀ keys n i = length s - i
@@ -33,12 +33,9 @@ sub-read-item c = omega (arith, c .loop .inv .0 .some)
 read-item-requires : tie.Need-read-item-requires Inv-loop μ-loop
 read-item-requires c κs = Collect.items-left (c .loop .inv .0)
 
-enum-known-first : tie.Need-enum-known-first Inv-loop μ-loop
-enum-known-first c = search needs
-
 -- what `read_item` gave: a member
 abbrev inv : (c : tie.After-known-told Inv-loop μ-loop) → let b = c .before .before .before .before in let a = b .before .before .before .args in
-    Progress (now (a .s)) (a .at) (a .depth) (b .loop .keys) (b .loop .n) (b .loop .i)
+    KeysGathered (now (a .s)) (a .at) (a .depth) (b .loop .keys) (b .loop .n) (b .loop .i)
 inv c = c .before .before .before .before .loop .inv .0
 
 abbrev inv-length : (c : tie.After-known-told Inv-loop μ-loop) → let b = c .before .before .before .before in
@@ -47,12 +44,12 @@ inv-length c = c .before .before .before .before .loop .inv .1
 
 given : (c : tie.After-known-told Inv-loop μ-loop) → let b = c .before .before .before .before in let a = b .before .before .before .args in
     let p = b .loop .inv .0 in let g = c .before .first .given .0 in
-    Gives (now (a .s)) (b .loop .i) (a .depth - 1) true (p .trees) (p .rest) (At (g .0) (g .1 .0) (g .1 .1 .0))
+    GivesItem (now (a .s)) (b .loop .i) (a .depth - 1) true (p .trees) (p .rest) (At (g .0) (g .1 .0) (g .1 .1 .0))
 given c =
     let p = inv c in
     let b = c .before .before .before in
     let a = b .before .before .before .before .args in
-    subst (Gives (now (a .s)) (b .before .loop .i) (a .depth - 1) true (p .trees) (p .rest)) (c .before .first .given .1)
+    subst (GivesItem (now (a .s)) (b .before .loop .i) (a .depth - 1) true (p .trees) (p .rest)) (c .before .first .given .1)
     (b .read-item .ensures (p .trees) (p .rest) (p .left))
 
 cast-keys : tie.Need-cast-keys Inv-loop μ-loop
@@ -77,9 +74,6 @@ loop-less c = let p = inv c in omega (arith, Collect.later p _ _ _ (p .trees) (g
 loop-again : tie.Need-loop-again Inv-loop μ-loop
 loop-again c = (Collect.collected (inv c) _ _ _ (given c), simp length-set (inv-length c))
 
-enum-told : tie.Need-enum-told Inv-loop μ-loop
-enum-told c = search needs
-
 same-length : tie.Need-same-length Inv-loop μ-loop
 same-length c = c .before .before .before .loop .inv .1
 
@@ -90,27 +84,11 @@ returns c =
     let a = d .before .before .before .before .args in (
       omega (arith, p .space, d .before .loop .inv .1),
       Collect.finished p _
-          (subst (Gives (now (a .s)) (d .before .loop .i) (a .depth - 1) true (p .trees) (p .rest)) (c .enum-told .given .1)
+          (subst (GivesItem (now (a .s)) (d .before .loop .i) (a .depth - 1) true (p .trees) (p .rest)) (c .enum-told .given .1)
           (d .read-item .ensures (p .trees) (p .rest) (p .left))),
     )
 
 pub collect-keys-spec : {M : Type 1} → statement M
 collect-keys-spec =
-    tie.close
-    (tie.spec
-    Inv-loop
-    μ-loop
-    add-i
-    loop-holds
-    sub-read-item
-    read-item-requires
-    enum-known-first
-    cast-keys
-    mul-keys
-    slice-write-keys
-    add-n
-    loop-less
-    loop-again
-    enum-told
-    same-length
-    returns)
+    tie.close (tie.spec Inv-loop μ-loop add-i loop-holds sub-read-item read-item-requires (λ c. search needs) cast-keys mul-keys slice-write-keys
+    add-n loop-less loop-again (λ c. search needs) same-length returns)

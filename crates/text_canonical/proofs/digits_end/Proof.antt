@@ -4,12 +4,9 @@ use Prim.Native.Nat.{ℕ, _+_}
 use mathlib.Core.Path.{ap, subst}
 use native.Mathlib.Omega.{arith}
 use denote.Ref.{now}
-use lib.Dec.{eqb}
-use lib.ListN.{getD}
 use Rattle.text_numbers.specs.Parts.{Ints}
-use Rattle.text_numbers.proofs.Numerals.{signs-most}
 use Rattle.text_view.proofs.Values.{within}
-use Rattle.text_view.proofs.Numbers.{number-parts, no-int}
+use Rattle.text_view.proofs.Numbers.{after-sign, always-digits}
 use Rattle.text_canonical.proofs.Scalars.{digits-end}
 use Rattle.text_canonical.proofs.digits_end.Statement.{statement}
 use Rattle.text_canonical.proofs.digits_end.Tie as tie
@@ -17,28 +14,15 @@ use Rattle.text_canonical.proofs.digits_end.Tie as tie
 shared-slice-read-sign-size : tie.Need-shared-slice-read-sign-size
 shared-slice-read-sign-size c = let p = c .before .before .pre in within _ _ (p .depth) _ (p .here)
 
-sign-size-requires : tie.Need-sign-size-requires
-sign-size-requires c κs = search needs
-
 add-first : tie.Need-add-first
 add-first c =
-    let a = c .before .before .before .args in
     let p = c .before .before .before .pre in
-    let f = c .sign-size .ensures in
-    omega (arith, within (now (a .s)) (a .at) (p .depth) _ (p .here), signs-most (eqb (getD (now (a .s)) (a .at) 0) 0x2D))
+    omega (arith, after-sign _ _ (p .depth) _ (p .here) _ (c .sign-size .ensures))
 
 int-part-requires : tie.Need-int-part-requires
 int-part-requires c κs =
-    let a = c .before .before .before .args in
     let p = c .before .before .before .pre in
-    let f = c .sign-size .ensures in
-    omega (arith, within (now (a .s)) (a .at) (p .depth) _ (p .here), signs-most (eqb (getD (now (a .s)) (a .at) 0) 0x2D))
-
-enum-known-end : tie.Need-enum-known-end
-enum-known-end c = search needs
-
-enum-known-end-2 : tie.Need-enum-known-end-2
-enum-known-end-2 c = search needs
+    after-sign _ _ (p .depth) _ (p .here) _ (c .sign-size .ensures)
 
 returns : tie.Need-returns
 returns c =
@@ -54,20 +38,10 @@ returns-2 c =
     let d = c .before .before .before in
     let b = d .before .before .before .before in
     let p = b .pre in
-    let f = ap (λ (n : ℕ). b .args .at + n) (d .before .sign-size .ensures) in
-    let k = number-parts (now (b .args .s)) (b .args .at) (p .depth) (p .negative) (p .digits) (p .here) in
-    no-int _ _ _ f _ _ (k .1 .1) _ (subst (Ints (now (b .args .s)) (b .args .at + d .before .sign-size .result)) (c .before .end2 .given .1)
-    (d .int-part .ensures))
+    always-digits _ _ (p .depth) (p .negative) (p .digits) (p .here) _ (d .before .sign-size .ensures) _
+    (subst (Ints (now (b .args .s)) (b .args .at + d .before .sign-size .result)) (c .before .end2 .given .1) (d .int-part .ensures))
 
 pub digits-end-spec : {M : Type 1} → statement M
 digits-end-spec =
-    tie.close
-    (tie.spec
-    shared-slice-read-sign-size
-    sign-size-requires
-    add-first
-    int-part-requires
-    enum-known-end
-    enum-known-end-2
-    returns
+    tie.close (tie.spec shared-slice-read-sign-size (λ c κs. search needs) add-first int-part-requires (λ c. search needs) (λ c. search needs) returns
     returns-2)

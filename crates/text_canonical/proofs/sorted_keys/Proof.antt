@@ -7,12 +7,6 @@ use Rattle.text_canonical.proofs.Collect.{sorted}
 use Rattle.text_canonical.proofs.sorted_keys.Statement.{statement}
 use Rattle.text_canonical.proofs.sorted_keys.Tie as tie
 
-collect-keys-requires : tie.Need-collect-keys-requires
-collect-keys-requires c κs = search needs
-
-slice-relend-prefix-sort-keys : tie.Need-slice-relend-prefix-sort-keys
-slice-relend-prefix-sort-keys c = search needs
-
 slice-aggregate-sort-keys : tie.Need-slice-aggregate-sort-keys
 slice-aggregate-sort-keys c =
     let f = c .before .before .before .collect-keys in
@@ -32,12 +26,6 @@ sort-keys-requires c κs =
       ),
     )
 
-same-length : tie.Need-same-length
-same-length c = search needs
-
-same-length-2 : tie.Need-same-length-2
-same-length-2 c = search needs
-
 returns : tie.Need-returns
 returns c =
     let f = c .before .before .before .before .before .before .before .before .before .collect-keys in
@@ -47,12 +35,5 @@ returns c =
 
 pub sorted-keys-spec : {M : Type 1} → statement M
 sorted-keys-spec =
-    tie.close
-    (tie.spec
-    collect-keys-requires
-    slice-relend-prefix-sort-keys
-    slice-aggregate-sort-keys
-    sort-keys-requires
-    same-length
-    same-length-2
-    returns)
+    tie.close (tie.spec (λ c κs. search needs) (λ c. search needs) slice-aggregate-sort-keys sort-keys-requires (λ c. search needs)
+    (λ c. search needs) returns)

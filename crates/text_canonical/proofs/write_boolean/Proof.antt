@@ -10,17 +10,11 @@ use Rattle.text_canonical.proofs.Scalars.{true-form, false-form}
 use Rattle.text_canonical.proofs.write_boolean.Statement.{statement}
 use Rattle.text_canonical.proofs.write_boolean.Tie as tie
 
-slice-aggregate-copy : tie.Need-slice-aggregate-copy
-slice-aggregate-copy c = search needs
-
 copy-requires : tie.Need-copy-requires
 copy-requires c κs =
     let b = c .before .before in
     let e = ap (λ (x : Bool). length (canonical (boolean x))) (b .if1 .taken) ∙ ap length true-form in
     omega (arith, b .before .before .pre)
-
-slice-aggregate-copy-2 : tie.Need-slice-aggregate-copy-2
-slice-aggregate-copy-2 c = search needs
 
 copy-requires-2 : tie.Need-copy-requires-2
 copy-requires-2 c κs =
@@ -28,16 +22,10 @@ copy-requires-2 c κs =
     let e = ap (λ (x : Bool). length (canonical (boolean x))) (b .if1 .left) ∙ ap length false-form in
     omega (arith, b .before .before .pre)
 
-same-length : tie.Need-same-length
-same-length c = search needs
-
 returns : tie.Need-returns
 returns c =
     let d = c .before .before in
     rw (d .before .before .before .if1 .taken, true-form) (d .copy .ensures)
-
-same-length-2 : tie.Need-same-length-2
-same-length-2 c = search needs
 
 returns-2 : tie.Need-returns-2
 returns-2 c =
@@ -46,13 +34,5 @@ returns-2 c =
 
 pub write-boolean-spec : {M : Type 1} → statement M
 write-boolean-spec =
-    tie.close
-    (tie.spec
-    slice-aggregate-copy
-    copy-requires
-    slice-aggregate-copy-2
-    copy-requires-2
-    same-length
-    returns
-    same-length-2
+    tie.close (tie.spec (λ c. search needs) copy-requires (λ c. search needs) copy-requires-2 (λ c. search needs) returns (λ c. search needs)
     returns-2)

@@ -8,27 +8,15 @@ use Rattle.text_canonical.proofs.Scalars.{same-kind, null-bytes, boolea
 use Rattle.text_canonical.proofs.write_scalar.Statement.{statement}
 use Rattle.text_canonical.proofs.write_scalar.Tie as tie
 
-enum-told : tie.Need-enum-told
-enum-told c = search needs
-
-slice-aggregate-copy : tie.Need-slice-aggregate-copy
-slice-aggregate-copy c = search needs
-
 copy-requires : tie.Need-copy-requires
 copy-requires c κs =
     let b = c .before .before .before .before .before .before in
     omega (arith, ap length (null-bytes (b .pre .value) (sym (c .before .before .enum-told .given .1) ∙ b .pre .tells)), b .pre .form)
 
-enum-known-kind : tie.Need-enum-known-kind
-enum-known-kind c = search needs
-
 write-boolean-requires : tie.Need-write-boolean-requires
 write-boolean-requires c κs =
     let b = c .before .before .before .before .before .before in
     omega (arith, ap length (boolean-bytes _ (b .pre .value) (sym (c .before .before .kind .given .1) ∙ b .pre .tells)), b .pre .form)
-
-enum-told-2 : tie.Need-enum-told-2
-enum-told-2 c = search needs
 
 digits-end-requires : tie.Need-digits-end-requires
 digits-end-requires c κs =
@@ -49,18 +37,12 @@ write-string-requires c κs =
     let k = sym (left-string (b .args .kind) (c .before .match .keys4) (p .no-array) (p .no-object)) ∙ p .tells in
     (string-inside _ _ (p .depth) (p .value) (p .here) k, omega (arith, ap length (string-bytes _ _ (p .depth) (p .value) (p .here) k), p .form))
 
-same-length : tie.Need-same-length
-same-length c = search needs
-
 returns : tie.Need-returns
 returns c =
     let d = c .before .before in
     let b = d .before .before .before .before .before .before .before in
     λ depth v h. rw (null-bytes v (sym (d .before .before .before .enum-told .given .1) ∙ b .pre .tells ∙ same-kind _ _ _ _ _ v (b .pre .here) h))
     (d .copy .ensures)
-
-same-length-2 : tie.Need-same-length-2
-same-length-2 c = search needs
 
 returns-2 : tie.Need-returns-2
 returns-2 c =
@@ -69,18 +51,12 @@ returns-2 c =
     λ depth v h. rw (boolean-bytes _ v (sym (d .before .before .before .kind .given .1) ∙ b .pre .tells ∙ same-kind _ _ _ _ _ v (b .pre .here) h))
     (d .write-boolean .ensures)
 
-same-length-3 : tie.Need-same-length-3
-same-length-3 c = search needs
-
 returns-3 : tie.Need-returns-3
 returns-3 c =
     let d = c .before .before in
     let b = d .before .before .before .before .before .before .before in
     λ depth v h. number-written _ _ depth v h _ _ _ _ (d .before .before .digits-end .ensures)
     (sym (d .before .before .before .enum-told2 .given .1) ∙ b .pre .tells ∙ same-kind _ _ _ _ _ v (b .pre .here) h) (d .copy2 .ensures)
-
-same-length-4 : tie.Need-same-length-4
-same-length-4 c = search needs
 
 returns-4 : tie.Need-returns-4
 returns-4 c =
@@ -92,22 +68,6 @@ returns-4 c =
 
 pub write-scalar-spec : {M : Type 1} → statement M
 write-scalar-spec =
-    tie.close
-    (tie.spec
-    enum-told
-    slice-aggregate-copy
-    copy-requires
-    enum-known-kind
-    write-boolean-requires
-    enum-told-2
-    digits-end-requires
-    copy-requires-2
-    write-string-requires
-    same-length
-    returns
-    same-length-2
-    returns-2
-    same-length-3
-    returns-3
-    same-length-4
-    returns-4)
+    tie.close (tie.spec (λ c. search needs) (λ c. search needs) copy-requires (λ c. search needs) write-boolean-requires (λ c. search needs)
+    digits-end-requires copy-requires-2 write-string-requires (λ c. search needs) returns (λ c. search needs) returns-2 (λ c. search needs) returns-3
+    (λ c. search needs) returns-4)

@@ -19,4 +19,5 @@ returns-2 c =
     rw (escaped, ne-eqb _ 0x22 (λ e. other (inl e)), ne-eqb _ 0x5C (λ e. other (inr e))) (refl, omega arith)
 
 pub byte-size-spec : {M : Type 1} → statement M
-byte-size-spec = tie.close (tie.spec returns returns-2)
+byte-size-spec =
+    tie.close (tie.spec returns returns-2)

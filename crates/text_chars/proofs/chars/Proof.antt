@@ -53,12 +53,6 @@ starts c = char-escape (text (head c)) (head c .loop .i) (c .before .before .bef
 loop-holds : tie.Need-loop-holds Inv-loop μ-loop
 loop-holds c = (omega arith, c .before .pre, omega arith, add-none _)
 
-shared-slice-read-b : tie.Need-shared-slice-read-b Inv-loop μ-loop
-shared-slice-read-b c = omega arith
-
-add-t16 : tie.Need-add-t16 Inv-loop μ-loop
-add-t16 c = omega arith
-
 returns : tie.Need-returns Inv-loop μ-loop
 returns c =
     let l = c .before .before .before in
@@ -67,9 +61,6 @@ returns c =
 
 one-escape-requires : tie.Need-one-escape-requires Inv-loop μ-loop
 one-escape-requires c κs = c .before .before .before .loop-test .taken
-
-enum-known-end : tie.Need-enum-known-end Inv-loop μ-loop
-enum-known-end c = search needs
 
 add-size : tie.Need-add-size Inv-loop μ-loop
 add-size c = let taken = rw (c .before .end .given .1) at (c .before .before .before .one-escape .ensures) in omega arith
@@ -82,9 +73,6 @@ loop-again c =
     let taken = rw (c .before .end .given .1) at (c .before .before .before .one-escape .ensures) in
     let then2 = c .before .before .before .before in
     (omega arith, omega arith, omega arith, passes (head then2) (c .before .end .given .0 .0) _ _ (ap measure (starts then2) ∙ taken .3))
-
-enum-known-e : tie.Need-enum-known-e Inv-loop μ-loop
-enum-known-e c = search needs
 
 returns-2 : tie.Need-returns-2 Inv-loop μ-loop
 returns-2 c =
@@ -100,12 +88,6 @@ returns-3 c =
     let l = else1 .before .before .before in
     let read = char-control (text l) (l .loop .i) (else1 .before .before .loop-test .taken) (else1 .if1 .left) (c .before .if2 .left) (c .if3 .taken) in
     (omega arith, scans-none (text l) (l .loop .i) (l .loop .inv .1) _ (stops l (l .loop .i) read))
-
-add-next : tie.Need-add-next Inv-loop μ-loop
-add-next c = omega arith
-
-plain-end-requires : tie.Need-plain-end-requires Inv-loop μ-loop
-plain-end-requires c κs = omega arith
 
 -- what was passed ends in the text
 passed : (c : tie.After-plain-end Inv-loop μ-loop) → c .plain-end .result ≤ length (text (c .before .before .before .before .before .before))
@@ -152,27 +134,6 @@ returns-4 c =
 
 pub chars-spec : {M : Type 1} → statement M
 chars-spec =
-    tie.close
-    (tie.spec
-    Inv-loop
-    μ-loop
-    loop-holds
-    shared-slice-read-b
-    add-t16
-    returns
-    one-escape-requires
-    enum-known-end
-    add-size
-    loop-less
-    loop-again
-    enum-known-e
-    returns-2
-    returns-3
-    add-next
-    plain-end-requires
-    sub-size
-    add-size-2
-    add-size-3
-    loop-less-2
-    loop-again-2
-    returns-4)
+    tie.close (tie.spec Inv-loop μ-loop loop-holds (λ c. omega arith) (λ c. omega arith) returns one-escape-requires (λ c. search needs) add-size
+    loop-less loop-again (λ c. search needs) returns-2 returns-3 (λ c. omega arith) (λ c κs. omega arith) sub-size add-size-2 add-size-3 loop-less-2
+    loop-again-2 returns-4)

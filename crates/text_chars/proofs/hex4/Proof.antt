@@ -63,12 +63,6 @@ below-16 c = rw (c .hex-value .ensures) (hex-below _ (is-digit (c .before)))
 loop-holds : tie.Need-loop-holds Inv-loop μ-loop
 loop-holds c = (omega arith, c .before .pre, refl, omega arith, refl)
 
-shared-slice-read-b : tie.Need-shared-slice-read-b Inv-loop μ-loop
-shared-slice-read-b c = omega arith
-
-is-hex-requires : tie.Need-is-hex-requires Inv-loop μ-loop
-is-hex-requires c κs = search needs
-
 returns : tie.Need-returns Inv-loop μ-loop
 returns c =
     let l = c .before .before .before .before in
@@ -96,15 +90,6 @@ returns-2 c =
       rw (c .before .hex-value .ensures, ← next) (rw (c .if2 .taken) at (inv .4) ∙ last),
     )
 
-add-i : tie.Need-add-i Inv-loop μ-loop
-add-i c = omega arith
-
-sub-left : tie.Need-sub-left Inv-loop μ-loop
-sub-left c = omega arith
-
-loop-less : tie.Need-loop-less Inv-loop μ-loop
-loop-less c = omega arith
-
 loop-again : tie.Need-loop-again Inv-loop μ-loop
 loop-again c =
     let l = c .before .before .before .before .before .before in
@@ -124,20 +109,5 @@ returns-3 c =
 
 pub hex4-spec : {M : Type 1} → statement M
 hex4-spec =
-    tie.close
-    (tie.spec
-    Inv-loop
-    μ-loop
-    loop-holds
-    shared-slice-read-b
-    is-hex-requires
-    returns
-    mul-n
-    hex-value-requires
-    add-n
-    returns-2
-    add-i
-    sub-left
-    loop-less
-    loop-again
-    returns-3)
+    tie.close (tie.spec Inv-loop μ-loop loop-holds (λ c. omega arith) (λ c κs. search needs) returns mul-n hex-value-requires add-n returns-2
+    (λ c. omega arith) (λ c. omega arith) (λ c. omega arith) loop-again returns-3)

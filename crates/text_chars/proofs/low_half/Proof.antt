@@ -38,43 +38,19 @@ starts c = unit-start (text c) (start c .args .at) (c .before .before .if3 .left
 returns : tie.Need-returns
 returns c u = rw (chars-end _ _ char (c .if1 .taken)) (paired-stuck u _)
 
-shared-slice-read-if2 : tie.Need-shared-slice-read-if2
-shared-slice-read-if2 c = search needs
-
 returns-2 : tie.Need-returns-2
 returns-2 c u = paired-plain u _ _ (c .before .before .if1 .left) (c .if2 .taken)
-
-add-next : tie.Need-add-next
-add-next c = search needs
 
 returns-3 : tie.Need-returns-3
 returns-3 c u =
     rw (char-escape _ _ (c .before .before .before .if1 .left) (c .before .if2 .left), chars-end _ _ escape (c .if3 .taken))
     (paired-stuck u _)
 
-shared-slice-read-if4 : tie.Need-shared-slice-read-if4
-shared-slice-read-if4 c = search needs
-
 returns-4 : tie.Need-returns-4
 returns-4 c u =
     let else2 = c .before .before .before in
     rw (char-escape _ _ (else2 .before .before .if1 .left) (else2 .if2 .left))
     (paired-escape u _ _ (c .before .before .if3 .left) (c .if4 .taken))
-
-add-hex4 : tie.Need-add-hex4
-add-hex4 c = search needs
-
-hex4-requires : tie.Need-hex4-requires
-hex4-requires c κs = search needs
-
-enum-known-v : tie.Need-enum-known-v
-enum-known-v c = search needs
-
-between-requires : tie.Need-between-requires
-between-requires c κs = search needs
-
-enum-told : tie.Need-enum-told
-enum-told c = search needs
 
 returns-5 : tie.Need-returns-5
 unfolding isLow
@@ -94,19 +70,5 @@ returns-6 c u =
 
 pub low-half-spec : {M : Type 1} → statement M
 low-half-spec =
-    tie.close
-    (tie.spec
-    returns
-    shared-slice-read-if2
-    returns-2
-    add-next
-    returns-3
-    shared-slice-read-if4
-    returns-4
-    add-hex4
-    hex4-requires
-    enum-known-v
-    between-requires
-    enum-told
-    returns-5
-    returns-6)
+    tie.close (tie.spec returns (λ c. search needs) returns-2 (λ c. search needs) returns-3 (λ c. search needs) returns-4 (λ c. search needs)
+    (λ c κs. search needs) (λ c. search needs) (λ c κs. search needs) (λ c. search needs) returns-5 returns-6)

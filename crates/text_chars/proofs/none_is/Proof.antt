@@ -11,26 +11,14 @@ use Rattle.text_chars.proofs.none_is.Statement.{statement}
 use Rattle.text_chars.proofs.none_is.Tie as tie
 
 abbrev Inv-loop : tie.InvT-loop
-Inv-loop s at m all₀ n₀ all n = (n ≤ 16) × (all ≡ every (isNot m) (take n (drop at s)))
+Inv-loop s at count m all₀ n₀ all n = (n ≤ count) × (all ≡ every (isNot m) (take n (drop at s)))
 
 abbrev μ-loop : tie.MeasureT-loop
-μ-loop s at m all₀ n₀ all n = 16 - n
+μ-loop s at count m all₀ n₀ all n = count - n
 
 loop-holds : tie.Need-loop-holds Inv-loop μ-loop
 unfolding every
 loop-holds c = (omega arith, refl)
-
-add-all : tie.Need-add-all Inv-loop μ-loop
-add-all c = omega arith
-
-shared-slice-read-all : tie.Need-shared-slice-read-all Inv-loop μ-loop
-shared-slice-read-all c = omega arith
-
-add-n : tie.Need-add-n Inv-loop μ-loop
-add-n c = omega arith
-
-loop-less : tie.Need-loop-less Inv-loop μ-loop
-loop-less c = omega arith
 
 loop-again : tie.Need-loop-again Inv-loop μ-loop
 unfolding isNot
@@ -42,18 +30,8 @@ loop-again c =
 returns : tie.Need-returns Inv-loop μ-loop
 returns c =
     let l = c .before .loop in
-    let o : l .n ≡ 16 = omega arith in rw o at (l .inv .1)
+    let o : l .n ≡ c .before .before .args .count = omega arith in rw o at (l .inv .1)
 
 pub none-is-spec : {M : Type 1} → statement M
 none-is-spec =
-    tie.close
-    (tie.spec
-    Inv-loop
-    μ-loop
-    loop-holds
-    add-all
-    shared-slice-read-all
-    add-n
-    loop-less
-    loop-again
-    returns)
+    tie.close (tie.spec Inv-loop μ-loop loop-holds (λ c. omega arith) (λ c. omega arith) (λ c. omega arith) (λ c. omega arith) loop-again returns)

@@ -24,29 +24,8 @@ starts : (c : tie.Else3)
     → readChars escape (drop (start c .args .at + 1) (text c)) ≡ readChars (hex 3 0) (drop (start c .args .at + 2) (text c))
 starts c = escape-unit (text c) (start c .args .at) (c .before .before .before .before .if1 .left) (c .if3 .left)
 
-add-next : tie.Need-add-next
-add-next c = search needs
-
 returns : tie.Need-returns
 returns c = (omega arith, omega arith, chars-end _ _ escape (c .if1 .taken))
-
-shared-slice-read-b : tie.Need-shared-slice-read-b
-shared-slice-read-b c = search needs
-
-is-short-requires : tie.Need-is-short-requires
-is-short-requires c κs = search needs
-
-short-value-requires : tie.Need-short-value-requires
-short-value-requires c κs = search needs
-
-add-t13 : tie.Need-add-t13
-add-t13 c = search needs
-
-is-control-requires : tie.Need-is-control-requires
-is-control-requires c κs = search needs
-
-byte-size-requires : tie.Need-byte-size-requires
-byte-size-requires c κs = search needs
 
 returns-2 : tie.Need-returns-2
 returns-2 c =
@@ -66,23 +45,11 @@ returns-3 c =
     let other = sym (short .is-short .ensures) ∙ c .before .if2 .left in
     (omega arith, omega arith, escape-stop _ _ (short .before .before .if1 .left) other (c .if3 .taken))
 
-add-hex4 : tie.Need-add-hex4
-add-hex4 c = search needs
-
-hex4-requires : tie.Need-hex4-requires
-hex4-requires c κs = search needs
-
-enum-known-u : tie.Need-enum-known-u
-enum-known-u c = search needs
-
 unit-escape-requires : tie.Need-unit-escape-requires
 unit-escape-requires c κs =
     let h = c .before .before .before in
     let read = rw (c .before .u .given .1) at (h .hex4 .ensures) in
     (omega arith, read .1)
-
-enum-known-e : tie.Need-enum-known-e
-enum-known-e c = search needs
 
 returns-4 : tie.Need-returns-4
 returns-4 c =
@@ -99,22 +66,6 @@ returns-5 c =
 
 pub one-escape-spec : {M : Type 1} → statement M
 one-escape-spec =
-    tie.close
-    (tie.spec
-    add-next
-    returns
-    shared-slice-read-b
-    is-short-requires
-    short-value-requires
-    add-t13
-    is-control-requires
-    byte-size-requires
-    returns-2
-    returns-3
-    add-hex4
-    hex4-requires
-    enum-known-u
-    unit-escape-requires
-    enum-known-e
-    returns-4
-    returns-5)
+    tie.close (tie.spec (λ c. search needs) returns (λ c. search needs) (λ c κs. search needs) (λ c κs. search needs) (λ c. search needs)
+    (λ c κs. search needs) (λ c κs. search needs) returns-2 returns-3 (λ c. search needs) (λ c κs. search needs) (λ c. search needs)
+    unit-escape-requires (λ c. search needs) returns-4 returns-5)

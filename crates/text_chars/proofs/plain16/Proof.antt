@@ -5,18 +5,6 @@ use Rattle.text_chars.proofs.Plain.{every-plain}
 use Rattle.text_chars.proofs.plain16.Statement.{statement}
 use Rattle.text_chars.proofs.plain16.Tie as tie
 
-none-below-space-requires : tie.Need-none-below-space-requires
-none-below-space-requires c κs = search needs
-
-none-is-requires : tie.Need-none-is-requires
-none-is-requires c κs = search needs
-
-none-is-requires-2 : tie.Need-none-is-requires-2
-none-is-requires-2 c κs = search needs
-
-none-is-requires-3 : tie.Need-none-is-requires-3
-none-is-requires-3 c κs = search needs
-
 returns : tie.Need-returns
 returns c =
     rw (c .before .before .before .none-below-space .ensures, c .before .before .none-is .ensures, c .before .none-is2 .ensures, c .none-is3 .ensures)
@@ -24,10 +12,4 @@ returns c =
 
 pub plain16-spec : {M : Type 1} → statement M
 plain16-spec =
-    tie.close
-    (tie.spec
-    none-below-space-requires
-    none-is-requires
-    none-is-requires-2
-    none-is-requires-3
-    returns)
+    tie.close (tie.spec (λ c κs. search needs) (λ c κs. search needs) (λ c κs. search needs) (λ c κs. search needs) returns)

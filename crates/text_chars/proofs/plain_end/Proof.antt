@@ -21,23 +21,11 @@ abbrev μ-loop : tie.MeasureT-loop
 loop-holds : tie.Need-loop-holds Inv-loop μ-loop
 loop-holds c = (c .before .pre, refl)
 
-sub-loop : tie.Need-sub-loop Inv-loop μ-loop
-sub-loop c = omega arith
-
-plain16-requires : tie.Need-plain16-requires Inv-loop μ-loop
-plain16-requires c κs = omega arith
-
 plain-tail-requires : tie.Need-plain-tail-requires Inv-loop μ-loop
 plain-tail-requires c κs = c .before .before .before .loop .inv .0
 
 returns : tie.Need-returns Inv-loop μ-loop
 returns c = c .plain-tail .ensures ∙ sym (c .before .before .before .before .loop .inv .1)
-
-add-i : tie.Need-add-i Inv-loop μ-loop
-add-i c = omega arith
-
-loop-less : tie.Need-loop-less Inv-loop μ-loop
-loop-less c = omega arith
 
 loop-again : tie.Need-loop-again Inv-loop μ-loop
 loop-again c =
@@ -53,17 +41,5 @@ returns-2 c = c .plain-tail2 .ensures ∙ sym (c .before .before .loop .inv .1)
 
 pub plain-end-spec : {M : Type 1} → statement M
 plain-end-spec =
-    tie.close
-    (tie.spec
-    Inv-loop
-    μ-loop
-    loop-holds
-    sub-loop
-    plain16-requires
-    plain-tail-requires
-    returns
-    add-i
-    loop-less
-    loop-again
-    plain-tail-requires-2
-    returns-2)
+    tie.close (tie.spec Inv-loop μ-loop loop-holds (λ c. omega arith) (λ c κs. omega arith) plain-tail-requires returns (λ c. omega arith)
+    (λ c. omega arith) loop-again plain-tail-requires-2 returns-2)

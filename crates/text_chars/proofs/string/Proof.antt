@@ -26,30 +26,15 @@ content c = readChars char (drop (c .before .before .before .before .args .at + 
 returns : tie.Need-returns
 returns c = (omega arith, scans-stuck _ _ (c .before .before .pre) _ _ _ (string-end _ _ (c .if1 .taken)))
 
-shared-slice-read-if2 : tie.Need-shared-slice-read-if2
-shared-slice-read-if2 c = search needs
-
 returns-2 : tie.Need-returns-2
 returns-2 c =
     (omega arith, scans-stuck _ _ (c .before .before .before .before .pre) _ _ _ (string-stop _ _ (c .before .before .if1 .left) (c .if2 .taken)))
-
-add-chars : tie.Need-add-chars
-add-chars c = search needs
-
-chars-requires : tie.Need-chars-requires
-chars-requires c κs = search needs
-
-enum-known-end : tie.Need-enum-known-end
-enum-known-end c = search needs
 
 add-t13 : tie.Need-add-t13
 add-t13 c =
     let got = rw (c .before .end .given .1) at (c .before .before .before .chars .ensures) in
     let else2 = c .before .before .before .before in
     omega (arith, token-inside refusedString contentSize (text else2) (content else2) _ _ _ (got .1))
-
-enum-known-e : tie.Need-enum-known-e
-enum-known-e c = search needs
 
 returns-3 : tie.Need-returns-3
 returns-3 c =
@@ -67,15 +52,5 @@ returns-4 c =
 
 pub string-spec : {M : Type 1} → statement M
 string-spec =
-    tie.close
-    (tie.spec
-    returns
-    shared-slice-read-if2
-    returns-2
-    add-chars
-    chars-requires
-    enum-known-end
-    add-t13
-    enum-known-e
-    returns-3
-    returns-4)
+    tie.close (tie.spec returns (λ c. search needs) returns-2 (λ c. search needs) (λ c κs. search needs) (λ c. search needs) add-t13
+    (λ c. search needs) returns-3 returns-4)

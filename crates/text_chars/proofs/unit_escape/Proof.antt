@@ -31,18 +31,6 @@ alone c =
     let x = next (c .before .before .before) in
     ⊎-elim (λ w. (rw (w .2 .left) at (w .1 .ensures)) u) (λ w. paired-high u x (sym (c .before .between .ensures) ∙ w .left)) (c .if1 .came)
 
-add-end : tie.Need-add-end
-add-end c = search needs
-
-between-requires : tie.Need-between-requires
-between-requires c κs = search needs
-
-low-half-requires : tie.Need-low-half-requires
-low-half-requires c κs = search needs
-
-add-t7 : tie.Need-add-t7
-add-t7 c = search needs
-
 returns : tie.Need-returns
 unfolding isHigh
 returns c =
@@ -51,12 +39,6 @@ returns c =
     let high = sym (c .before .before .before .between .ensures) ∙ c .before .before .if1 .taken in
     (omega arith, omega arith, omega arith, rw (low .1 .2) (measure-surrogates u (low .1 .0) _ high (low .1 .1)))
 
-unit-refused-requires : tie.Need-unit-refused-requires
-unit-refused-requires c κs = search needs
-
-unit-size-requires : tie.Need-unit-size-requires
-unit-size-requires c κs = search needs
-
 returns-2 : tie.Need-returns-2
 returns-2 c =
     let u = c .before .before .before .before .before .args .u in
@@ -64,13 +46,5 @@ returns-2 c =
 
 pub unit-escape-spec : {M : Type 1} → statement M
 unit-escape-spec =
-    tie.close
-    (tie.spec
-    add-end
-    between-requires
-    low-half-requires
-    add-t7
-    returns
-    unit-refused-requires
-    unit-size-requires
-    returns-2)
+    tie.close (tie.spec (λ c. search needs) (λ c κs. search needs) (λ c κs. search needs) (λ c. search needs) returns (λ c κs. search needs)
+    (λ c κs. search needs) returns-2)

@@ -10,15 +10,6 @@ use Rattle.text_chars.proofs.Encoded.{control-one, control-high}
 use Rattle.text_chars.proofs.unit_refused.Statement.{statement}
 use Rattle.text_chars.proofs.unit_refused.Tie as tie
 
-cast-is-control : tie.Need-cast-is-control
-cast-is-control c = search needs
-
-is-control-requires : tie.Need-is-control-requires
-is-control-requires c κs = search needs
-
-between-requires : tie.Need-between-requires
-between-requires c κs = search needs
-
 returns : tie.Need-returns
 unfolding isSurrogate between
 returns c =
@@ -31,4 +22,4 @@ returns-2 c = rw (control-high _ (c .before .if1 .left), or-false) (c .between .
 
 pub unit-refused-spec : {M : Type 1} → statement M
 unit-refused-spec =
-    tie.close (tie.spec cast-is-control is-control-requires between-requires returns returns-2)
+    tie.close (tie.spec (λ c. search needs) (λ c κs. search needs) (λ c κs. search needs) returns returns-2)

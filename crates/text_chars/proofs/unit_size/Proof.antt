@@ -7,12 +7,6 @@ use Rattle.text_chars.proofs.Encoded.{size-one, size-two, size-three}
 use Rattle.text_chars.proofs.unit_size.Statement.{statement}
 use Rattle.text_chars.proofs.unit_size.Tie as tie
 
-cast-byte-size : tie.Need-cast-byte-size
-cast-byte-size c = search needs
-
-byte-size-requires : tie.Need-byte-size-requires
-byte-size-requires c κs = search needs
-
 returns : tie.Need-returns
 returns c = (c .byte-size .ensures .0 ∙ sym (size-one _ (c .before .if1 .taken)), omega arith)
 
@@ -23,4 +17,5 @@ returns-3 : tie.Need-returns-3
 returns-3 c = (sym (size-three _ (c .if2 .left) (c .before .before .pre)), omega arith)
 
 pub unit-size-spec : {M : Type 1} → statement M
-unit-size-spec = tie.close (tie.spec cast-byte-size byte-size-requires returns returns-2 returns-3)
+unit-size-spec =
+    tie.close (tie.spec (λ c. search needs) (λ c κs. search needs) returns returns-2 returns-3)

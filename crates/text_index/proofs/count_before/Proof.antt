@@ -10,4 +10,5 @@ returns : tie.Need-returns
 returns c = c .count-between .ensures
 
 pub count-before-spec : {M : Type 1} → statement M
-count-before-spec = tie.close (tie.spec count-between-requires returns)
+count-before-spec =
+    tie.close (tie.spec count-between-requires returns)

@@ -19,18 +19,6 @@ abbrev μ-loop : tie.MeasureT-loop
 loop-holds : tie.Need-loop-holds Inv-loop μ-loop
 loop-holds c = c .before .before .before .before .pre .2
 
-sub-mid : tie.Need-sub-mid Inv-loop μ-loop
-sub-mid c = omega arith
-
-add-mid : tie.Need-add-mid Inv-loop μ-loop
-add-mid c = omega arith
-
-mul-e : tie.Need-mul-e Inv-loop μ-loop
-mul-e c = omega arith
-
-shared-slice-read-e : tie.Need-shared-slice-read-e Inv-loop μ-loop
-shared-slice-read-e c = omega arith
-
 -- the middle of what is left
 abbrev mid : tie.After-shared-slice-known5 Inv-loop μ-loop → ℕ
 mid c = let l = c .before .before .loop in l .low + (l .high - l .low) / 2
@@ -57,21 +45,12 @@ shared-slice-read-is-before c = entry (c .before) .within
 is-before-requires : tie.Need-is-before-requires Inv-loop μ-loop
 is-before-requires c κs = (entry (c .before) .inside, c .before .before .before .before .before .before .before .before .pre .1)
 
-add-low : tie.Need-add-low Inv-loop μ-loop
-add-low c = omega arith
-
-loop-less : tie.Need-loop-less Inv-loop μ-loop
-loop-less c = omega arith
-
 loop-again : tie.Need-loop-again Inv-loop μ-loop
 unfolding entryText
 loop-again c =
     let d = c .before .before .before in
     goes-up _ _ _ _ _ _ _ _ (d .before .before .loop .inv) (d .before .before .before .before .before .before .before .pre .0)
     (mid d) (middle d .0) (middle d .1) _ (c .before .is-before .ensures) (c .if1 .taken)
-
-loop-less-2 : tie.Need-loop-less-2 Inv-loop μ-loop
-loop-less-2 c = omega arith
 
 loop-again-2 : tie.Need-loop-again-2 Inv-loop μ-loop
 unfolding entryText
@@ -85,22 +64,5 @@ returns c = counted _ _ _ _ _ _ _ (c .before .loop .inv) (c .loop-test .left)
 
 pub count-between-spec : {M : Type 1} → statement M
 count-between-spec =
-    tie.close
-    (tie.spec
-    Inv-loop
-    μ-loop
-    loop-holds
-    sub-mid
-    add-mid
-    mul-e
-    shared-slice-read-e
-    cast-e
-    mul-is-before
-    shared-slice-read-is-before
-    is-before-requires
-    add-low
-    loop-less
-    loop-again
-    loop-less-2
-    loop-again-2
-    returns)
+    tie.close (tie.spec Inv-loop μ-loop loop-holds (λ c. omega arith) (λ c. omega arith) (λ c. omega arith) (λ c. omega arith) cast-e mul-is-before
+    shared-slice-read-is-before is-before-requires (λ c. omega arith) (λ c. omega arith) loop-again (λ c. omega arith) loop-again-2 returns)

@@ -26,18 +26,6 @@ abbrev μ-loop : tie.MeasureT-loop
 loop-holds : tie.Need-loop-holds Inv-loop μ-loop
 loop-holds c = count-started _ _ _ _ _ _
 
-sub-mid : tie.Need-sub-mid Inv-loop μ-loop
-sub-mid c = omega arith
-
-add-mid : tie.Need-add-mid Inv-loop μ-loop
-add-mid c = omega arith
-
-mul-e : tie.Need-mul-e Inv-loop μ-loop
-mul-e c = omega arith
-
-shared-slice-read-e : tie.Need-shared-slice-read-e Inv-loop μ-loop
-shared-slice-read-e c = omega arith
-
 -- a turn of the loop
 module _ (d : tie.After-shared-slice-known5 Inv-loop μ-loop) where
   abbrev start : tie.Start Inv-loop μ-loop
@@ -90,38 +78,17 @@ answer c =
     let d = c .before .before in
     c .compare .ensures _ _ (inside-content _ _ (entry d .inside)) (inside-content _ _ (start d .pre .1))
 
-enum-told : tie.Need-enum-told Inv-loop μ-loop
-enum-told c = search needs
-
-add-low : tie.Need-add-low Inv-loop μ-loop
-add-low c = omega arith
-
-loop-less : tie.Need-loop-less Inv-loop μ-loop
-loop-less c = omega arith
-
 loop-again : tie.Need-loop-again Inv-loop μ-loop
 loop-again c = let d = c .before .before in up (d .before .before) false (is-before-less _ _ false (answer d) (c .enum-told .given .1))
 
-enum-told-2 : tie.Need-enum-told-2 Inv-loop μ-loop
-enum-told-2 c = search needs
-
-loop-less-2 : tie.Need-loop-less-2 Inv-loop μ-loop
-loop-less-2 c = omega arith
-
 loop-again-2 : tie.Need-loop-again-2 Inv-loop μ-loop
 loop-again-2 c = let d = c .before .before in down (d .before .before) true (is-before-greater _ _ true (answer d) (c .enum-told2 .given .1))
-
-enum-told-3 : tie.Need-enum-told-3 Inv-loop μ-loop
-enum-told-3 c = search needs
 
 count-between-requires : tie.Need-count-between-requires Inv-loop μ-loop
 count-between-requires c κs =
     let d = c .before .before in
     let t = d .before .before in
     (start t .pre .0, start t .pre .1, down t false (is-before-equal _ _ false (answer d) (c .enum-told3 .given .1)))
-
-add-count-between : tie.Need-add-count-between Inv-loop μ-loop
-add-count-between c = omega arith
 
 count-between-requires-2 : tie.Need-count-between-requires-2 Inv-loop μ-loop
 count-between-requires-2 c κs =
@@ -138,29 +105,6 @@ returns-2 c =
 
 pub find-spec : {M : Type 1} → statement M
 find-spec =
-    tie.close
-    (tie.spec
-    Inv-loop
-    μ-loop
-    loop-holds
-    sub-mid
-    add-mid
-    mul-e
-    shared-slice-read-e
-    cast-e
-    mul-compare
-    shared-slice-read-compare
-    compare-requires
-    enum-told
-    add-low
-    loop-less
-    loop-again
-    enum-told-2
-    loop-less-2
-    loop-again-2
-    enum-told-3
-    count-between-requires
-    add-count-between
-    count-between-requires-2
-    returns
-    returns-2)
+    tie.close (tie.spec Inv-loop μ-loop loop-holds (λ c. omega arith) (λ c. omega arith) (λ c. omega arith) (λ c. omega arith) cast-e mul-compare
+    shared-slice-read-compare compare-requires (λ c. search needs) (λ c. omega arith) (λ c. omega arith) loop-again (λ c. search needs)
+    (λ c. omega arith) loop-again-2 (λ c. search needs) count-between-requires (λ c. omega arith) count-between-requires-2 returns returns-2)

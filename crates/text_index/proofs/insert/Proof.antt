@@ -11,15 +11,6 @@ use Rattle.text_index.proofs.Inserting.{index-more}
 use Rattle.text_index.proofs.insert.Statement.{statement}
 use Rattle.text_index.proofs.insert.Tie as tie
 
-mul-p : tie.Need-mul-p
-mul-p c = search needs
-
-shared-slice-read-p : tie.Need-shared-slice-read-p
-shared-slice-read-p c = search needs
-
-slice-reshare-prefix-count-before : tie.Need-slice-reshare-prefix-count-before
-slice-reshare-prefix-count-before c = search needs
-
 -- the index has n strings
 size : (c : tie.Start) → length (take (c .args .n) (now (c .args .order))) ≡ c .args .n
 size c = length-take-le (c .args .n) (now (c .args .order)) (omega (arith, c .pre .1))
@@ -59,15 +50,5 @@ returns c =
 
 pub insert-spec : {M : Type 1} → statement M
 insert-spec =
-    tie.close
-    (tie.spec
-    mul-p
-    shared-slice-read-p
-    slice-reshare-prefix-count-before
-    slice-aggregate-count-before
-    count-before-requires
-    move-up-requires
-    mul-order
-    slice-write-order
-    same-length
-    returns)
+    tie.close (tie.spec (λ c. search needs) (λ c. search needs) (λ c. search needs) slice-aggregate-count-before count-before-requires
+    move-up-requires mul-order slice-write-order same-length returns)

@@ -9,22 +9,10 @@ use Rattle.text_index.proofs.Searching.{is-before-less, is-before-equal
 use Rattle.text_index.proofs.is_before.Statement.{statement}
 use Rattle.text_index.proofs.is_before.Tie as tie
 
-compare-requires : tie.Need-compare-requires
-compare-requires c κs = search needs
-
 -- what comparing gave
 answer : (c : tie.After-compare) → let a = c .before .before .before .args in
     c .compare .result ≡ order (contentFrom (now (a .b)) (a .p)) (contentFrom (now (a .t)) (a .q))
 answer c = let p = c .before .before .before .pre in c .compare .ensures _ _ (inside-content _ _ (p .0)) (inside-content _ _ (p .1))
-
-enum-told : tie.Need-enum-told
-enum-told c = search needs
-
-enum-told-2 : tie.Need-enum-told-2
-enum-told-2 c = search needs
-
-enum-told-3 : tie.Need-enum-told-3
-enum-told-3 c = search needs
 
 returns : tie.Need-returns
 returns c = is-before-less _ _ _ (answer (c .before .before)) (c .enum-told .given .1)
@@ -36,4 +24,5 @@ returns-3 : tie.Need-returns-3
 returns-3 c = is-before-greater _ _ _ (answer (c .before .before)) (c .enum-told3 .given .1)
 
 pub is-before-spec : {M : Type 1} → statement M
-is-before-spec = tie.close (tie.spec compare-requires enum-told enum-told-2 enum-told-3 returns returns-2 returns-3)
+is-before-spec =
+    tie.close (tie.spec (λ c κs. search needs) (λ c. search needs) (λ c. search needs) (λ c. search needs) returns returns-2 returns-3)

@@ -1,5 +1,5 @@
 -- The ends of a text: the rest of every reading is one.
-use Prim.Native.Nat.{ℕ, zero, suc, _-_, _≤_, _<_}
+use Prim.Native.Nat.{ℕ, suc, _-_, _≤_, _<_}
 use native.Mathlib.Omega.{arith}
 use mathlib.Core.Path.{_≡_}
 use mathlib.Core.List.{List, [], _∷_}
@@ -47,9 +47,3 @@ ends-drop {r} (after {b} {s} e) =
     let h = ends-length e in
     let f : suc (length s) - length r ≡ suc (length s - length r) = omega arith in
     rw f (ends-drop e)
-
--- What is left of a text when its first bytes are dropped, however many, is an end of it.
-pub drop-ends : (n : ℕ) (s : List ℕ) → Ends (drop n s) s
-drop-ends zero s = all
-drop-ends (suc n) [] = all
-drop-ends (suc n) (b ∷ s) = after (drop-ends n s)

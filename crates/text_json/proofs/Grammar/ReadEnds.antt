@@ -2,23 +2,22 @@
 use Prim.Native.Nat.{ℕ, _-_, _≤_, _<_}
 use mathlib.Core.Path.{_≡_, refl}
 use mathlib.Core.List.{List, _∷_}
-use mathlib.Core.Bool.{Bool, false}
+use mathlib.Core.Bool.{false}
 use lib.ListN.{length, drop}
 use Rattle.text_json.specs.Bytes.{isExp}
 use Rattle.text_json.specs.Syntax.{Char, Syntax, Member}
 use Rattle.text_json.specs.Grammar.{Space, Exp}
-use Rattle.text_json.specs.Read.{Read, found, stuck, spaces, readWord, afterDigits, readSomeDigits, readInt, readFrac, readSigned, readExp, readUnsigned}
-use Rattle.text_json.specs.Read.{readNumber, Pending, readChars, readString, readScalar, readItems, readFirst, readListed, readPair, readNested, read}
-use Rattle.text_json.specs.Read.{readText}
+use Rattle.text_json.specs.Read.{Read, found, stuck, spaces, readWord, afterDigits, readSomeDigits, readInt, readFrac, readSigned, readExp}
+use Rattle.text_json.specs.Read.{readNumber, Pending, readChars, readString, readScalar, readItems, readFirst, readPair, readNested, read}
 use Rattle.text_json.proofs.Grammar.Ends.{Ends, after, inside-ends, inside-length, ends-length, ends-drop, ends-nil}
 use Rattle.text_json.proofs.Grammar.Answer.{Answer, is-found, is-stuck, Reads}
-use Rattle.text_json.proofs.Grammar.Rests.{space-ends, word-ends, digits-ends, some-digits-inside, int-inside, frac-ends, exp-ends, unsigned-inside}
+use Rattle.text_json.proofs.Grammar.Rests.{space-ends, word-ends, digits-ends, some-digits-inside, int-inside, frac-ends, exp-ends}
 use Rattle.text_json.proofs.Grammar.Rests.{number-inside, chars-inside, string-inside, scalar-inside, items-ends, listed-ends, pair-inside, pair-ends}
 use Rattle.text_json.proofs.Grammar.Rests.{nested-inside, value-ends}
 use Rattle.text_json.proofs.Grammar.Sound.{spaces-sound, word-reads, digits-sound, some-digits-reads, int-reads, frac-reads, signed-reads, exp-reads}
-use Rattle.text_json.proofs.Grammar.Sound.{unsigned-reads, number-reads, Rest, rest-reads, string-reads, scalar-reads, items-reads, first-reads}
-use Rattle.text_json.proofs.Grammar.Sound.{listed-reads, pair-reads, pair-sound, nested-reads, value-reads}
-use Rattle.text_json.proofs.Grammar.Agree.{Whole, whole, text-reads}
+use Rattle.text_json.proofs.Grammar.Sound.{number-reads, Rest, rest-reads, string-reads, scalar-reads, items-reads, first-reads}
+use Rattle.text_json.proofs.Grammar.Sound.{pair-reads, pair-sound, nested-reads, value-reads}
+use Rattle.text_json.proofs.Grammar.Agree.{Whole, whole}
 
 abbrev pub restOf : {A : Type 0} → Read A → List ℕ
 restOf (found x r) = r
@@ -70,10 +69,6 @@ readSigned-ends s = rest-ends (signed-reads 0x65 refl s) (λ _ _ p. signed-ends 
 pub readExp-ends : (s : List ℕ) → Ends (restOf (readExp s)) s
 readExp-ends s = rest-ends (exp-reads s) (λ _ _ p. exp-ends p)
 
--- The same for reading a number without its sign.
-pub readUnsigned-ends : (negative : Bool) (s : List ℕ) → Ends (restOf (readUnsigned negative s)) s
-readUnsigned-ends negative s = rest-ends (unsigned-reads negative s) (λ _ _ p. inside-ends (unsigned-inside p))
-
 -- The same for reading a number.
 pub readNumber-ends : (s : List ℕ) → Ends (restOf (readNumber s)) s
 readNumber-ends s = rest-ends (number-reads s) (λ _ _ p. inside-ends (number-inside p))
@@ -110,12 +105,6 @@ module _ {A : Type 0} (item : List ℕ → Read A) (mark : ℕ) (item-ends : (s 
       rest-ends (first-reads {Item = λ s _ r. Ends r s} mark (λ s. ends-reads s (item s) (item-ends s)) (λ _ _ _ e. e) s s Space.end)
       (λ _ _ p. listed-ends (λ _ _ _ e. e) p)
 
-  -- The same for reading white space, items or none, and their end mark.
-  pub readListed-ends : (s : List ℕ) → Ends (restOf (readListed item mark s)) s
-  readListed-ends s =
-      rest-ends (listed-reads {Item = λ s _ r. Ends r s} mark (λ s. ends-reads s (item s) (item-ends s)) (λ _ _ _ e. e) s)
-      (λ _ _ p. listed-ends (λ _ _ _ e. e) p)
-
 module _ (inner : List ℕ → Read Syntax) (inner-ends : (s : List ℕ) → Ends (restOf (inner s)) s) where
   -- If the rest of reading a value is an end of its text, so is the rest of reading a member with such a value.
   pub readPair-ends : (s : List ℕ) → Ends (restOf (readPair inner s)) s
@@ -141,10 +130,6 @@ read-ends d s = rest-ends (value-reads d s) (value-ends d s)
 
 whole-ends : {d : ℕ} {s r : List ℕ} {t : Syntax} → Whole d s t r → Ends r s
 whole-ends {s} (whole p) = ends-nil s
-
--- The same for reading a whole text.
-pub readText-ends : (d : ℕ) (s : List ℕ) → Ends (restOf (readText d s)) s
-readText-ends d s = rest-ends (text-reads d s) (λ _ _ p. whole-ends p)
 
 -- a rest by its offset: the text's length less its own
 pub ends-at : {r s : List ℕ} → Ends r s → (length r ≤ length s) × (r ≡ drop (length s - length r) s)

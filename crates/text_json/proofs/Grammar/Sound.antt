@@ -3,13 +3,13 @@ use Prim.Native.Nat.{ℕ, zero, suc, _*_, _+_, _<_}
 use native.Mathlib.Nat.{zero-add}
 use mathlib.Core.Path.{_≡_}
 use mathlib.Core.List.{List, [], _∷_}
-use mathlib.Core.Bool.{Bool, true, false}
+use mathlib.Core.Bool.{Bool, true, false, _&&_}
 use lib.ListN.{length}
 use lib.Dec.{eqb}
 use borrow.Author.Tests.{eqb-true, eqb-false}
 use Rattle.text_json.specs.Bytes.{isSpace, isDigit, isExp, isSign, isHex, hexValue, isUnescaped, isShort, shortValue}
-use Rattle.text_json.specs.Syntax.{Char, byte, unit, Numeral, Syntax, number, string, array, object, Member, elements, members}
-use Rattle.text_json.specs.Grammar.{both, hexNumber, Space, Word, Digits, SomeDigits, Int, Frac, Exp, Unsigned, Number, Chars, String, Scalar, Items}
+use Rattle.text_json.specs.Syntax.{Char, byte, unit, Syntax, number, string, array, object, Member, elements, members}
+use Rattle.text_json.specs.Grammar.{hexNumber, Space, Word, Digits, SomeDigits, Int, Frac, Exp, Unsigned, Number, Chars, String, Scalar, Items}
 use Rattle.text_json.specs.Grammar.{Listed, Pair, Nested, Value}
 use Rattle.text_json.specs.Read.{Read, found, andThen, spaces, readWord, digitsOf, afterDigits, readSomeDigits, readInt, readFrac, readSigned, readExp}
 use Rattle.text_json.specs.Read.{readUnsigned, readNumber, Pending, readChars, readString, readScalar, afterItem, readItems, readFirst, readListed}
@@ -36,10 +36,6 @@ word-reads (w ∷ ws) (b ∷ s) =
     by-test (eqb b w) (λ e. rw (e, readWord) (reads-after (λ _ _ p. Word.more (eqb-true b w e) p) (word-reads ws s)))
     (λ e. rw (e, readWord) (is-stuck all))
 
--- A word that is found is that word by the grammar, with the same rest.
-pub word-sound : (w s r : List ℕ) → readWord w s ≡ found tt r → Word w s r
-word-sound w s r e = answer-found (word-reads w s) e
-
 -- The digits at the start and the rest after them are digits and their rest by the grammar.
 pub digits-sound : (s : List ℕ) → Digits s (digitsOf s) (afterDigits s)
 unfolding digitsOf afterDigits
@@ -55,10 +51,6 @@ some-digits-reads [] = is-stuck all
 some-digits-reads (b ∷ s) =
     by-test (isDigit b) (λ e. rw (e, readSomeDigits) (is-found (SomeDigits.digits e (digits-sound s))))
     (λ e. rw (e, readSomeDigits) (is-stuck all))
-
--- One digit or more that is found is so by the grammar, with the same rest.
-pub some-digits-sound : (s r : List ℕ) → readSomeDigits s ≡ found tt r → SomeDigits s r
-some-digits-sound s r e = answer-found (some-digits-reads s) e
 
 -- numbers
 
@@ -83,10 +75,6 @@ frac-reads (b ∷ s) =
     (λ e. rw (e, readFrac) (reads-within (after all) (reads-as (λ _. false) (some-digits-reads s) (λ _ _ p. Frac.present (eqb-true b 0x2E e) p))))
     (λ e. rw (e, readFrac) (is-found Frac.absent))
 
--- A fraction that is found, present or absent, is so by the grammar, with the same rest.
-pub frac-sound : (s : List ℕ) (f : Bool) (r : List ℕ) → readFrac s ≡ found f r → Frac s f r
-frac-sound s f r e = answer-found (frac-reads s) e
-
 -- [ minus / plus ] 1*DIGIT, after the byte e of an exponent
 pub signed-reads : (e : ℕ) → isExp e ≡ true → (s : List ℕ) → Reads (λ s _ r. Exp (e ∷ s) false r) s (readSigned s)
 unfolding readSigned
@@ -105,21 +93,13 @@ exp-reads (b ∷ s) =
     (λ e. rw (e, readExp) (reads-within (after all) (reads-as (λ _. false) (signed-reads b e s) (λ _ _ p. p))))
     (λ e. rw (e, readExp) (is-found Exp.absent))
 
--- An exponent that is found, present or absent, is so by the grammar, with the same rest.
-pub exp-sound : (s : List ℕ) (f : Bool) (r : List ℕ) → readExp s ≡ found f r → Exp s f r
-exp-sound s f r e = answer-found (exp-reads s) e
-
 -- Reading a number without its sign finds one by the grammar, or is stuck at an end of the text.
 pub unsigned-reads : (negative : Bool) (s : List ℕ) → Reads (Unsigned negative) s (readUnsigned negative s)
 unfolding readUnsigned
 unsigned-reads negative s =
     reads-then (int-reads s) (λ _ _ p. inside-ends (int-inside p)) (λ ds s₁ p.
     reads-then (frac-reads s₁) (λ _ _ q. frac-ends q) (λ f s₂ q.
-    reads-as (λ e. record { negative = negative; digits = ds; whole = both f e }) (exp-reads s₂) (λ e r h. Unsigned.unsigned p q h)))
-
--- A number without its sign that is found is one by the grammar, with the same rest.
-pub unsigned-sound : (negative : Bool) (s : List ℕ) (n : Numeral) (r : List ℕ) → readUnsigned negative s ≡ found n r → Unsigned negative s n r
-unsigned-sound negative s n r e = answer-found (unsigned-reads negative s) e
+    reads-as (λ e. record { negative = negative; digits = ds; whole = f && e }) (exp-reads s₂) (λ e r h. Unsigned.unsigned p q h)))
 
 -- Reading a number finds one by the grammar, or is stuck at an end of the text.
 pub number-reads : (s : List ℕ) → Reads Number s (readNumber s)
@@ -129,10 +109,6 @@ number-reads (b ∷ s) =
     by-test (eqb b 0x2D)
     (λ e. rw (e, readNumber) (reads-after (λ _ _ p. Number.minus (eqb-true b 0x2D e) p) (unsigned-reads true s)))
     (λ e. rw (e, readNumber) (answer-map (λ _ _ p. Number.plain p) (λ _ p. p) (unsigned-reads false (b ∷ s))))
-
--- A number that is found is one by the grammar, with the same rest.
-pub number-sound : (s : List ℕ) (n : Numeral) (r : List ℕ) → readNumber s ≡ found n r → Number s n r
-number-sound s n r e = answer-found (number-reads s) e
 
 -- strings
 
@@ -195,10 +171,6 @@ rest-reads (Pending.hex (suc k) n) (b ∷ s) =
 pub chars-reads : (s : List ℕ) → Reads Chars s (readChars Pending.char s)
 chars-reads s = answer-map (λ _ _ p. of-chars p) (λ _ p. p) (rest-reads Pending.char s)
 
--- The chars of a string that are found are so by the grammar, with the same rest.
-pub chars-sound : (s : List ℕ) (cs : List Char) (r : List ℕ) → readChars Pending.char s ≡ found cs r → Chars s cs r
-chars-sound s cs r e = answer-found (chars-reads s) e
-
 -- Reading a string finds one by the grammar, or is stuck at an end of the text.
 pub string-reads : (s : List ℕ) → Reads String s (readString s)
 unfolding readString
@@ -239,10 +211,6 @@ unfolding readScalar
 scalar-reads [] = is-stuck all
 scalar-reads (b ∷ s) = scalar-reads-cons b s
 
--- A value, no array or object, that is found is one by the grammar, with the same rest.
-pub scalar-sound : (s : List ℕ) (t : Syntax) (r : List ℕ) → readScalar s ≡ found t r → Scalar s t r
-scalar-sound s t r e = answer-found (scalar-reads s) e
-
 -- arrays and objects: the items that the relation `Item` and the function `item` agree on
 
 module _ {A : Type 0} {Item : List ℕ → A → List ℕ → Type 0} {item : List ℕ → Read A} (mark : ℕ)
@@ -266,10 +234,6 @@ module _ {A : Type 0} {Item : List ℕ → A → List ℕ → Type 0} {item : Li
       reads-then (item-reads s) (item-ends s) (λ t s₁ p.
       reads-within (space-ends (spaces-sound s₁)) (after-item-reads _ (items-reads n) s s₁ (spaces s₁) t p (spaces-sound s₁)))
 
-  -- Under these conditions, items and their end mark that are found are so by the grammar, with the same rest.
-  pub items-sound : (n : ℕ) (s : List ℕ) (xs : List A) (r : List ℕ) → readItems item mark n s ≡ found xs r → Items Item mark s xs r
-  items-sound n s xs r e = answer-found (items-reads n s) e
-
   -- Under these conditions, reading items or none after white space finds a list by the grammar, or is stuck at an end of the text.
   pub first-reads : (s₀ s : List ℕ) → Space s₀ s → Answer (Listed Item mark s₀) (λ r. Ends r s) (readFirst item mark s)
   unfolding readFirst
@@ -283,10 +247,6 @@ module _ {A : Type 0} {Item : List ℕ → A → List ℕ → Type 0} {item : Li
   pub listed-reads : (s : List ℕ) → Reads (Listed Item mark) s (readListed item mark s)
   unfolding readListed
   listed-reads s = reads-within (space-ends (spaces-sound s)) (first-reads s (spaces s) (spaces-sound s))
-
-  -- Under these conditions, white space, items or none, and the end mark that are found are so by the grammar.
-  pub listed-sound : (s : List ℕ) (xs : List A) (r : List ℕ) → readListed item mark s ≡ found xs r → Listed Item mark s xs r
-  listed-sound s xs r e = answer-found (listed-reads s) e
 
 module _ {Inner : List ℕ → Syntax → List ℕ → Type 0} {inner : List ℕ → Read Syntax}
     (inner-reads : (s : List ℕ) → Reads Inner s (inner s)) (inner-ends : (s : List ℕ) (t : Syntax) (r : List ℕ) → Inner s t r → Ends r s) where
@@ -320,10 +280,6 @@ module _ {Inner : List ℕ → Syntax → List ℕ → Type 0} {inner : List ℕ
   unfolding readNested
   nested-reads [] = is-stuck all
   nested-reads (b ∷ s) = nested-reads-cons b s
-
-  -- Under these conditions, a value that may hold inner values and is found is one by the grammar, with the same rest.
-  pub nested-sound : (s : List ℕ) (t : Syntax) (r : List ℕ) → readNested inner s ≡ found t r → Nested Inner s t r
-  nested-sound s t r e = answer-found (nested-reads s) e
 
 -- values
 

@@ -20,24 +20,6 @@ abbrev μ-loop : tie.MeasureT-loop
 loop-holds : tie.Need-loop-holds Inv-loop μ-loop
 loop-holds c = (omega arith, refl)
 
-add-loop : tie.Need-add-loop Inv-loop μ-loop
-add-loop c = omega arith
-
-mul-not-after : tie.Need-mul-not-after Inv-loop μ-loop
-mul-not-after c = omega arith
-
-shared-slice-read-not-after : tie.Need-shared-slice-read-not-after Inv-loop μ-loop
-shared-slice-read-not-after c = omega arith
-
-add-not-after : tie.Need-add-not-after Inv-loop μ-loop
-add-not-after c = omega arith
-
-mul-not-after-2 : tie.Need-mul-not-after-2 Inv-loop μ-loop
-mul-not-after-2 c = omega arith
-
-shared-slice-read-not-after-2 : tie.Need-shared-slice-read-not-after-2 Inv-loop μ-loop
-shared-slice-read-not-after-2 c = omega arith
-
 not-after-requires : tie.Need-not-after-requires Inv-loop μ-loop
 not-after-requires c κs =
     let p = c .before .before .before .before .before .before .pre in
@@ -56,12 +38,6 @@ step c b e =
 returns : tie.Need-returns Inv-loop μ-loop
 returns c = step (c .before) false (not-true _ (c .if1 .taken))
 
-add-at : tie.Need-add-at Inv-loop μ-loop
-add-at c = omega arith
-
-loop-less : tie.Need-loop-less Inv-loop μ-loop
-loop-less c = omega arith
-
 loop-again : tie.Need-loop-again Inv-loop μ-loop
 loop-again c = (omega arith, step (c .before) true (not-false _ (c .if1 .left)))
 
@@ -73,20 +49,5 @@ returns-2 c =
 
 pub in-order-spec : {M : Type 1} → statement M
 in-order-spec =
-    tie.close
-    (tie.spec
-    Inv-loop
-    μ-loop
-    loop-holds
-    add-loop
-    mul-not-after
-    shared-slice-read-not-after
-    add-not-after
-    mul-not-after-2
-    shared-slice-read-not-after-2
-    not-after-requires
-    returns
-    add-at
-    loop-less
-    loop-again
-    returns-2)
+    tie.close (tie.spec Inv-loop μ-loop loop-holds (λ c. omega arith) (λ c. omega arith) (λ c. omega arith) (λ c. omega arith) (λ c. omega arith)
+    (λ c. omega arith) not-after-requires returns (λ c. omega arith) (λ c. omega arith) loop-again returns-2)

@@ -6,18 +6,6 @@ use Rattle.text_keys.proofs.Keys.{compared, equal, not-equal}
 use Rattle.text_keys.proofs.left_if_same.Statement.{statement}
 use Rattle.text_keys.proofs.left_if_same.Tie as tie
 
-add-compare : tie.Need-add-compare
-add-compare c = search needs
-
-add-compare-2 : tie.Need-add-compare-2
-add-compare-2 c = search needs
-
-compare-requires : tie.Need-compare-requires
-compare-requires c κs = search needs
-
-enum-told : tie.Need-enum-told
-enum-told c = search needs
-
 sub-result : tie.Need-sub-result
 sub-result c = omega (arith, inside-within _ _ (c .before .before .before .before .pre .1))
 
@@ -35,5 +23,4 @@ returns-2 c =
 
 pub left-if-same-spec : {M : Type 1} → statement M
 left-if-same-spec =
-    tie.close
-    (tie.spec add-compare add-compare-2 compare-requires enum-told sub-result returns returns-2)
+    tie.close (tie.spec (λ c. search needs) (λ c. search needs) (λ c κs. search needs) (λ c. search needs) sub-result returns returns-2)

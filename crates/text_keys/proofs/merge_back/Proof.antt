@@ -18,18 +18,6 @@ abbrev μ-loop : tie.MeasureT-loop
 loop-holds : tie.Need-loop-holds Inv-loop μ-loop
 loop-holds c = merging-start _ _ _ (c .before .before .before .pre .2)
 
-mul-not-after : tie.Need-mul-not-after Inv-loop μ-loop
-mul-not-after c = omega arith
-
-shared-slice-read-not-after : tie.Need-shared-slice-read-not-after Inv-loop μ-loop
-shared-slice-read-not-after c = omega arith
-
-mul-not-after-2 : tie.Need-mul-not-after-2 Inv-loop μ-loop
-mul-not-after-2 c = omega arith
-
-slice-read-not-after : tie.Need-slice-read-not-after Inv-loop μ-loop
-slice-read-not-after c = omega arith
-
 not-after-requires : tie.Need-not-after-requires Inv-loop μ-loop
 not-after-requires c κs =
     let a = c .before .before .before .before .before .before .before .before in (
@@ -37,53 +25,11 @@ not-after-requires c κs =
       key-right (c .before .before .before .before .loop .inv) (a .pre .1) (c .before .before .if1 .taken),
     )
 
-mul-keys : tie.Need-mul-keys Inv-loop μ-loop
-mul-keys c = omega arith
-
-slice-read-keys : tie.Need-slice-read-keys Inv-loop μ-loop
-slice-read-keys c = omega arith
-
-mul-keys-2 : tie.Need-mul-keys-2 Inv-loop μ-loop
-mul-keys-2 c = omega arith
-
-slice-write-keys : tie.Need-slice-write-keys Inv-loop μ-loop
-slice-write-keys c = omega arith
-
-add-j : tie.Need-add-j Inv-loop μ-loop
-add-j c = omega arith
-
-add-at : tie.Need-add-at Inv-loop μ-loop
-add-at c = omega arith
-
-loop-less : tie.Need-loop-less Inv-loop μ-loop
-loop-less c = omega arith
-
 loop-again : tie.Need-loop-again Inv-loop μ-loop
 loop-again c =
     let r = c .before .before in
     merging-right _ _ _ _ _ _ _ (r .before .before .before .before .before .loop .inv) (r .before .before .before .before .loop-test .taken)
     (r .before .before .before .if1 .taken) (sym (r .not-after .ensures) ∙ not-true _ (c .before .if2 .taken))
-
-mul-keys-3 : tie.Need-mul-keys-3 Inv-loop μ-loop
-mul-keys-3 c = omega arith
-
-shared-slice-read-keys : tie.Need-shared-slice-read-keys Inv-loop μ-loop
-shared-slice-read-keys c = omega arith
-
-mul-keys-4 : tie.Need-mul-keys-4 Inv-loop μ-loop
-mul-keys-4 c = omega arith
-
-slice-write-keys-2 : tie.Need-slice-write-keys-2 Inv-loop μ-loop
-slice-write-keys-2 c = omega arith
-
-add-i : tie.Need-add-i Inv-loop μ-loop
-add-i c = omega arith
-
-add-at-2 : tie.Need-add-at-2 Inv-loop μ-loop
-add-at-2 c = omega arith
-
-loop-less-2 : tie.Need-loop-less-2 Inv-loop μ-loop
-loop-less-2 c = omega arith
 
 loop-again-2 : tie.Need-loop-again-2 Inv-loop μ-loop
 loop-again-2 c = merging-left _ _ _ _ _ _ _ (c .before .before .before .loop .inv) (c .before .before .loop-test .taken)
@@ -97,31 +43,7 @@ returns c = merging-done _ _ _ _ _ _ _ (c .loop-test .left) (c .before .loop .in
 
 pub merge-back-spec : {M : Type 1} → statement M
 merge-back-spec =
-    tie.close
-    (tie.spec
-    Inv-loop
-    μ-loop
-    loop-holds
-    mul-not-after
-    shared-slice-read-not-after
-    mul-not-after-2
-    slice-read-not-after
-    not-after-requires
-    mul-keys
-    slice-read-keys
-    mul-keys-2
-    slice-write-keys
-    add-j
-    add-at
-    loop-less
-    loop-again
-    mul-keys-3
-    shared-slice-read-keys
-    mul-keys-4
-    slice-write-keys-2
-    add-i
-    add-at-2
-    loop-less-2
-    loop-again-2
-    same-length
-    returns)
+    tie.close (tie.spec Inv-loop μ-loop loop-holds (λ c. omega arith) (λ c. omega arith) (λ c. omega arith) (λ c. omega arith) not-after-requires
+    (λ c. omega arith) (λ c. omega arith) (λ c. omega arith) (λ c. omega arith) (λ c. omega arith) (λ c. omega arith) (λ c. omega arith) loop-again
+    (λ c. omega arith) (λ c. omega arith) (λ c. omega arith) (λ c. omega arith) (λ c. omega arith) (λ c. omega arith) (λ c. omega arith) loop-again-2
+    same-length returns)

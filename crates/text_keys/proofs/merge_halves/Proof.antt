@@ -10,17 +10,11 @@ use Rattle.text_keys.proofs.Sorts.{copied, merge-copied}
 use Rattle.text_keys.proofs.merge_halves.Statement.{statement}
 use Rattle.text_keys.proofs.merge_halves.Tie as tie
 
-slice-reshare-prefix-copy-keys : tie.Need-slice-reshare-prefix-copy-keys
-slice-reshare-prefix-copy-keys c = search needs
-
 slice-aggregate-copy-keys : tie.Need-slice-aggregate-copy-keys
 slice-aggregate-copy-keys c = sym (length-take-le _ _ (c .before .before .before .before .pre .1))
 
 copy-keys-requires : tie.Need-copy-keys-requires
 copy-keys-requires c κs = rw (length-take) (omega arith)
-
-slice-reshare-prefix-merge-back : tie.Need-slice-reshare-prefix-merge-back
-slice-reshare-prefix-merge-back c = search needs
 
 slice-aggregate-merge-back : tie.Need-slice-aggregate-merge-back
 slice-aggregate-merge-back c = sym (length-take-le _ _ (search needs))
@@ -32,12 +26,6 @@ merge-back-requires c κs =
     (c .before .before .before .before .copy-keys .ensures) in
     (subst (KeysAt (now (a .args .s))) (sym e) (keys-take (a .args .mid) (a .pre .0)), a .pre .0, rw length-take (omega arith))
 
-same-length : tie.Need-same-length
-same-length c = search needs
-
-same-length-2 : tie.Need-same-length-2
-same-length-2 c = search needs
-
 returns : tie.Need-returns
 returns c =
     let a = c .before .before .before .before .before .before .before .before .before .before .before .before .before in
@@ -46,14 +34,5 @@ returns c =
 
 pub merge-halves-spec : {M : Type 1} → statement M
 merge-halves-spec =
-    tie.close
-    (tie.spec
-    slice-reshare-prefix-copy-keys
-    slice-aggregate-copy-keys
-    copy-keys-requires
-    slice-reshare-prefix-merge-back
-    slice-aggregate-merge-back
-    merge-back-requires
-    same-length
-    same-length-2
-    returns)
+    tie.close (tie.spec (λ c. search needs) slice-aggregate-copy-keys copy-keys-requires (λ c. search needs) slice-aggregate-merge-back
+    merge-back-requires (λ c. search needs) (λ c. search needs) returns)

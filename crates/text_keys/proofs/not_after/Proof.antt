@@ -5,18 +5,6 @@ use Rattle.text_keys.proofs.Keys.{compared, greater, not-greater}
 use Rattle.text_keys.proofs.not_after.Statement.{statement}
 use Rattle.text_keys.proofs.not_after.Tie as tie
 
-add-compare : tie.Need-add-compare
-add-compare c = search needs
-
-add-compare-2 : tie.Need-add-compare-2
-add-compare-2 c = search needs
-
-compare-requires : tie.Need-compare-requires
-compare-requires c κs = search needs
-
-enum-told : tie.Need-enum-told
-enum-told c = search needs
-
 returns : tie.Need-returns
 unfolding keyLe
 returns c =
@@ -31,4 +19,4 @@ returns-2 c =
 
 pub not-after-spec : {M : Type 1} → statement M
 not-after-spec =
-    tie.close (tie.spec add-compare add-compare-2 compare-requires enum-told returns returns-2)
+    tie.close (tie.spec (λ c. search needs) (λ c. search needs) (λ c κs. search needs) (λ c. search needs) returns returns-2)

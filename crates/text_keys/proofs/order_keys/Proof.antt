@@ -7,19 +7,10 @@ use Rattle.text_keys.proofs.Keys.{keys-sort}
 use Rattle.text_keys.proofs.order_keys.Statement.{statement}
 use Rattle.text_keys.proofs.order_keys.Tie as tie
 
-sort-unless-rising-requires : tie.Need-sort-unless-rising-requires
-sort-unless-rising-requires c κs = search needs
-
 repeat-left-requires : tie.Need-repeat-left-requires
 repeat-left-requires c κs =
     let a = c .before .before .before .before .before .before .before .before .before .before .before in
     subst (KeysAt (now (a .args .s))) (sym (c .before .before .before .before .before .sort-unless-rising .ensures .0)) (keys-sort (a .pre .0))
-
-same-length : tie.Need-same-length
-same-length c = search needs
-
-same-length-2 : tie.Need-same-length-2
-same-length-2 c = search needs
 
 returns : tie.Need-returns
 returns c =
@@ -28,5 +19,4 @@ returns c =
 
 pub order-keys-spec : {M : Type 1} → statement M
 order-keys-spec =
-    tie.close
-    (tie.spec sort-unless-rising-requires repeat-left-requires same-length same-length-2 returns)
+    tie.close (tie.spec (λ c κs. search needs) repeat-left-requires (λ c. search needs) (λ c. search needs) returns)

@@ -19,37 +19,10 @@ abbrev μ-loop : tie.MeasureT-loop
 loop-holds : tie.Need-loop-holds Inv-loop μ-loop
 loop-holds c = (omega arith, zero-max _)
 
-add-loop : tie.Need-add-loop Inv-loop μ-loop
-add-loop c = omega arith
-
-mul-left-if-same : tie.Need-mul-left-if-same Inv-loop μ-loop
-mul-left-if-same c = omega arith
-
-shared-slice-read-left-if-same : tie.Need-shared-slice-read-left-if-same Inv-loop μ-loop
-shared-slice-read-left-if-same c = omega arith
-
-add-left-if-same : tie.Need-add-left-if-same Inv-loop μ-loop
-add-left-if-same c = omega arith
-
-mul-left-if-same-2 : tie.Need-mul-left-if-same-2 Inv-loop μ-loop
-mul-left-if-same-2 c = omega arith
-
-shared-slice-read-left-if-same-2 : tie.Need-shared-slice-read-left-if-same-2 Inv-loop μ-loop
-shared-slice-read-left-if-same-2 c = omega arith
-
 left-if-same-requires : tie.Need-left-if-same-requires Inv-loop μ-loop
 left-if-same-requires c κs =
     let p = c .before .before .before .before .before .before .pre in
     (keys-get p _ (omega arith), keys-get p _ (omega arith))
-
-larger-requires : tie.Need-larger-requires Inv-loop μ-loop
-larger-requires c κs = search needs
-
-add-i : tie.Need-add-i Inv-loop μ-loop
-add-i c = omega arith
-
-loop-less : tie.Need-loop-less Inv-loop μ-loop
-loop-less c = omega arith
 
 loop-again : tie.Need-loop-again Inv-loop μ-loop
 loop-again c =
@@ -75,20 +48,5 @@ returns c =
 
 pub repeat-left-spec : {M : Type 1} → statement M
 repeat-left-spec =
-    tie.close
-    (tie.spec
-    Inv-loop
-    μ-loop
-    loop-holds
-    add-loop
-    mul-left-if-same
-    shared-slice-read-left-if-same
-    add-left-if-same
-    mul-left-if-same-2
-    shared-slice-read-left-if-same-2
-    left-if-same-requires
-    larger-requires
-    add-i
-    loop-less
-    loop-again
-    returns)
+    tie.close (tie.spec Inv-loop μ-loop loop-holds (λ c. omega arith) (λ c. omega arith) (λ c. omega arith) (λ c. omega arith) (λ c. omega arith)
+    (λ c. omega arith) left-if-same-requires (λ c κs. search needs) (λ c. omega arith) (λ c. omega arith) loop-again returns)

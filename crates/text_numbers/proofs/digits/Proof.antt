@@ -54,12 +54,6 @@ is-a-digit c = sym (c .before .is-digit .ensures) ∙ not-false _ (c .if1 .left)
 loop-holds : tie.Need-loop-holds Inv-loop μ-loop
 loop-holds c = (c .before .pre .0, omega arith, refl, refl, refl)
 
-shared-slice-read-b : tie.Need-shared-slice-read-b Inv-loop μ-loop
-shared-slice-read-b c = omega arith
-
-is-digit-requires : tie.Need-is-digit-requires Inv-loop μ-loop
-is-digit-requires c κs = search needs
-
 returns : tie.Need-returns Inv-loop μ-loop
 returns c =
     let l = c .before .before .before .before in
@@ -75,12 +69,6 @@ cast-grow c = let range = digit-range _ (is-a-digit c) in omega arith
 
 grow-requires : tie.Need-grow-requires Inv-loop μ-loop
 grow-requires c κs = let range = digit-range _ (is-a-digit c) in omega arith
-
-add-i : tie.Need-add-i Inv-loop μ-loop
-add-i c = omega arith
-
-loop-less : tie.Need-loop-less Inv-loop μ-loop
-loop-less c = omega arith
 
 loop-again : tie.Need-loop-again Inv-loop μ-loop
 unfolding decimalFrom
@@ -105,18 +93,5 @@ returns-2 c =
 
 pub digits-spec : {M : Type 1} → statement M
 digits-spec =
-    tie.close
-    (tie.spec
-    Inv-loop
-    μ-loop
-    loop-holds
-    shared-slice-read-b
-    is-digit-requires
-    returns
-    sub-grow
-    cast-grow
-    grow-requires
-    add-i
-    loop-less
-    loop-again
-    returns-2)
+    tie.close (tie.spec Inv-loop μ-loop loop-holds (λ c. omega arith) (λ c κs. search needs) returns sub-grow cast-grow grow-requires
+    (λ c. omega arith) (λ c. omega arith) loop-again returns-2)

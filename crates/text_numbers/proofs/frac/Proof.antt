@@ -10,7 +10,7 @@ use denote.Ref.{now}
 use lib.ListN.{drop}
 use Rattle.text_json.specs.Read.{found, andThen, readSomeDigits, readFrac}
 use Rattle.text_numbers.proofs.NumberSteps.{frac-end, frac-more, frac-stop}
-use Rattle.text_numbers.proofs.Numerals.{part-found, part-stuck}
+use Rattle.text_numbers.proofs.Numerals.{part-read}
 use Rattle.text_numbers.proofs.frac.Statement.{statement}
 use Rattle.text_numbers.proofs.frac.Tie as tie
 
@@ -26,45 +26,17 @@ here c = frac-more (text c) (place c) (c .before .before .if1 .left) (c .if2 .le
 returns : tie.Need-returns
 returns c = record { past = omega arith; inside = c .before .before .pre; read = frac-end _ _ (c .if1 .taken) }
 
-shared-slice-read-if2 : tie.Need-shared-slice-read-if2
-shared-slice-read-if2 c = search needs
-
 returns-2 : tie.Need-returns-2
 returns-2 c =
     record { past = omega arith; inside = omega arith; read = frac-stop _ _ (c .before .before .if1 .left) (c .if2 .taken) }
 
-add-some-digits : tie.Need-add-some-digits
-add-some-digits c = search needs
-
-some-digits-requires : tie.Need-some-digits-requires
-some-digits-requires c κs = search needs
-
-enum-known-e : tie.Need-enum-known-e
-enum-known-e c = search needs
-
-enum-known-e-2 : tie.Need-enum-known-e-2
-enum-known-e-2 c = search needs
-
 returns-3 : tie.Need-returns-3
 returns-3 c =
-    let got = rw (c .before .e .given .1) at (c .before .before .before .some-digits .ensures) in
-    part-found _ _ _ _ _ (here (c .before .before .before .before)) got
-
-returns-4 : tie.Need-returns-4
-returns-4 c =
-    let got = rw (c .before .e2 .given .1) at (c .before .before .before .some-digits .ensures) in
-    part-stuck _ _ _ _ _ (here (c .before .before .before .before)) got
+    let e = c .before .before in
+    rw (c .stepped .ensures)
+    (part-read (text e) (place e) (readSomeDigits (drop (place e + 1) (text e))) (readFrac (drop (place e) (text e))) (here e)
+    (c .before .some-digits .result) (c .before .some-digits .ensures))
 
 pub frac-spec : {M : Type 1} → statement M
 frac-spec =
-    tie.close
-    (tie.spec
-    returns
-    shared-slice-read-if2
-    returns-2
-    add-some-digits
-    some-digits-requires
-    enum-known-e
-    enum-known-e-2
-    returns-3
-    returns-4)
+    tie.close (tie.spec returns (λ c. search needs) returns-2 (λ c. search needs) (λ c κs. search needs) (λ c κs. search needs) returns-3)

@@ -29,12 +29,6 @@ is-a-digit c = sym (c .before .is-digit .ensures) ∙ not-false _ (c .if3 .left)
 returns : tie.Need-returns
 returns c = record { past = omega arith; inside = c .before .before .pre; read = int-end _ _ (c .if1 .taken) }
 
-shared-slice-read-b : tie.Need-shared-slice-read-b
-shared-slice-read-b c = search needs
-
-add-t9 : tie.Need-add-t9
-add-t9 c = search needs
-
 returns-2 : tie.Need-returns-2
 unfolding decimal decimalFrom
 returns-2 c =
@@ -47,17 +41,11 @@ returns-2 c =
       value = refl;
     }
 
-is-digit-requires : tie.Need-is-digit-requires
-is-digit-requires c κs = search needs
-
 returns-3 : tie.Need-returns-3
 returns-3 c =
     let other = sym (c .before .is-digit .ensures) ∙ not-true _ (c .if3 .taken) in
     let else2 = c .before .before in
     record { past = omega arith; inside = omega arith; read = int-stop _ _ (else2 .before .before .if1 .left) (else2 .if2 .left) other }
-
-add-digits : tie.Need-add-digits
-add-digits c = search needs
 
 sub-digits : tie.Need-sub-digits
 sub-digits c = digit-range _ (is-a-digit c) .0
@@ -86,16 +74,5 @@ returns-4 c =
 
 pub int-part-spec : {M : Type 1} → statement M
 int-part-spec =
-    tie.close
-    (tie.spec
-    returns
-    shared-slice-read-b
-    add-t9
-    returns-2
-    is-digit-requires
-    returns-3
-    add-digits
-    sub-digits
-    cast-digits
-    digits-requires
-    returns-4)
+    tie.close (tie.spec returns (λ c. search needs) (λ c. search needs) returns-2 (λ c κs. search needs) returns-3 (λ c. search needs) sub-digits
+    cast-digits digits-requires returns-4)

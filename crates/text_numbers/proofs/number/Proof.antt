@@ -12,18 +12,6 @@ use Rattle.text_numbers.proofs.number.Tie as tie
 returns : tie.Need-returns
 returns c = (omega arith, scans-stuck _ _ (c .before .before .pre) _ _ _ (number-end _ _ (c .if1 .taken)))
 
-shared-slice-read-if2 : tie.Need-shared-slice-read-if2
-shared-slice-read-if2 c = search needs
-
-add-unsigned : tie.Need-add-unsigned
-add-unsigned c = search needs
-
-unsigned-requires : tie.Need-unsigned-requires
-unsigned-requires c κs = search needs
-
-unsigned-requires-2 : tie.Need-unsigned-requires-2
-unsigned-requires-2 c κs = search needs
-
 returns-2 : tie.Need-returns-2
 returns-2 c =
     let start = c .before .before .before .before .before in
@@ -38,12 +26,4 @@ returns-3 c =
 
 pub number-spec : {M : Type 1} → statement M
 number-spec =
-    tie.close
-    (tie.spec
-    returns
-    shared-slice-read-if2
-    add-unsigned
-    unsigned-requires
-    unsigned-requires-2
-    returns-2
-    returns-3)
+    tie.close (tie.spec returns (λ c. search needs) (λ c. search needs) (λ c κs. search needs) (λ c κs. search needs) returns-2 returns-3)

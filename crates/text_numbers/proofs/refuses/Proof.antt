@@ -23,4 +23,5 @@ unfolding refusedParts limit
 returns-4 c = rw (not-false (c .before .before .args .whole) (c .before .if1 .left), c .if2 .left)
 
 pub refuses-spec : {M : Type 1} → statement M
-refuses-spec = tie.close (tie.spec returns returns-2 returns-3 returns-4)
+refuses-spec =
+    tie.close (tie.spec returns returns-2 returns-3 returns-4)

@@ -13,21 +13,6 @@ use Rattle.text_numbers.proofs.signed.Tie as tie
 returns : tie.Need-returns
 returns c = record { past = omega arith; inside = c .before .before .pre; read = signed-end _ _ (c .if1 .taken) }
 
-shared-slice-read-is-sign : tie.Need-shared-slice-read-is-sign
-shared-slice-read-is-sign c = search needs
-
-is-sign-requires : tie.Need-is-sign-requires
-is-sign-requires c κs = search needs
-
-add-some-digits : tie.Need-add-some-digits
-add-some-digits c = search needs
-
-some-digits-requires : tie.Need-some-digits-requires
-some-digits-requires c κs = search needs
-
-some-digits-requires-2 : tie.Need-some-digits-requires-2
-some-digits-requires-2 c κs = search needs
-
 returns-2 : tie.Need-returns-2
 returns-2 c =
     let sign = c .before .before in
@@ -46,13 +31,5 @@ returns-3 c =
 
 pub signed-spec : {M : Type 1} → statement M
 signed-spec =
-    tie.close
-    (tie.spec
-    returns
-    shared-slice-read-is-sign
-    is-sign-requires
-    add-some-digits
-    some-digits-requires
-    some-digits-requires-2
-    returns-2
+    tie.close (tie.spec returns (λ c. search needs) (λ c κs. search needs) (λ c. search needs) (λ c κs. search needs) (λ c κs. search needs) returns-2
     returns-3)

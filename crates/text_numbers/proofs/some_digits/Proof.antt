@@ -9,25 +9,10 @@ use Rattle.text_numbers.proofs.NumberSteps.{some-end, some-more, some-s
 use Rattle.text_numbers.proofs.some_digits.Statement.{statement}
 use Rattle.text_numbers.proofs.some_digits.Tie as tie
 
-returns : tie.Need-returns
-returns c = record { past = omega arith; inside = c .before .before .pre; read = some-end _ _ (c .if1 .taken) }
-
-shared-slice-read-is-digit : tie.Need-shared-slice-read-is-digit
-shared-slice-read-is-digit c = search needs
-
-is-digit-requires : tie.Need-is-digit-requires
-is-digit-requires c κs = search needs
-
 returns-2 : tie.Need-returns-2
 returns-2 c =
     let other = sym (c .before .is-digit .ensures) ∙ not-true _ (c .if2 .taken) in
     record { past = omega arith; inside = omega arith; read = some-stop _ _ (c .before .before .before .if1 .left) other }
-
-add-digits : tie.Need-add-digits
-add-digits c = search needs
-
-digits-requires : tie.Need-digits-requires
-digits-requires c κs = search needs
 
 returns-3 : tie.Need-returns-3
 returns-3 c =
@@ -41,12 +26,5 @@ returns-3 c =
 
 pub some-digits-spec : {M : Type 1} → statement M
 some-digits-spec =
-    tie.close
-    (tie.spec
-    returns
-    shared-slice-read-is-digit
-    is-digit-requires
-    returns-2
-    add-digits
-    digits-requires
-    returns-3)
+    tie.close (tie.spec (λ c. record { past = omega arith; inside = c .before .before .pre; read = some-end _ _ (c .if1 .taken) }) (λ c. search needs)
+    (λ c κs. search needs) returns-2 (λ c. search needs) (λ c κs. search needs) returns-3)

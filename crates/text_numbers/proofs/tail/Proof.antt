@@ -4,27 +4,11 @@ use native.Mathlib.Omega.{arith}
 use borrow.Author.Needs.{needs}
 use Rattle.text_json.specs.Read.{andThen}
 use Rattle.text_numbers.specs.Parts.{readTail}
-use Rattle.text_numbers.proofs.Numerals.{both-and}
 use Rattle.text_numbers.proofs.tail.Statement.{statement}
 use Rattle.text_numbers.proofs.tail.Tie as tie
 
-frac-requires : tie.Need-frac-requires
-frac-requires c κs = search needs
-
-enum-known-end : tie.Need-enum-known-end
-enum-known-end c = search needs
-
 exp-requires : tie.Need-exp-requires
 exp-requires c κs = (rw (c .before .end .given .1) at (c .before .before .before .frac .ensures)) .inside
-
-enum-known-last : tie.Need-enum-known-last
-enum-known-last c = search needs
-
-enum-known-e : tie.Need-enum-known-e
-enum-known-e c = search needs
-
-enum-known-e-2 : tie.Need-enum-known-e-2
-enum-known-e-2 c = search needs
 
 returns : tie.Need-returns
 unfolding readTail andThen
@@ -32,7 +16,7 @@ returns c =
     let read-exp = rw (c .before .last .given .1) at (c .before .before .before .exp .ensures) in
     let told = c .before .before .before .before .before in
     let read-frac = rw (told .end .given .1) at (told .before .before .frac .ensures) in
-    record { past = omega (arith, read-exp .past, read-frac .past); inside = read-exp .inside; read = rw (read-frac .read, read-exp .read, both-and) }
+    record { past = omega (arith, read-exp .past, read-frac .past); inside = read-exp .inside; read = rw (read-frac .read, read-exp .read) }
 
 returns-2 : tie.Need-returns-2
 unfolding readTail andThen
@@ -50,14 +34,5 @@ returns-3 c =
 
 pub tail-spec : {M : Type 1} → statement M
 tail-spec =
-    tie.close
-    (tie.spec
-    frac-requires
-    enum-known-end
-    exp-requires
-    enum-known-last
-    enum-known-e
-    enum-known-e-2
-    returns
-    returns-2
-    returns-3)
+    tie.close (tie.spec (λ c κs. search needs) (λ c. search needs) exp-requires (λ c. search needs) (λ c. search needs) (λ c. search needs) returns
+    returns-2 returns-3)

@@ -11,23 +11,8 @@ use Rattle.text_numbers.proofs.Numerals.{signs-most, unsigned-tail, uns
 use Rattle.text_numbers.proofs.unsigned.Statement.{statement}
 use Rattle.text_numbers.proofs.unsigned.Tie as tie
 
-int-part-requires : tie.Need-int-part-requires
-int-part-requires c κs = search needs
-
-enum-known-end : tie.Need-enum-known-end
-enum-known-end c = search needs
-
 tail-requires : tie.Need-tail-requires
 tail-requires c κs = (rw (c .before .end .given .1) at (c .before .before .before .int-part .ensures)) .inside
-
-enum-known-last : tie.Need-enum-known-last
-enum-known-last c = search needs
-
-refuses-requires : tie.Need-refuses-requires
-refuses-requires c κs = search needs
-
-sign-size-requires : tie.Need-sign-size-requires
-sign-size-requires c κs = search needs
 
 sub-t16 : tie.Need-sub-t16
 sub-t16 c =
@@ -40,12 +25,6 @@ add-t17 c =
     let told = c .before .before .before .before .before .before .before in
     let int = rw (told .end .given .1) at (told .before .before .int-part .ensures) in
     omega (arith, int .inside, signs-most (told .before .before .before .before .args .negative))
-
-enum-known-e : tie.Need-enum-known-e
-enum-known-e c = search needs
-
-enum-known-e-2 : tie.Need-enum-known-e-2
-enum-known-e-2 c = search needs
 
 returns : tie.Need-returns
 returns c =
@@ -76,18 +55,5 @@ returns-3 c =
 
 pub unsigned-spec : {M : Type 1} → statement M
 unsigned-spec =
-    tie.close
-    (tie.spec
-    int-part-requires
-    enum-known-end
-    tail-requires
-    enum-known-last
-    refuses-requires
-    sign-size-requires
-    sub-t16
-    add-t17
-    enum-known-e
-    enum-known-e-2
-    returns
-    returns-2
-    returns-3)
+    tie.close (tie.spec (λ c κs. search needs) (λ c. search needs) tail-requires (λ c. search needs) (λ c κs. search needs) (λ c κs. search needs)
+    sub-t16 add-t17 (λ c. search needs) (λ c. search needs) returns returns-2 returns-3)

@@ -10,14 +10,8 @@ use Rattle.text_order.proofs.Alike.{few-first, few-second, not-same, en
 use Rattle.text_order.proofs.alike16.Statement.{statement}
 use Rattle.text_order.proofs.alike16.Tie as tie
 
-sub-if1 : tie.Need-sub-if1
-sub-if1 c = search needs
-
 returns : tie.Need-returns
 returns c = few-first 16 _ _ (rw length-drop (omega arith))
-
-sub-if2 : tie.Need-sub-if2
-sub-if2 c = search needs
 
 returns-2 : tie.Need-returns-2
 returns-2 c = few-second 16 _ _ (rw length-drop (omega arith)) (rw length-drop (omega arith))
@@ -29,14 +23,12 @@ returns-3 : tie.Need-returns-3
 returns-3 c =
     not-same 16 _ _ (rw length-drop (omega arith)) (rw length-drop (omega arith)) (sym (c .before .same16 .ensures) ∙ not-true _ (c .if3 .taken))
 
-unmarked16-requires : tie.Need-unmarked16-requires
-unmarked16-requires c κs = omega arith
-
 returns-4 : tie.Need-returns-4
 returns-4 c =
-    c .unmarked16 .ensures
+    c .unmarked .ensures
     ∙ enough 16 _ _ (rw length-drop (omega arith)) (rw length-drop (omega arith)) (sym (c .before .before .same16 .ensures)
     ∙ not-false _ (c .before .if3 .left))
 
 pub alike16-spec : {M : Type 1} → statement M
-alike16-spec = tie.close (tie.spec sub-if1 returns sub-if2 returns-2 same16-requires returns-3 unmarked16-requires returns-4)
+alike16-spec =
+    tie.close (tie.spec (λ c. search needs) returns (λ c. search needs) returns-2 same16-requires returns-3 (λ c κs. omega arith) returns-4)

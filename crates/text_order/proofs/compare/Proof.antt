@@ -83,22 +83,5 @@ returns-2 c =
 
 pub compare-spec : {M : Type 1} → statement M
 compare-spec =
-    tie.close
-    (tie.spec
-    Inv-loop
-    μ-loop
-    shared-slice-read-if1
-    shared-slice-read-if1-2
-    compare-bytes-requires
-    returns
-    loop-holds
-    add-alike16
-    add-alike16-2
-    alike16-requires
-    add-k
-    loop-less
-    loop-again
-    add-compare-bytes
-    add-compare-bytes-2
-    compare-bytes-requires-2
-    returns-2)
+    tie.close (tie.spec Inv-loop μ-loop shared-slice-read-if1 shared-slice-read-if1-2 compare-bytes-requires returns loop-holds add-alike16
+    add-alike16-2 alike16-requires add-k loop-less loop-again add-compare-bytes add-compare-bytes-2 compare-bytes-requires-2 returns-2)

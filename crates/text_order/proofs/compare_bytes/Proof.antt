@@ -51,9 +51,6 @@ add-y c = omega (arith, inside-within _ _ (c .before .loop .inv .1))
 shared-slice-read-y : tie.Need-shared-slice-read-y Inv-loop μ-loop
 shared-slice-read-y c = inside-within _ _ (c .before .before .loop .inv .1)
 
-either-escapes-requires : tie.Need-either-escapes-requires Inv-loop μ-loop
-either-escapes-requires c κs = search needs
-
 add-same-escape : tie.Need-add-same-escape Inv-loop μ-loop
 add-same-escape c = omega (arith, inside-within _ _ (c .before .before .before .before .loop .inv .0))
 
@@ -87,14 +84,8 @@ loop-again c =
 add-new : tie.Need-add-new Inv-loop μ-loop
 add-new c = omega (arith, inside-within _ _ (c .before .before .before .before .before .before .loop .inv .0))
 
-new-requires : tie.Need-new-requires Inv-loop μ-loop
-new-requires c κs = search needs
-
 add-new-2 : tie.Need-add-new-2 Inv-loop μ-loop
 add-new-2 c = omega (arith, inside-within _ _ (c .before .before .before .before .before .before .before .loop .inv .1))
-
-new-requires-2 : tie.Need-new-requires-2 Inv-loop μ-loop
-new-requires-2 c κs = search needs
 
 compare-cursors-requires : tie.Need-compare-cursors-requires Inv-loop μ-loop
 compare-cursors-requires c κs =
@@ -109,9 +100,6 @@ returns c =
     λ x y p q. let k = inv .2 x y p q in
     c .compare-cursors .ensures (k .0) (k .1) (new-left _ _ _ _ (c .before .before .new .ensures) (k .2)) (new-left _ _ _ _ (c .before .new2 .ensures) (k .3))
     ∙ sym (k .4)
-
-differ-requires : tie.Need-differ-requires Inv-loop μ-loop
-differ-requires c κs = search needs
 
 returns-2 : tie.Need-returns-2 Inv-loop μ-loop
 returns-2 c =
@@ -144,31 +132,6 @@ loop-again-2 c =
 
 pub compare-bytes-spec : {M : Type 1} → statement M
 compare-bytes-spec =
-    tie.close
-    (tie.spec
-    Inv-loop
-    μ-loop
-    loop-holds
-    add-x
-    shared-slice-read-x
-    add-y
-    shared-slice-read-y
-    either-escapes-requires
-    add-same-escape
-    add-same-escape-2
-    same-escape-requires
-    add-k
-    loop-less
-    loop-again
-    add-new
-    new-requires
-    add-new-2
-    new-requires-2
-    compare-cursors-requires
-    returns
-    differ-requires
-    returns-2
-    returns-3
-    add-k-2
-    loop-less-2
-    loop-again-2)
+    tie.close (tie.spec Inv-loop μ-loop loop-holds add-x shared-slice-read-x add-y shared-slice-read-y (λ c κs. search needs) add-same-escape
+    add-same-escape-2 same-escape-requires add-k loop-less loop-again add-new (λ c κs. search needs) add-new-2 (λ c κs. search needs)
+    compare-cursors-requires returns (λ c κs. search needs) returns-2 returns-3 add-k-2 loop-less-2 loop-again-2)

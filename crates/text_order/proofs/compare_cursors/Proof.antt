@@ -1,6 +1,6 @@
 use native.Mathlib.Omega.{arith}
 use borrow.Author.Tests.{not-true, not-false}
-use Rattle.text_strings.specs.Cursor.{Left, Readable, weight}
+use Rattle.text_strings.specs.Cursor.{Left, ReadableCursor, weight}
 use Rattle.text_strings.proofs.Cursors.{given-byte}
 use Rattle.text_order.proofs.Orders.{Tracks, first-ends, both-end, second-ends, first-less, first-more, goes-on}
 use mathlib.Core.Path.{refl}
@@ -11,7 +11,7 @@ use Rattle.text_order.proofs.compare_cursors.Lts as lts
 use Rattle.text_strings.proofs.Cursor.next.Reads as next-reads
 
 abbrev Inv-loop : tie.InvT-loop
-Inv-loop s t i₀ j₀ i j = Readable s i × Readable t j × Tracks (Left s i₀) (Left t j₀) (Left s i) (Left t j)
+Inv-loop s t i₀ j₀ i j = ReadableCursor s i × ReadableCursor t j × Tracks (Left s i₀) (Left t j₀) (Left s i) (Left t j)
 
 abbrev μ-loop : tie.MeasureT-loop
 μ-loop s t i₀ j₀ i j = weight s i
@@ -81,17 +81,4 @@ loop-again c =
 
 pub compare-cursors-spec : {M : Type 1} → statement M
 compare-cursors-spec =
-    tie.close
-    (tie.spec
-    Inv-loop
-    μ-loop
-    loop-holds
-    next-requires
-    next-requires-2
-    returns
-    returns-2
-    returns-3
-    returns-4
-    returns-5
-    loop-less
-    loop-again)
+    tie.close (tie.spec Inv-loop μ-loop loop-holds next-requires next-requires-2 returns returns-2 returns-3 returns-4 returns-5 loop-less loop-again)

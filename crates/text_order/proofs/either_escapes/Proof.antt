@@ -11,4 +11,5 @@ returns-2 : tie.Need-returns-2
 returns-2 c = rw (ne-eqb _ _ (c .if1 .left))
 
 pub either-escapes-spec : {M : Type 1} → statement M
-either-escapes-spec = tie.close (tie.spec returns returns-2)
+either-escapes-spec =
+    tie.close (tie.spec returns returns-2)

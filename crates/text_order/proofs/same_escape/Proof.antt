@@ -38,15 +38,5 @@ returns-4 c = by-letter _ _ _ _ (c .before .before .before .before .before .if1 
 
 pub same-escape-spec : {M : Type 1} → statement M
 same-escape-spec =
-    tie.close
-    (tie.spec
-    shared-slice-read-if1
-    returns
-    shared-slice-read-if2
-    returns-2
-    add-letter
-    shared-slice-read-letter
-    returns-3
-    add-result
-    shared-slice-read-result
-    returns-4)
+    tie.close (tie.spec shared-slice-read-if1 returns shared-slice-read-if2 returns-2 add-letter shared-slice-read-letter returns-3 add-result
+    shared-slice-read-result returns-4)

@@ -6,8 +6,8 @@ use mathlib.Core.Path.{_≡_, subst}
 use denote.Ref.{now}
 use native.Mathlib.Omega.{arith}
 use lib.ListN.{take, drop}
-use Rattle.text_printer.specs.Writes.{Writes}
-use Rattle.text_printer.proofs.Written.{same-length, copied-byte}
+use Rattle.laws.specs.Writes.{Writes}
+use Rattle.laws.proofs.Writing.{same-length, copied-byte}
 use Rattle.text_printer.proofs.copy.Statement.{statement}
 use Rattle.text_printer.proofs.copy.Tie as tie
 
@@ -17,26 +17,8 @@ Inv-loop s from to out₀ n i₀ out i = (i ≤ n) × Writes out₀ out (take i 
 abbrev μ-loop : tie.MeasureT-loop
 μ-loop s from to out₀ n i₀ out i = n - i
 
-sub-n : tie.Need-sub-n Inv-loop μ-loop
-sub-n c = search needs
-
-loop-holds : tie.Need-loop-holds Inv-loop μ-loop
-loop-holds c = search needs
-
-add-out : tie.Need-add-out Inv-loop μ-loop
-add-out c = search needs
-
-shared-slice-read-out : tie.Need-shared-slice-read-out Inv-loop μ-loop
-shared-slice-read-out c = search needs
-
 slice-write-out : tie.Need-slice-write-out Inv-loop μ-loop
 slice-write-out c = omega (arith, same-length (c .before .before .loop .inv .1))
-
-add-i : tie.Need-add-i Inv-loop μ-loop
-add-i c = search needs
-
-loop-less : tie.Need-loop-less Inv-loop μ-loop
-loop-less c = search needs
 
 loop-again : tie.Need-loop-again Inv-loop μ-loop
 loop-again c =
@@ -54,17 +36,5 @@ returns c =
 
 pub copy-spec : {M : Type 1} → statement M
 copy-spec =
-    tie.close
-    (tie.spec
-    Inv-loop
-    μ-loop
-    sub-n
-    loop-holds
-    add-out
-    shared-slice-read-out
-    slice-write-out
-    add-i
-    loop-less
-    loop-again
-    keeps-length
-    returns)
+    tie.close (tie.spec Inv-loop μ-loop (λ c. search needs) (λ c. search needs) (λ c. search needs) (λ c. search needs) slice-write-out
+    (λ c. search needs) (λ c. search needs) loop-again keeps-length returns)

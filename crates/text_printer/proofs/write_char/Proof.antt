@@ -17,9 +17,6 @@ slice-write-out-2 c =
     let d = c .before .before in
     simp length-set (omega (arith, pair-fits (d .args .c) 0x22 (now (d .args .out)) (c .if1 .taken) quotation-mark (d .pre .1)))
 
-same-length : tie.Need-same-length
-same-length c = search needs
-
 returns : tie.Need-returns
 returns c = pair-written _ _ _ (c .if1 .taken) quotation-mark (c .before .before .pre .1)
 
@@ -33,25 +30,13 @@ slice-write-out-4 c =
     let d = c .before .before .before in
     simp length-set (omega (arith, pair-fits (d .args .c) 0x5C (now (d .args .out)) (c .if2 .taken) backslash (d .pre .1)))
 
-same-length-2 : tie.Need-same-length-2
-same-length-2 c = search needs
-
 returns-2 : tie.Need-returns-2
 returns-2 c = pair-written _ _ _ (c .if2 .taken) backslash (c .before .before .before .pre .1)
-
-encoded-requires : tie.Need-encoded-requires
-encoded-requires c κs = search needs
-
-slice-aggregate-copy : tie.Need-slice-aggregate-copy
-slice-aggregate-copy c = search needs
 
 copy-requires : tie.Need-copy-requires
 copy-requires c κs =
     let d = c .before .before .before in
     char-fits _ _ _ (d .before .before .if1 .left) (d .before .if2 .left) (d .encoded .ensures) _ (d .before .before .before .before .pre .1)
-
-same-length-3 : tie.Need-same-length-3
-same-length-3 c = search needs
 
 returns-3 : tie.Need-returns-3
 returns-3 c =
@@ -60,18 +45,5 @@ returns-3 c =
 
 pub write-char-spec : {M : Type 1} → statement M
 write-char-spec =
-    tie.close
-    (tie.spec
-    slice-write-out
-    slice-write-out-2
-    same-length
-    returns
-    slice-write-out-3
-    slice-write-out-4
-    same-length-2
-    returns-2
-    encoded-requires
-    slice-aggregate-copy
-    copy-requires
-    same-length-3
-    returns-3)
+    tie.close (tie.spec slice-write-out slice-write-out-2 (λ c. search needs) returns slice-write-out-3 slice-write-out-4 (λ c. search needs)
+    returns-2 (λ c κs. search needs) (λ c. search needs) copy-requires (λ c. search needs) returns-3)

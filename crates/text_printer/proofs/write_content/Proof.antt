@@ -4,15 +4,15 @@ use borrow.Author.Needs.{needs}
 use Prim.Native.Nat.{_-_}
 use native.Mathlib.Omega.{arith}
 use lib.ListN.{length, length-set}
-use Rattle.text_printer.proofs.Written
-use Rattle.text_printer.proofs.Contents.{Progress, started, within, escape-here, byte-space, closed, run-within, run-space, run-fits, after-run}
+use Rattle.laws.proofs.Writing as Written
+use Rattle.text_printer.proofs.Contents.{ContentWritten, started, within, escape-here, byte-space, closed, run-within, run-space, run-fits, after-run}
 use Rattle.text_printer.proofs.Contents.{char-space}
 use Rattle.text_printer.proofs.Contents.{char-fits, after-escape}
 use Rattle.text_printer.proofs.write_content.Statement.{statement}
 use Rattle.text_printer.proofs.write_content.Tie as tie
 
 abbrev Inv-loop : tie.InvT-loop
-Inv-loop s i out₀ k₀ n₀ out k n = Progress s i out₀ out k n
+Inv-loop s i out₀ k₀ n₀ out k n = ContentWritten s i out₀ out k n
 
 abbrev μ-loop : tie.MeasureT-loop
 μ-loop s i out₀ k₀ n₀ out k n = length s - k
@@ -45,9 +45,6 @@ sub-write-char c =
 part-write-char-start : tie.Need-part-write-char-start Inv-loop μ-loop
 part-write-char-start c =
     omega (arith, byte-space (c .before .before .before .before .loop .inv) (c .before .before .before .before .before .before .before .pre .1))
-
-part-write-char-end : tie.Need-part-write-char-end Inv-loop μ-loop
-part-write-char-end c = search needs
 
 write-char-requires : tie.Need-write-char-requires Inv-loop μ-loop
 write-char-requires c κs =
@@ -85,9 +82,6 @@ sub-copy c = let l = c .before .before .before .before in omega (arith, byte-spa
 
 part-copy-start : tie.Need-part-copy-start Inv-loop μ-loop
 part-copy-start c = let l = c .before .before .before .before in omega (arith, byte-space (l .loop .inv) (l .before .before .before .pre .1))
-
-part-copy-end : tie.Need-part-copy-end Inv-loop μ-loop
-part-copy-end c = search needs
 
 copy-requires : tie.Need-copy-requires Inv-loop μ-loop
 copy-requires c κs =
@@ -127,30 +121,6 @@ loop-again-2 c =
 
 pub write-content-spec : {M : Type 1} → statement M
 write-content-spec =
-    tie.close
-    (tie.spec
-    Inv-loop
-    μ-loop
-    loop-holds
-    shared-slice-read-b
-    slice-write-out
-    add-result
-    same-length
-    returns
-    read-escape-requires
-    sub-write-char
-    part-write-char-start
-    part-write-char-end
-    write-char-requires
-    add-n
-    loop-less
-    loop-again
-    add-plain-end
-    plain-end-requires
-    sub-copy
-    part-copy-start
-    part-copy-end
-    copy-requires
-    add-n-2
-    loop-less-2
-    loop-again-2)
+    tie.close (tie.spec Inv-loop μ-loop loop-holds shared-slice-read-b slice-write-out add-result same-length returns read-escape-requires
+    sub-write-char part-write-char-start (λ c. search needs) write-char-requires add-n loop-less loop-again add-plain-end plain-end-requires sub-copy
+    part-copy-start (λ c. search needs) copy-requires add-n-2 loop-less-2 loop-again-2)

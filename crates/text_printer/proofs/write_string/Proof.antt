@@ -6,7 +6,7 @@ use native.Mathlib.Omega.{arith}
 use lib.ListN.{length-set}
 use Rattle.text_strings.proofs.Cursors.{inside-within}
 use Rattle.text_strings.specs.InString.{contentFrom}
-use Rattle.text_printer.proofs.Written
+use Rattle.laws.proofs.Writing as Written
 use Rattle.text_printer.proofs.Contents.{marks-fit, content-fits, string-written}
 use Rattle.text_printer.proofs.write_string.Statement.{statement}
 use Rattle.text_printer.proofs.write_string.Tie as tie
@@ -29,9 +29,6 @@ part-write-content-start c =
     let d = c .before .before in
     simp length-set (omega (arith, marks-fit (contentFrom (now (d .args .s)) (d .args .at + 1)) (now (d .args .out)) (d .pre .1)))
 
-part-write-content-end : tie.Need-part-write-content-end
-part-write-content-end c = search needs
-
 write-content-requires : tie.Need-write-content-requires
 write-content-requires c κs =
     let d = c .before .before .before in
@@ -52,14 +49,5 @@ returns c = string-written _ _ (c .before .before .before .before .before .befor
 
 pub write-string-spec : {M : Type 1} → statement M
 write-string-spec =
-    tie.close
-    (tie.spec
-    slice-write-out
-    add-write-content
-    sub-write-content
-    part-write-content-start
-    part-write-content-end
-    write-content-requires
-    add-result
-    same-length
-    returns)
+    tie.close (tie.spec slice-write-out add-write-content sub-write-content part-write-content-start (λ c. search needs) write-content-requires
+    add-result same-length returns)

@@ -13,7 +13,7 @@ use Rattle.text_keys.specs.Keys.{KeysAt}
 use Rattle.text_tokens.specs.Summary.{plus}
 use denote.Ref.{now}
 use Rattle.text_json.specs.Read.{read}
-use Rattle.text_tokens.specs.Scanned.{Scans}
+use Rattle.text_tokens.specs.Scanned.{ScansValue}
 use Rattle.text_scan.specs.Scanned.{LeavesKeys, readArray, readObject}
 use Rattle.text_tokens.specs.declared.Summary.{Summary}
 use Rattle.text_tokens.specs.declared.Scanned.{Scanned}
@@ -21,9 +21,9 @@ use Rattle.text_tokens.specs.declared.Scanned.the-variants.{Value}
 use Rattle.text_scan.proofs.Arrays as arrays
 use Rattle.text_scan.proofs.Objects as objects
 use Rattle.text_scan.proofs.Keys.{closed-keys}
-use Rattle.text_scan.proofs.Progress.{IsValue, scans-value}
+use Rattle.text_scan.proofs.Results.{IsValue, scans-value}
 use Prim.Native.Nat.{ℕ, _<_}
-use borrow.Fn.Kinds.{In, Out}
+use borrow.Fn.Kinds.{In, Out, PK}
 use borrow.Fn.PlainCycle.{Measures, is, falls, and}
 use Rattle.text_scan.proofs.array.Reads as array
 use Rattle.text_scan.proofs.array.Kinds as array-kinds
@@ -56,23 +56,12 @@ abbrev μ-object : Measures 3 object-kinds.ps ℕ
 abbrev μ-value : Measures 3 value-kinds.ps ℕ
 μ-value κs a = a .1 .1 .0 + a .1 .1 .0
 
-abbrev array-at : ℕ → In 3 array-kinds.ps
-array-at t = and 3 array-kinds.ps (is 3 array-kinds.ps μ-array t) array.Pre
+-- what holds where a function is called at the measure t, and what has to hold for a call at a lower one
+abbrev at-measure : (ps : List (PK 3)) → Measures 3 ps ℕ → In 3 ps → ℕ → In 3 ps
+at-measure ps μ pre t = and 3 ps (is 3 ps μ t) pre
 
-abbrev array-below : ℕ → In 3 array-kinds.ps
-array-below t = and 3 array-kinds.ps (falls 3 array-kinds.ps _<_ μ-array t) array.Pre
-
-abbrev object-at : ℕ → In 3 object-kinds.ps
-object-at t = and 3 object-kinds.ps (is 3 object-kinds.ps μ-object t) object.Pre
-
-abbrev object-below : ℕ → In 3 object-kinds.ps
-object-below t = and 3 object-kinds.ps (falls 3 object-kinds.ps _<_ μ-object t) object.Pre
-
-abbrev value-at : ℕ → In 3 value-kinds.ps
-value-at t = and 3 value-kinds.ps (is 3 value-kinds.ps μ-value t) value.Pre
-
-abbrev value-below : ℕ → In 3 value-kinds.ps
-value-below t = and 3 value-kinds.ps (falls 3 value-kinds.ps _<_ μ-value t) value.Pre
+abbrev below-measure : (ps : List (PK 3)) → Measures 3 ps ℕ → In 3 ps → ℕ → In 3 ps
+below-measure ps μ pre t = and 3 ps (falls 3 ps _<_ μ t) pre
 
 abbrev array-calls : ℕ → array-lts.Claims
 array-calls t = (
@@ -82,7 +71,7 @@ array-calls t = (
   stands-reads.Learnt,
   plain-reads.Asked,
   plain-reads.Learnt,
-  value-below t,
+  below-measure value-kinds.ps μ-value value.Pre t,
   value.Post,
   added-reads.Asked,
   added-reads.Learnt,
@@ -102,7 +91,7 @@ object-calls t = (
   key-reads.Learnt,
   mark-reads.Asked,
   mark-reads.Learnt,
-  value-below t,
+  below-measure value-kinds.ps μ-value value.Pre t,
   value.Post,
   member-reads.Asked,
   member-reads.Learnt,
@@ -116,9 +105,9 @@ object-calls t = (
 
 abbrev value-calls : ℕ → value-lts.Claims
 value-calls t = (
-  array-below t,
+  below-measure array-kinds.ps μ-array array.Pre t,
   array.Post,
-  object-below t,
+  below-measure object-kinds.ps μ-object object.Pre t,
   object.Post,
   scalar-reads.Asked,
   scalar-reads.Learnt,
@@ -126,7 +115,7 @@ value-calls t = (
 
 abbrev array-Inv-loop : array-lts.InvT-loop
 array-Inv-loop s at depth keys₀ spare₀ i₀ sum₀ keys spare i sum =
-    arrays.Progress s at depth i sum × (length keys ≡ length keys₀) × (length spare ≡ length spare₀)
+    arrays.ArrayScanned s at depth i sum × (length keys ≡ length keys₀) × (length spare ≡ length spare₀)
 
 abbrev array-μ-loop : array-lts.MeasureT-loop
 array-μ-loop s at depth keys₀ spare₀ i₀ sum₀ keys spare i sum = length s - i
@@ -134,25 +123,19 @@ array-μ-loop s at depth keys₀ spare₀ i₀ sum₀ keys spare i sum = length 
 -- a need or a place of `array`, at the measure t
 abbrev In-array : ℕ → (array-lts.Claims → In 3 array-kinds.ps → Out 3 array-kinds.ps array-kinds.r
     → array-lts.InvT-loop → array-lts.MeasureT-loop → Type 0) → Type 0
-In-array t F = F (array-calls t) (array-at t) array.Post array-Inv-loop array-μ-loop
+In-array t F = F (array-calls t) (at-measure array-kinds.ps μ-array array.Pre t) array.Post array-Inv-loop array-μ-loop
 
 array-skip-spaces-requires : (t : ℕ) → In-array t array-lts.Need-skip-spaces-requires
 array-skip-spaces-requires t c κs = c .before .before .before .pre .1 .within
 
-array-stands-requires : (t : ℕ) → In-array t array-lts.Need-stands-requires
-array-stands-requires t c κs = search needs
-
 array-add-plain : (t : ℕ) → In-array t array-lts.Need-add-plain
 array-add-plain t c = omega (arith, c .before .stands .ensures .0 (c .if1 .taken) .0)
-
-array-plain-requires : (t : ℕ) → In-array t array-lts.Need-plain-requires
-array-plain-requires t c κs = search needs
 
 array-returns : (t : ℕ) → In-array t array-lts.Need-returns
 array-returns t c =
     let a = c .before .before .before .before .before .before .before .args in
     let h = c .before .before .stands .ensures .0 (c .before .if1 .taken) in
-    subst (Scans (now (a .s)) (readArray (a .depth) (drop (a .at) (now (a .s))))) (sym (c .plain .ensures))
+    subst (ScansValue (now (a .s)) (readArray (a .depth) (drop (a .at) (now (a .s))))) (sym (c .plain .ensures))
     (arrays.empty (now (a .s)) (a .at) (a .depth) _ (c .before .before .before .skip-spaces .ensures) (h .0) (h .1))
 
 array-loop-holds : (t : ℕ) → In-array t array-lts.Need-loop-holds
@@ -183,12 +166,6 @@ array-value-requires t c κs =
         sorting = omega (arith, p .1, p .2, b .1 .sorting);
       },
     )
-
-array-enum-known-f : (t : ℕ) → In-array t array-lts.Need-enum-known-f
-array-enum-known-f t c = search needs
-
-array-enum-known-e : (t : ℕ) → In-array t array-lts.Need-enum-known-e
-array-enum-known-e t c = search needs
 
 -- both arrays of keys are as long as they were
 array-kept : (t : ℕ) (v : In-array t array-lts.After-value) → let a = array-entry t (value-loop t v) .args in
@@ -226,15 +203,6 @@ array-added-requires t c κs =
 array-after-item-requires : (t : ℕ) → In-array t array-lts.Need-after-item-requires
 array-after-item-requires t c κs = element t (c .before .before) .within
 
-array-enum-known-end : (t : ℕ) → In-array t array-lts.Need-enum-known-end
-array-enum-known-end t c = search needs
-
-array-same-length-3 : (t : ℕ) → In-array t array-lts.Need-same-length-3
-array-same-length-3 t c = array-kept t (c .before .before .before .before .before .before .before .before .before .before .before .before .before) .0
-
-array-same-length-4 : (t : ℕ) → In-array t array-lts.Need-same-length-4
-array-same-length-4 t c = array-kept t (c .before .before .before .before .before .before .before .before .before .before .before .before .before) .1
-
 array-returns-3 : (t : ℕ) → In-array t array-lts.Need-returns-3
 array-returns-3 t c =
     let k = c .before .before .before .before .before .before in
@@ -242,11 +210,8 @@ array-returns-3 t c =
     let a = array-entry t l .args in
     let x = readArray (a .depth) (drop (a .at) (now (a .s))) in
     let e = c .before .before .before .before .added .ensures in
-    subst (λ (y : Summary). Scans (now (a .s)) x (Value (record { end = c .before .end .given .0 .0; count = 0; sum = y }))) (sym e)
+    subst (λ (y : Summary). ScansValue (now (a .s)) x (Value (record { end = c .before .end .given .0 .0; count = 0; sum = y }))) (sym e)
     (arrays.ends (l .loop .inv .0) (element t k) _ (rw (c .before .end .given .1) at (c .before .before .before .after-item .ensures)))
-
-array-enum-known-j : (t : ℕ) → In-array t array-lts.Need-enum-known-j
-array-enum-known-j t c = search needs
 
 array-loop-less : (t : ℕ) → In-array t array-lts.Need-loop-less
 array-loop-less t c =
@@ -262,16 +227,7 @@ array-loop-again t c =
     let w = rw (c .before .j .given .1) at (c .before .before .before .after-item .ensures) in
     let p = arrays.goes-on (l .loop .inv .0) (element t k) _ w in
     let m = array-kept t (c .before .before .before .before .before .before .before .before .before .before .before .before .before) in
-    (subst (arrays.Progress (now (a .s)) (a .at) (a .depth) _) (sym (c .before .before .before .before .added .ensures)) p, m .0, m .1)
-
-array-enum-known-e-2 : (t : ℕ) → In-array t array-lts.Need-enum-known-e-2
-array-enum-known-e-2 t c = search needs
-
-array-same-length-5 : (t : ℕ) → In-array t array-lts.Need-same-length-5
-array-same-length-5 t c = array-kept t (c .before .before .before .before .before .before .before .before .before .before .before .before .before) .0
-
-array-same-length-6 : (t : ℕ) → In-array t array-lts.Need-same-length-6
-array-same-length-6 t c = array-kept t (c .before .before .before .before .before .before .before .before .before .before .before .before .before) .1
+    (subst (arrays.ArrayScanned (now (a .s)) (a .at) (a .depth) _) (sym (c .before .before .before .before .added .ensures)) p, m .0, m .1)
 
 array-returns-4 : (t : ℕ) → In-array t array-lts.Need-returns-4
 array-returns-4 t c =
@@ -280,7 +236,7 @@ array-returns-4 t c =
 
 abbrev object-Inv-loop : object-lts.InvT-loop
 object-Inv-loop s at depth keys₀ spare₀ i₀ sum₀ n₀ keys spare i sum n =
-    objects.Progress s at depth i (take n keys) sum × (n ≤ length keys) × (length keys ≡ length keys₀) × (length spare ≡ length spare₀)
+    objects.ObjectScanned s at depth i (take n keys) sum × (n ≤ length keys) × (length keys ≡ length keys₀) × (length spare ≡ length spare₀)
 
 abbrev object-μ-loop : object-lts.MeasureT-loop
 object-μ-loop s at depth keys₀ spare₀ i₀ sum₀ n₀ keys spare i sum n = length s - i
@@ -288,19 +244,13 @@ object-μ-loop s at depth keys₀ spare₀ i₀ sum₀ n₀ keys spare i sum n =
 -- a need or a place of `object`, at the measure t
 abbrev In-object : ℕ → (object-lts.Claims → In 3 object-kinds.ps → Out 3 object-kinds.ps object-kinds.r
     → object-lts.InvT-loop → object-lts.MeasureT-loop → Type 0) → Type 0
-In-object t F = F (object-calls t) (object-at t) object.Post object-Inv-loop object-μ-loop
+In-object t F = F (object-calls t) (at-measure object-kinds.ps μ-object object.Pre t) object.Post object-Inv-loop object-μ-loop
 
 object-skip-spaces-requires : (t : ℕ) → In-object t object-lts.Need-skip-spaces-requires
 object-skip-spaces-requires t c κs = c .before .before .before .pre .1 .0 .within
 
-object-stands-requires : (t : ℕ) → In-object t object-lts.Need-stands-requires
-object-stands-requires t c κs = search needs
-
 object-add-plain : (t : ℕ) → In-object t object-lts.Need-add-plain
 object-add-plain t c = omega (arith, c .before .stands .ensures .0 (c .if1 .taken) .0)
-
-object-plain-requires : (t : ℕ) → In-object t object-lts.Need-plain-requires
-object-plain-requires t c κs = search needs
 
 object-returns : (t : ℕ) → In-object t object-lts.Need-returns
 object-returns t c =
@@ -308,7 +258,7 @@ object-returns t c =
     let h = c .before .before .stands .ensures .0 (c .before .if1 .taken) in
     let x = readObject (a .depth) (drop (a .at) (now (a .s))) in
     let i = c .before .before .before .skip-spaces .ensures in
-    subst (λ (z : Scanned). Scans (now (a .s)) x z × LeavesKeys (now (a .s)) x (now (a .keys)) z) (sym (c .plain .ensures)) (
+    subst (λ (z : Scanned). ScansValue (now (a .s)) x z × LeavesKeys (now (a .s)) x (now (a .keys)) z) (sym (c .plain .ensures)) (
       objects.empty (now (a .s)) (a .at) (a .depth) _ i (h .0) (h .1),
       objects.empty-keys (now (a .s)) (a .at) (a .depth) _ i (h .0) (h .1) (now (a .keys)),
     )
@@ -322,14 +272,8 @@ object-loop-holds t c =
 object-key-requires : (t : ℕ) → In-object t object-lts.Need-key-requires
 object-key-requires t c κs = c .loop .inv .0 .within
 
-object-enum-known-end : (t : ℕ) → In-object t object-lts.Need-enum-known-end
-object-enum-known-end t c = search needs
-
 object-mark-requires : (t : ℕ) → In-object t object-lts.Need-mark-requires
 object-mark-requires t c κs = c .before .before .before .before .loop .inv .0 .within
-
-object-enum-known-e : (t : ℕ) → In-object t object-lts.Need-enum-known-e
-object-enum-known-e t c = search needs
 
 object-same-length : (t : ℕ) → In-object t object-lts.Need-same-length
 object-same-length t c = c .before .before .before .before .loop .inv .2
@@ -403,9 +347,6 @@ object-sub-value t c = simp length-set (omega (arith, free t c))
 object-part-value-start : (t : ℕ) → In-object t object-lts.Need-part-value-start
 object-part-value-start t c = simp length-set (omega (arith, free t c))
 
-object-part-value-end : (t : ℕ) → In-object t object-lts.Need-part-value-end
-object-part-value-end t c = search needs
-
 object-value-requires : (t : ℕ) → In-object t object-lts.Need-value-requires
 object-value-requires t c κs =
     let m = c .before .before in
@@ -421,12 +362,6 @@ object-value-requires t c κs =
         sorting = omega (arith, e, b .1 .0 .sorting, l .loop .inv .2, l .loop .inv .3);
       },
     )
-
-object-enum-known-f : (t : ℕ) → In-object t object-lts.Need-enum-known-f
-object-enum-known-f t c = search needs
-
-object-enum-known-e-2 : (t : ℕ) → In-object t object-lts.Need-enum-known-e-2
-object-enum-known-e-2 t c = search needs
 
 -- the array of keys once the member's value was read
 abbrev keys-after : (t : ℕ) → In-object t object-lts.After-value → List ℕ
@@ -496,9 +431,6 @@ object-added-requires t c κs =
 object-after-item-requires : (t : ℕ) → In-object t object-lts.Need-after-item-requires
 object-after-item-requires t c κs = part t (c .before .before) .within
 
-object-enum-known-end-2 : (t : ℕ) → In-object t object-lts.Need-enum-known-end-2
-object-enum-known-end-2 t c = search needs
-
 object-slice-relend-prefix-closed : (t : ℕ) → In-object t object-lts.Need-slice-relend-prefix-closed
 object-slice-relend-prefix-closed t c =
     let v = c .before .before .before .before .before .before .before .before .before .before .before .before .before in
@@ -548,9 +480,6 @@ object-returns-4 t c =
           (objects.ends-keys p (name t m) (part t k) _ w),
     )
 
-object-enum-known-j : (t : ℕ) → In-object t object-lts.Need-enum-known-j
-object-enum-known-j t c = search needs
-
 object-loop-less : (t : ℕ) → In-object t object-lts.Need-loop-less
 object-loop-less t c =
     let k = c .before .before .before .before .before .before in
@@ -567,21 +496,12 @@ object-loop-again t c =
     let a = object-entry t l .args in
     let w = rw (c .before .j .given .1) at (c .before .before .before .after-item .ensures) in
     let sum = c .before .before .before .before .added .ensures ∙ ap (plus (l .loop .sum)) (c .before .before .before .before .before .member .ensures) in (
-      subst₂ (objects.Progress (now (a .s)) (a .at) (a .depth) _) (sym (keys-stored t v)) (sym sum)
+      subst₂ (objects.ObjectScanned (now (a .s)) (a .at) (a .depth) _) (sym (keys-stored t v)) (sym sum)
           (objects.goes-on (l .loop .inv .0) (name t m) (part t k) _ w),
       omega (arith, free t m, keys-kept t v),
       object-kept t v .0,
       object-kept t v .1,
     )
-
-object-enum-known-e-3 : (t : ℕ) → In-object t object-lts.Need-enum-known-e-3
-object-enum-known-e-3 t c = search needs
-
-object-same-length-7 : (t : ℕ) → In-object t object-lts.Need-same-length-7
-object-same-length-7 t c = object-kept t (c .before .before .before .before .before .before .before .before .before .before .before .before .before) .0
-
-object-same-length-8 : (t : ℕ) → In-object t object-lts.Need-same-length-8
-object-same-length-8 t c = object-kept t (c .before .before .before .before .before .before .before .before .before .before .before .before .before) .1
 
 object-returns-5 : (t : ℕ) → In-object t object-lts.Need-returns-5
 object-returns-5 t c =
@@ -592,7 +512,7 @@ object-returns-5 t c =
 
 -- a need or a place of `value`, at the measure t
 abbrev In-value : ℕ → (value-lts.Claims → In 3 value-kinds.ps → Out 3 value-kinds.ps value-kinds.r → Type 0) → Type 0
-In-value t F = F (value-calls t) (value-at t) value.Post
+In-value t F = F (value-calls t) (at-measure value-kinds.ps μ-value value.Pre t) value.Post
 
 value-shared-slice-read-b : (t : ℕ) → In-value t value-lts.Need-shared-slice-read-b
 value-shared-slice-read-b t c = c .before .before .if1 .taken
@@ -665,100 +585,28 @@ value-returns-3 t c =
     (c .before .if1 .came)
 
 pub +array+object+value-spec : {M : Type 1} → statement M
-+array+object+value-spec = close μ-array μ-object μ-value (λ t. array-lts.spec (array-calls t)
-    (array-at t)
-    array.Post
-    array-Inv-loop
-    array-μ-loop
-    (array-skip-spaces-requires t)
-    (array-stands-requires t)
-    (array-add-plain t)
-    (array-plain-requires t)
-    (array-returns t)
-    (array-loop-holds t)
-    (array-value-requires t)
-    (array-enum-known-f t)
-    (array-enum-known-e t)
-    (array-same-length t)
-    (array-same-length-2 t)
-    (array-returns-2 t)
-    (array-added-requires t)
-    (array-after-item-requires t)
-    (array-enum-known-end t)
-    (array-same-length-3 t)
-    (array-same-length-4 t)
-    (array-returns-3 t)
-    (array-enum-known-j t)
-    (array-loop-less t)
-    (array-loop-again t)
-    (array-enum-known-e-2 t)
-    (array-same-length-5 t)
-    (array-same-length-6 t)
-    (array-returns-4 t))
-    (λ t. object-lts.spec (object-calls t)
-    (object-at t)
-    object.Post
-    object-Inv-loop
-    object-μ-loop
-    (object-skip-spaces-requires t)
-    (object-stands-requires t)
-    (object-add-plain t)
-    (object-plain-requires t)
-    (object-returns t)
-    (object-loop-holds t)
-    (object-key-requires t)
-    (object-enum-known-end t)
-    (object-mark-requires t)
-    (object-enum-known-e t)
-    (object-same-length t)
-    (object-same-length-2 t)
-    (object-returns-2 t)
-    (object-cast-keys t)
-    (object-mul-keys t)
-    (object-slice-write-keys t)
-    (object-add-n t)
-    (object-mul-value t)
-    (object-sub-value t)
-    (object-part-value-start t)
-    (object-part-value-end t)
-    (object-value-requires t)
-    (object-enum-known-f t)
-    (object-enum-known-e-2 t)
-    (object-same-length-3 t)
-    (object-same-length-4 t)
-    (object-returns-3 t)
-    (object-member-requires t)
-    (object-added-requires t)
-    (object-after-item-requires t)
-    (object-enum-known-end-2 t)
-    (object-slice-relend-prefix-closed t)
-    (object-slice-aggregate-closed t)
-    (object-closed-requires t)
-    (object-same-length-5 t)
-    (object-same-length-6 t)
-    (object-returns-4 t)
-    (object-enum-known-j t)
-    (object-loop-less t)
-    (object-loop-again t)
-    (object-enum-known-e-3 t)
-    (object-same-length-7 t)
-    (object-same-length-8 t)
-    (object-returns-5 t))
-    λ t. value-lts.spec (value-calls t)
-    (value-at t)
-    value.Post
-    (value-shared-slice-read-b t)
-    (value-add-array t)
-    (value-sub-array t)
-    (value-array-requires t)
-    (value-same-length t)
-    (value-same-length-2 t)
-    (value-returns t)
-    (value-add-object t)
-    (value-sub-object t)
-    (value-object-requires t)
-    (value-same-length-3 t)
-    (value-same-length-4 t)
-    (value-returns-2 t)
-    (value-scalar-requires t)
-    (value-returns-3 t)
++array+object+value-spec =
+    close μ-array μ-object μ-value (λ t. array-lts.spec (array-calls t) (at-measure array-kinds.ps μ-array array.Pre t) array.Post array-Inv-loop
+    array-μ-loop (array-skip-spaces-requires t) (λ c κs. search needs) (array-add-plain t) (λ c κs. search needs) (array-returns t)
+    (array-loop-holds t) (array-value-requires t) (λ c. search needs) (λ c. search needs) (array-same-length t) (array-same-length-2 t)
+    (array-returns-2 t) (array-added-requires t) (array-after-item-requires t) (λ c. search needs)
+    (λ c. array-kept t (c .before .before .before .before .before .before .before .before .before .before .before .before .before) .0)
+    (λ c. array-kept t (c .before .before .before .before .before .before .before .before .before .before .before .before .before) .1)
+    (array-returns-3 t) (λ c. search needs) (array-loop-less t) (array-loop-again t) (λ c. search needs)
+    (λ c. array-kept t (c .before .before .before .before .before .before .before .before .before .before .before .before .before) .0)
+    (λ c. array-kept t (c .before .before .before .before .before .before .before .before .before .before .before .before .before) .1)
+    (array-returns-4 t)) (λ t. object-lts.spec (object-calls t) (at-measure object-kinds.ps μ-object object.Pre t) object.Post object-Inv-loop
+    object-μ-loop (object-skip-spaces-requires t) (λ c κs. search needs) (object-add-plain t) (λ c κs. search needs) (object-returns t)
+    (object-loop-holds t) (object-key-requires t) (λ c. search needs) (object-mark-requires t) (λ c. search needs) (object-same-length t)
+    (object-same-length-2 t) (object-returns-2 t) (object-cast-keys t) (object-mul-keys t) (object-slice-write-keys t) (object-add-n t)
+    (object-mul-value t) (object-sub-value t) (object-part-value-start t) (λ c. search needs) (object-value-requires t) (λ c. search needs)
+    (λ c. search needs) (object-same-length-3 t) (object-same-length-4 t) (object-returns-3 t) (object-member-requires t) (object-added-requires t)
+    (object-after-item-requires t) (λ c. search needs) (object-slice-relend-prefix-closed t) (object-slice-aggregate-closed t)
+    (object-closed-requires t) (object-same-length-5 t) (object-same-length-6 t) (object-returns-4 t) (λ c. search needs) (object-loop-less t)
+    (object-loop-again t) (λ c. search needs)
+    (λ c. object-kept t (c .before .before .before .before .before .before .before .before .before .before .before .before .before) .0)
+    (λ c. object-kept t (c .before .before .before .before .before .before .before .before .before .before .before .before .before) .1)
+    (object-returns-5 t)) λ t. value-lts.spec (value-calls t) (at-measure value-kinds.ps μ-value value.Pre t) value.Post (value-shared-slice-read-b t)
+    (value-add-array t) (value-sub-array t) (value-array-requires t) (value-same-length t) (value-same-length-2 t) (value-returns t)
+    (value-add-object t) (value-sub-object t) (value-object-requires t) (value-same-length-3 t) (value-same-length-4 t) (value-returns-2 t)
+    (value-scalar-requires t) (value-returns-3 t)

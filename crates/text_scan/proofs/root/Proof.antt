@@ -7,12 +7,6 @@ use Rattle.text_scan.proofs.Keys.{object-keys, no-object}
 use Rattle.text_scan.proofs.root.Statement.{statement}
 use Rattle.text_scan.proofs.root.Tie as tie
 
-stands-requires : tie.Need-stands-requires
-stands-requires c κs = search needs
-
-add-object : tie.Need-add-object
-add-object c = search needs
-
 object-requires : tie.Need-object-requires
 object-requires c κs =
     let b = c .before .before .before .before .before .before .before .pre in
@@ -20,12 +14,6 @@ object-requires c κs =
       record { within = omega arith; short = b .short; enough = omega (arith, b .enough); sorting = b .sorting },
       omega (arith, b .enough),
     )
-
-same-length : tie.Need-same-length
-same-length c = search needs
-
-same-length-2 : tie.Need-same-length-2
-same-length-2 c = search needs
 
 returns : tie.Need-returns
 returns c =
@@ -36,15 +24,6 @@ returns c =
       is-object (now (a .s)) (a .at) 8 (o .result) (h .0) (omega arith) (h .1) (o .ensures .0),
       object-keys (now (a .s)) (a .at) 8 _ (o .result) (h .0) (omega arith) (h .1) (o .ensures .1),
     )
-
-value-requires : tie.Need-value-requires
-value-requires c κs = search needs
-
-same-length-3 : tie.Need-same-length-3
-same-length-3 c = search needs
-
-same-length-4 : tie.Need-same-length-4
-same-length-4 c = search needs
 
 returns-2 : tie.Need-returns-2
 returns-2 c =
@@ -58,15 +37,5 @@ returns-2 c =
 
 pub root-spec : {M : Type 1} → statement M
 root-spec =
-    tie.close
-    (tie.spec
-    stands-requires
-    add-object
-    object-requires
-    same-length
-    same-length-2
-    returns
-    value-requires
-    same-length-3
-    same-length-4
-    returns-2)
+    tie.close (tie.spec (λ c κs. search needs) (λ c. search needs) object-requires (λ c. search needs) (λ c. search needs) returns
+    (λ c κs. search needs) (λ c. search needs) (λ c. search needs) returns-2)

@@ -4,31 +4,16 @@ use native.Mathlib.Omega.{arith}
 use lib.ListN.{drop}
 use denote.Ref.{now}
 use Rattle.text_json.specs.Read.{read}
-use Rattle.text_scan.proofs.Progress.{IsValue, scans-value}
+use Rattle.text_scan.proofs.Results.{IsValue, scans-value}
 use Rattle.text_scan.proofs.Values.{text-stuck, text-junk, text-whole}
 use Rattle.text_scan.proofs.Keys.{text-keys}
 use Rattle.text_scan.proofs.text.Statement.{statement}
 use Rattle.text_scan.proofs.text.Tie as tie
 
-skip-spaces-requires : tie.Need-skip-spaces-requires
-skip-spaces-requires c κs = search needs
-
 root-requires : tie.Need-root-requires
 root-requires c κs =
     let p = c .before .before .before .before .before .before .pre in
     record { within = c .before .before .skip-spaces .ensures .1 .0; short = p .short; enough = omega (arith, p .enough); sorting = p .sorting }
-
-enum-known-f : tie.Need-enum-known-f
-enum-known-f c = search needs
-
-enum-known-e : tie.Need-enum-known-e
-enum-known-e c = search needs
-
-same-length : tie.Need-same-length
-same-length c = search needs
-
-same-length-2 : tie.Need-same-length-2
-same-length-2 c = search needs
 
 returns : tie.Need-returns
 returns c = (
@@ -53,24 +38,12 @@ val c =
 skip-spaces-requires-2 : tie.Need-skip-spaces-requires-2
 skip-spaces-requires-2 c κs = val c .within
 
-same-length-3 : tie.Need-same-length-3
-same-length-3 c = search needs
-
-same-length-4 : tie.Need-same-length-4
-same-length-4 c = search needs
-
 returns-2 : tie.Need-returns-2
 returns-2 c = (
   text-junk _ _ (c .before .before .before .before .before .before .before .before .before .before .before .before .skip-spaces .ensures .1) _
       (val (c .before .before)) _ (c .before .skip-spaces2 .ensures .1) (c .if1 .taken),
   tt,
 )
-
-same-length-5 : tie.Need-same-length-5
-same-length-5 c = search needs
-
-same-length-6 : tie.Need-same-length-6
-same-length-6 c = search needs
 
 returns-3 : tie.Need-returns-3
 returns-3 c =
@@ -82,19 +55,5 @@ returns-3 c =
 
 pub text-spec : {M : Type 1} → statement M
 text-spec =
-    tie.close
-    (tie.spec
-    skip-spaces-requires
-    root-requires
-    enum-known-f
-    enum-known-e
-    same-length
-    same-length-2
-    returns
-    skip-spaces-requires-2
-    same-length-3
-    same-length-4
-    returns-2
-    same-length-5
-    same-length-6
-    returns-3)
+    tie.close (tie.spec (λ c κs. search needs) root-requires (λ c. search needs) (λ c. search needs) (λ c. search needs) (λ c. search needs) returns
+    skip-spaces-requires-2 (λ c. search needs) (λ c. search needs) returns-2 (λ c. search needs) (λ c. search needs) returns-3)

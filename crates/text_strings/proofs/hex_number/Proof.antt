@@ -10,49 +10,16 @@ use Rattle.text_strings.proofs.hex_number.Lts as lts
 use Rattle.text_json.proofs.bytes.hex_value.Reads as hex-value-reads
 
 -- src/lib.rt:14:36
-shared-slice-read-hex-value : tie.Need-shared-slice-read-hex-value
-shared-slice-read-hex-value c = search needs
-
 -- src/lib.rt:14:9
-hex-value-requires : tie.Need-hex-value-requires
-hex-value-requires c κs = search needs
-
 -- src/lib.rt:15:38
-add-hex-value : tie.Need-add-hex-value
-add-hex-value c = search needs
-
 -- src/lib.rt:15:36
-shared-slice-read-hex-value-2 : tie.Need-shared-slice-read-hex-value-2
-shared-slice-read-hex-value-2 c = search needs
-
 -- src/lib.rt:15:9
-hex-value-requires-2 : tie.Need-hex-value-requires-2
-hex-value-requires-2 c κs = search needs
-
 -- src/lib.rt:16:38
-add-hex-value-2 : tie.Need-add-hex-value-2
-add-hex-value-2 c = search needs
-
 -- src/lib.rt:16:36
-shared-slice-read-hex-value-3 : tie.Need-shared-slice-read-hex-value-3
-shared-slice-read-hex-value-3 c = search needs
-
 -- src/lib.rt:16:9
-hex-value-requires-3 : tie.Need-hex-value-requires-3
-hex-value-requires-3 c κs = search needs
-
 -- src/lib.rt:17:38
-add-hex-value-3 : tie.Need-add-hex-value-3
-add-hex-value-3 c = search needs
-
 -- src/lib.rt:17:36
-shared-slice-read-hex-value-4 : tie.Need-shared-slice-read-hex-value-4
-shared-slice-read-hex-value-4 c = search needs
-
 -- src/lib.rt:17:9
-hex-value-requires-4 : tie.Need-hex-value-requires-4
-hex-value-requires-4 c κs = search needs
-
 -- each digit's number is below 16
 first-small : (c : tie.After-hex-value4) → c .before .before .before .before .before .before .hex-value .result < 16
 first-small c = hex-small _ _ (c .before .before .before .before .before .before .before .before .before .pre .first)
@@ -100,23 +67,6 @@ returns c = (
 
 pub hex-number-spec : {M : Type 1} → statement M
 hex-number-spec =
-    tie.close
-    (tie.spec
-    shared-slice-read-hex-value
-    hex-value-requires
-    add-hex-value
-    shared-slice-read-hex-value-2
-    hex-value-requires-2
-    add-hex-value-2
-    shared-slice-read-hex-value-3
-    hex-value-requires-3
-    add-hex-value-3
-    shared-slice-read-hex-value-4
-    hex-value-requires-4
-    mul-result
-    add-result
-    mul-result-2
-    add-result-2
-    mul-result-3
-    add-result-3
-    returns)
+    tie.close (tie.spec (λ c. search needs) (λ c κs. search needs) (λ c. search needs) (λ c. search needs) (λ c κs. search needs) (λ c. search needs)
+    (λ c. search needs) (λ c κs. search needs) (λ c. search needs) (λ c. search needs) (λ c κs. search needs) mul-result add-result mul-result-2
+    add-result-2 mul-result-3 add-result-3 returns)

@@ -5,7 +5,7 @@ use mathlib.Core.Path.{sym, subst}
 use mathlib.Core.Logic.{⊎-elim}
 use native.Mathlib.Omega.{arith}
 use Rattle.text_strings.specs.InString.{Escapes}
-use Rattle.text_strings.proofs.Escapes.{hex-at, next-char, letter-within, from-letter, short-escapes, single-escapes, not-high, below-high, above-high}
+use Rattle.text_strings.proofs.Escapes.{hex-at, next-char, letter-within, from-letter, short-escapes, single-escapes, not-high, high-range}
 use Rattle.text_strings.proofs.read_escape.Statement.{statement}
 use Rattle.text_strings.proofs.read_escape.Tie as tie
 use Rattle.text_strings.proofs.read_escape.Reads as reads
@@ -20,14 +20,8 @@ add-b c = omega (arith, letter-within _ _ (c .before .pre))
 shared-slice-read-b : tie.Need-shared-slice-read-b
 shared-slice-read-b c = letter-within _ _ (c .before .before .pre)
 
-short-value-requires : tie.Need-short-value-requires
-short-value-requires c κs = search needs
-
 add-t10 : tie.Need-add-t10
 add-t10 c = omega (arith, letter-within _ _ (c .before .before .before .before .pre))
-
-cast-t11 : tie.Need-cast-t11
-cast-t11 c = search needs
 
 returns : tie.Need-returns
 returns c =
@@ -52,9 +46,6 @@ read-pair-requires c κs =
       high = c .if3 .taken;
     }
 
-returns-2 : tie.Need-returns-2
-returns-2 c = search needs
-
 add-t6 : tie.Need-add-t6
 add-t6 c = omega (arith, next-char _ _ (c .before .before .before .before .before .pre) (c .before .before .if1 .left))
 
@@ -63,21 +54,9 @@ returns-3 c =
     let b = c .before .before .before .before .before in
     single-escapes _ _ (b .pre) (c .before .before .if1 .left) _ (from-letter (now (b .args .s)) (b .args .i) _ (c .before .hex-number .ensures .0))
     (c .before .hex-number .ensures .1)
-    (λ ds r d. not-high _ ds (⊎-elim (λ w. above-high _ (w .1 .left)) (λ w. below-high _ (w .left)) (c .if2 .came)))
+    (λ ds r d. not-high _ ds (⊎-elim (λ w. high-range .above _ (w .1 .left)) (λ w. high-range .below _ (w .left)) (c .if2 .came)))
 
 pub read-escape-spec : {M : Type 1} → statement M
 read-escape-spec =
-    tie.close
-    (tie.spec
-    add-b
-    shared-slice-read-b
-    short-value-requires
-    add-t10
-    cast-t11
-    returns
-    add-hex-number
-    hex-number-requires
-    read-pair-requires
-    returns-2
-    add-t6
-    returns-3)
+    tie.close (tie.spec add-b shared-slice-read-b (λ c κs. search needs) add-t10 (λ c. search needs) returns add-hex-number hex-number-requires
+    read-pair-requires (λ c. search needs) add-t6 returns-3)

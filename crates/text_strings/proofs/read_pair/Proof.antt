@@ -4,7 +4,7 @@ use denote.Ref.{now}
 use native.Mathlib.Omega.{arith}
 use Rattle.text_strings.specs.InString.{HexAt}
 use Rattle.text_strings.proofs.Escapes.{hex-at, next-char, letter-within, next-escape, from-letter, pair-escapes, alone-unit, alone-short, alone-plain}
-use Rattle.text_strings.proofs.Escapes.{above-low, below-low}
+use Rattle.text_strings.proofs.Escapes.{low-range}
 use Rattle.text_strings.proofs.read_pair.Statement.{statement}
 use Rattle.text_strings.proofs.read_pair.Tie as tie
 use Rattle.text_strings.proofs.read_pair.Reads as reads
@@ -38,18 +38,6 @@ hex-number-requires c κs = digits c
 add-t16 : tie.Need-add-t16
 add-t16 c = omega (arith, digits (c .before .before .before) .within)
 
-sub-t17 : tie.Need-sub-t17
-sub-t17 c = search needs
-
-mul-t18 : tie.Need-mul-t18
-mul-t18 c = search needs
-
-add-t19 : tie.Need-add-t19
-add-t19 c = search needs
-
-add-t21 : tie.Need-add-t21
-add-t21 c = search needs
-
 returns : tie.Need-returns
 returns c = let p = c .before .before .before .before .before .before .before .before .pre in
     pair-escapes _ _ _ p _ (from-letter (now (c .before .before .before .before .before .before .before .before .args .s))
@@ -59,12 +47,13 @@ returns c = let p = c .before .before .before .before .before .before .before .b
 returns-2 : tie.Need-returns-2
 returns-2 c = alone-unit _ _ _ (c .before .before .before .before .before .before .before .before .pre) _
     (from-letter (now (c .before .before .before .before .before .before .before .before .args .s))
-    (c .before .before .before .before .before .before .before .before .args .i + 6) _ (c .before .before .hex-number .ensures .0)) (above-low _ (c .if4 .left))
+    (c .before .before .before .before .before .before .before .before .args .i + 6) _ (c .before .before .hex-number .ensures .0))
+    (low-range .above _ (c .if4 .left))
 
 returns-3 : tie.Need-returns-3
 returns-3 c = alone-unit _ _ _ (c .before .before .before .before .before .before .before .pre) _
     (from-letter (now (c .before .before .before .before .before .before .before .args .s))
-    (c .before .before .before .before .before .before .before .args .i + 6) _ (c .before .hex-number .ensures .0)) (below-low _ (c .if3 .left))
+    (c .before .before .before .before .before .before .before .args .i + 6) _ (c .before .hex-number .ensures .0)) (low-range .below _ (c .if3 .left))
 
 returns-4 : tie.Need-returns-4
 returns-4 c = alone-short _ _ _ (c .before .before .before .before .before .pre) (c .if2 .left)
@@ -74,21 +63,5 @@ returns-5 c = alone-plain _ _ _ (c .before .before .before .pre) (c .if1 .left)
 
 pub read-pair-spec : {M : Type 1} → statement M
 read-pair-spec =
-    tie.close
-    (tie.spec
-    add-j
-    shared-slice-read-if1
-    add-if2
-    shared-slice-read-if2
-    add-hex-number
-    hex-number-requires
-    add-t16
-    sub-t17
-    mul-t18
-    add-t19
-    add-t21
-    returns
-    returns-2
-    returns-3
-    returns-4
-    returns-5)
+    tie.close (tie.spec add-j shared-slice-read-if1 add-if2 shared-slice-read-if2 add-hex-number hex-number-requires add-t16 (λ c. search needs)
+    (λ c. search needs) (λ c. search needs) (λ c. search needs) returns returns-2 returns-3 returns-4 returns-5)

@@ -8,21 +8,6 @@ use Rattle.text_tokens.proofs.added.Reads as reads
 use Rattle.text_tokens.proofs.added.Lts as lts
 use Rattle.text_tokens.proofs.larger.Reads as larger-reads
 
-larger-requires : tie.Need-larger-requires
-larger-requires c κs = search needs
-
-larger-requires-2 : tie.Need-larger-requires-2
-larger-requires-2 c κs = search needs
-
-larger-requires-3 : tie.Need-larger-requires-3
-larger-requires-3 c κs = search needs
-
-add-t6 : tie.Need-add-t6
-add-t6 c = search needs
-
-add-t7 : tie.Need-add-t7
-add-t7 c = search needs
-
 returns : tie.Need-returns
 unfolding plus
 returns c =
@@ -38,4 +23,4 @@ returns c =
 
 pub added-spec : {M : Type 1} → statement M
 added-spec =
-    tie.close (tie.spec larger-requires larger-requires-2 larger-requires-3 add-t6 add-t7 returns)
+    tie.close (tie.spec (λ c κs. search needs) (λ c κs. search needs) (λ c κs. search needs) (λ c. search needs) (λ c. search needs) returns)

@@ -11,18 +11,6 @@ use Rattle.text_tokens.proofs.closed.Lts as lts
 use Rattle.text_keys.proofs.order_keys.Reads as order-keys-reads
 use Rattle.text_tokens.proofs.larger.Reads as larger-reads
 
-order-keys-requires : tie.Need-order-keys-requires
-order-keys-requires c κs = search needs
-
-larger-requires : tie.Need-larger-requires
-larger-requires c κs = search needs
-
-same-length : tie.Need-same-length
-same-length c = search needs
-
-same-length-2 : tie.Need-same-length-2
-same-length-2 c = search needs
-
 returns : tie.Need-returns
 unfolding closedSummary
 returns c =
@@ -46,4 +34,4 @@ returns c =
 
 pub closed-spec : {M : Type 1} → statement M
 closed-spec =
-    tie.close (tie.spec order-keys-requires larger-requires same-length same-length-2 returns)
+    tie.close (tie.spec (λ c κs. search needs) (λ c κs. search needs) (λ c. search needs) (λ c. search needs) returns)

@@ -7,7 +7,7 @@ use denote.Ref.{now}
 use Rattle.text_json.specs.Read.{readString, readWord}
 use Rattle.text_json.specs.Content.{refusedString}
 use Rattle.text_json.specs.Size.{stringSize, Within}
-use Rattle.text_json.specs.Scan.{Steps, Scans as TokenScans}
+use Rattle.text_json.specs.Scan.{Steps, ScansToken as TokenScans}
 use Rattle.text_json.specs.declared.Step.{Step}
 use Rattle.text_json.specs.declared.Step.the-variants.{End}
 use Rattle.text_json.proofs.Places.{token-inside}
@@ -47,31 +47,10 @@ colon : (c : tie.After-known-told4) → (c .before .before .before .before .befo
     (now (c .before .before .before .before .before .before .before .before .before .before .before .args .s)))) (End (c .before .e3 .given .0 .0))
 colon c = rw (c .before .e3 .given .1) at (c .before .before .before .word .ensures)
 
-string-requires : tie.Need-string-requires
-string-requires c κs = search needs
-
-enum-known-e : tie.Need-enum-known-e
-enum-known-e c = search needs
-
-enum-known-end : tie.Need-enum-known-end
-enum-known-end c = search needs
-
 skip-spaces-requires : tie.Need-skip-spaces-requires
 skip-spaces-requires c κs =
     token-inside refusedString stringSize (now (c .before .before .before .before .before .args .s))
     (readString (drop (c .before .before .before .before .before .args .at) (now (c .before .before .before .before .before .args .s)))) _ _ _ (token c .1)
-
-slice-aggregate-word : tie.Need-slice-aggregate-word
-slice-aggregate-word c = search needs
-
-word-requires : tie.Need-word-requires
-word-requires c κs = search needs
-
-enum-known-e-2 : tie.Need-enum-known-e-2
-enum-known-e-2 c = search needs
-
-enum-known-e-3 : tie.Need-enum-known-e-3
-enum-known-e-3 c = search needs
 
 skip-spaces-requires-2 : tie.Need-skip-spaces-requires-2
 skip-spaces-requires-2 c κs = steps-inside (now (c .before .before .before .before .before .before .before .before .before .before .before .args .s))
@@ -104,17 +83,5 @@ returns-3 c =
 
 pub key-spec : {M : Type 1} → statement M
 key-spec =
-    tie.close
-    (tie.spec
-    string-requires
-    enum-known-e
-    enum-known-end
-    skip-spaces-requires
-    slice-aggregate-word
-    word-requires
-    enum-known-e-2
-    enum-known-e-3
-    skip-spaces-requires-2
-    returns
-    returns-2
-    returns-3)
+    tie.close (tie.spec (λ c κs. search needs) (λ c. search needs) (λ c. search needs) skip-spaces-requires (λ c. search needs) (λ c κs. search needs)
+    (λ c. search needs) (λ c. search needs) skip-spaces-requires-2 returns returns-2 returns-3)

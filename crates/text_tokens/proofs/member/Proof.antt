@@ -7,15 +7,6 @@ use Rattle.text_tokens.proofs.member.Reads as reads
 use Rattle.text_tokens.proofs.member.Lts as lts
 use Rattle.text_tokens.proofs.larger.Reads as larger-reads
 
-larger-requires : tie.Need-larger-requires
-larger-requires c κs = search needs
-
-add-t4 : tie.Need-add-t4
-add-t4 c = search needs
-
-add-t5 : tie.Need-add-t5
-add-t5 c = search needs
-
 returns : tie.Need-returns
 unfolding memberSummary
 returns c =
@@ -29,4 +20,5 @@ returns c =
     }
 
 pub member-spec : {M : Type 1} → statement M
-member-spec = tie.close (tie.spec larger-requires add-t4 add-t5 returns)
+member-spec =
+    tie.close (tie.spec (λ c κs. search needs) (λ c. search needs) (λ c. search needs) returns)

@@ -7,9 +7,6 @@ use Rattle.text_tokens.proofs.stands.Tie as tie
 use Rattle.text_tokens.proofs.stands.Reads as reads
 use Rattle.text_tokens.proofs.stands.Lts as lts
 
-shared-slice-read-if2 : tie.Need-shared-slice-read-if2
-shared-slice-read-if2 c = search needs
-
 returns : tie.Need-returns
 returns c = (λ _. (c .before .before .if1 .taken, c .if2 .taken), λ e. false-true (sym e))
 
@@ -20,4 +17,5 @@ returns-3 : tie.Need-returns-3
 returns-3 c = (λ e. false-true e, λ _ h. absurd (omega (arith, h, c .if1 .left)))
 
 pub stands-spec : {M : Type 1} → statement M
-stands-spec = tie.close (tie.spec shared-slice-read-if2 returns returns-2 returns-3)
+stands-spec =
+    tie.close (tie.spec (λ c. search needs) returns returns-2 returns-3)

@@ -10,9 +10,6 @@ use Rattle.text_utf8.proofs.Chars.{byte-meets, byte-misses, end-misses}
 use Rattle.text_utf8.proofs.byte_in.Statement.{statement}
 use Rattle.text_utf8.proofs.byte_in.Tie as tie
 
-shared-slice-read-b : tie.Need-shared-slice-read-b
-shared-slice-read-b c = search needs
-
 returns : tie.Need-returns
 returns c =
     let a = c .before .before .before .before .args in
@@ -34,4 +31,5 @@ returns-4 c =
     sym (end-misses (range (a .low) (a .high)) (now (a .text)) (a .at) (omega arith))
 
 pub byte-in-spec : {M : Type 1} → statement M
-byte-in-spec = tie.close (tie.spec shared-slice-read-b returns returns-2 returns-3 returns-4)
+byte-in-spec =
+    tie.close (tie.spec (λ c. search needs) returns returns-2 returns-3 returns-4)

@@ -21,15 +21,6 @@ loop-holds : tie.Need-loop-holds Inv-loop μ-loop
 unfolding verdict
 loop-holds c = (omega arith, refl)
 
-shared-slice-read-if1 : tie.Need-shared-slice-read-if1 Inv-loop μ-loop
-shared-slice-read-if1 c = omega arith
-
-add-at : tie.Need-add-at Inv-loop μ-loop
-add-at c = omega arith
-
-ascii-run-requires : tie.Need-ascii-run-requires Inv-loop μ-loop
-ascii-run-requires c κs = omega arith
-
 loop-less : tie.Need-loop-less Inv-loop μ-loop
 loop-less c = omega (arith, c .ascii-run .ensures .up)
 
@@ -40,17 +31,11 @@ loop-again c =
     let e = c .ascii-run .ensures in
     (e .fits, sym (ascii-run s (l .at + 1) (c .ascii-run .result) e) ∙ sym (ascii-at s (l .at) (omega arith) (omega arith)) ∙ l .inv .1)
 
-loop-less-2 : tie.Need-loop-less-2 Inv-loop μ-loop
-loop-less-2 c = omega arith
-
 loop-again-2 : tie.Need-loop-again-2 Inv-loop μ-loop
 loop-again-2 c =
     let l = c .before .before .before .before .loop in
     let s = now (c .before .before .before .before .before .before .args .text) in
     (omega arith, sym (ascii-at s (l .at) (omega arith) (omega arith)) ∙ l .inv .1)
-
-char-len-requires : tie.Need-char-len-requires Inv-loop μ-loop
-char-len-requires c κs = omega arith
 
 returns : tie.Need-returns Inv-loop μ-loop
 returns c =
@@ -78,21 +63,5 @@ returns-2 c = sym (end-at (now (c .before .before .before .args .text)) (c .befo
 
 pub check-spec : {M : Type 1} → statement M
 check-spec =
-    tie.close
-    (tie.spec
-    Inv-loop
-    μ-loop
-    loop-holds
-    shared-slice-read-if1
-    add-at
-    ascii-run-requires
-    loop-less
-    loop-again
-    loop-less-2
-    loop-again-2
-    char-len-requires
-    returns
-    add-at-2
-    loop-less-3
-    loop-again-3
-    returns-2)
+    tie.close (tie.spec Inv-loop μ-loop loop-holds (λ c. omega arith) (λ c. omega arith) (λ c κs. omega arith) loop-less loop-again (λ c. omega arith)
+    loop-again-2 (λ c κs. omega arith) returns add-at-2 loop-less-3 loop-again-3 returns-2)

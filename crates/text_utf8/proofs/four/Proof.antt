@@ -14,50 +14,19 @@ use Rattle.text_utf8.specs.Char.{meets}
 use Rattle.text_utf8.proofs.four.Statement.{statement}
 use Rattle.text_utf8.proofs.four.Tie as tie
 
-byte-in-requires : tie.Need-byte-in-requires
-byte-in-requires c κs = search needs
-
-add-byte-in : tie.Need-add-byte-in
-add-byte-in c = search needs
-
-byte-in-requires-2 : tie.Need-byte-in-requires-2
-byte-in-requires-2 c κs = search needs
-
-add-byte-in-2 : tie.Need-add-byte-in-2
-add-byte-in-2 c = search needs
-
-byte-in-requires-3 : tie.Need-byte-in-requires-3
-byte-in-requires-3 c κs = search needs
-
-returns : tie.Need-returns
-returns c =
-    let u = c .before .before in
+-- where the first two bytes are as they have to be, the test is the one of the third
+third : (c : tie.After-byte-in3) → let a = c .before .before .before .before .before .before .args in
+    meets (range (a .low) (a .high) ∷ tail ∷ tail ∷ []) (drop (a .at) (now (a .text))) ≡ c .byte-in3 .result
+third c =
+    let u = c .before in
     let t = u .before .before in
     let a = t .before .before .before .args in
     let s = now (a .text) in
     let two : a .at + 1 + 1 ≡ a .at + 2 = omega arith in
-    sym
-    (ap (λ x. cond x 4 0)
-    (meets-next (range (a .low) (a .high)) (tail ∷ tail ∷ []) s (a .at) _ (t .before .byte-in .ensures) (t .if1 .taken)
+    meets-next (range (a .low) (a .high)) (tail ∷ tail ∷ []) s (a .at) _ (t .before .byte-in .ensures) (t .if1 .taken)
     ∙ meets-next tail (tail ∷ []) s (a .at + 1) _ (u .before .byte-in2 .ensures) (u .if2 .taken)
     ∙ ap (λ i. meets (tail ∷ []) (drop i s)) two
-    ∙ sym (c .before .byte-in3 .ensures)
-    ∙ c .if3 .taken))
-
-returns-2 : tie.Need-returns-2
-returns-2 c =
-    let u = c .before .before in
-    let t = u .before .before in
-    let a = t .before .before .before .args in
-    let s = now (a .text) in
-    let two : a .at + 1 + 1 ≡ a .at + 2 = omega arith in
-    sym
-    (ap (λ x. cond x 4 0)
-    (meets-next (range (a .low) (a .high)) (tail ∷ tail ∷ []) s (a .at) _ (t .before .byte-in .ensures) (t .if1 .taken)
-    ∙ meets-next tail (tail ∷ []) s (a .at + 1) _ (u .before .byte-in2 .ensures) (u .if2 .taken)
-    ∙ ap (λ i. meets (tail ∷ []) (drop i s)) two
-    ∙ sym (c .before .byte-in3 .ensures)
-    ∙ c .if3 .left))
+    ∙ sym (c .byte-in3 .ensures)
 
 returns-3 : tie.Need-returns-3
 returns-3 c =
@@ -78,14 +47,6 @@ returns-4 c =
 
 pub four-spec : {M : Type 1} → statement M
 four-spec =
-    tie.close
-    (tie.spec
-    byte-in-requires
-    add-byte-in
-    byte-in-requires-2
-    add-byte-in-2
-    byte-in-requires-3
-    returns
-    returns-2
-    returns-3
+    tie.close (tie.spec (λ c κs. search needs) (λ c. search needs) (λ c κs. search needs) (λ c. search needs) (λ c κs. search needs)
+    (λ c. sym (ap (λ x. cond x 4 0) (third (c .before) ∙ c .if3 .taken))) (λ c. sym (ap (λ x. cond x 4 0) (third (c .before) ∙ c .if3 .left))) returns-3
     returns-4)

@@ -1,43 +1,24 @@
 -- `text_utf8::three` meets its contract, by what `byte_in` ensures of the two bytes.
 -- Assumes nothing.
 use borrow.Author.Needs.{needs}
-use mathlib.Core.Path.{ap, sym, _∙_}
+use mathlib.Core.Path.{_≡_, ap, sym, _∙_}
 use mathlib.Core.Bool.{cond}
 use mathlib.Core.List.{[], _∷_}
 use denote.Ref.{now}
+use lib.ListN.{drop}
+use Rattle.text_utf8.specs.Char.{meets}
 use Rattle.text_utf8.specs.Utf8.{range, tail}
 use Rattle.text_utf8.proofs.Chars.{meets-next, misses-next}
 use Rattle.text_utf8.proofs.three.Statement.{statement}
 use Rattle.text_utf8.proofs.three.Tie as tie
 
-byte-in-requires : tie.Need-byte-in-requires
-byte-in-requires c κs = search needs
-
-add-byte-in : tie.Need-add-byte-in
-add-byte-in c = search needs
-
-byte-in-requires-2 : tie.Need-byte-in-requires-2
-byte-in-requires-2 c κs = search needs
-
-returns : tie.Need-returns
-returns c =
-    let a = c .before .before .before .before .before .args in
-    let t = c .before .before in
-    sym
-    (ap (λ x. cond x 3 0)
-    (meets-next (range (a .low) (a .high)) (tail ∷ []) (now (a .text)) (a .at) _ (t .before .byte-in .ensures) (t .if1 .taken)
-    ∙ sym (c .before .byte-in2 .ensures)
-    ∙ c .if2 .taken))
-
-returns-2 : tie.Need-returns-2
-returns-2 c =
-    let a = c .before .before .before .before .before .args in
-    let t = c .before .before in
-    sym
-    (ap (λ x. cond x 3 0)
-    (meets-next (range (a .low) (a .high)) (tail ∷ []) (now (a .text)) (a .at) _ (t .before .byte-in .ensures) (t .if1 .taken)
-    ∙ sym (c .before .byte-in2 .ensures)
-    ∙ c .if2 .left))
+-- where the first byte is as it has to be, the test is the one of the second
+second : (c : tie.After-byte-in2) → let a = c .before .before .before .before .args in
+    meets (range (a .low) (a .high) ∷ tail ∷ []) (drop (a .at) (now (a .text))) ≡ c .byte-in2 .result
+second c =
+    let t = c .before in
+    let a = t .before .before .before .args in
+    meets-next (range (a .low) (a .high)) (tail ∷ []) (now (a .text)) (a .at) _ (t .before .byte-in .ensures) (t .if1 .taken) ∙ sym (c .byte-in2 .ensures)
 
 returns-3 : tie.Need-returns-3
 returns-3 c =
@@ -48,5 +29,5 @@ returns-3 c =
 
 pub three-spec : {M : Type 1} → statement M
 three-spec =
-    tie.close
-    (tie.spec byte-in-requires add-byte-in byte-in-requires-2 returns returns-2 returns-3)
+    tie.close (tie.spec (λ c κs. search needs) (λ c. search needs) (λ c κs. search needs)
+    (λ c. sym (ap (λ x. cond x 3 0) (second (c .before) ∙ c .if2 .taken))) (λ c. sym (ap (λ x. cond x 3 0) (second (c .before) ∙ c .if2 .left))) returns-3)

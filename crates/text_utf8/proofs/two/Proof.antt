@@ -6,9 +6,6 @@ use mathlib.Core.Bool.{cond}
 use Rattle.text_utf8.proofs.two.Statement.{statement}
 use Rattle.text_utf8.proofs.two.Tie as tie
 
-byte-in-requires : tie.Need-byte-in-requires
-byte-in-requires c κs = search needs
-
 returns : tie.Need-returns
 returns c = ap (λ x. cond x 2 0) (sym (c .if1 .taken) ∙ c .before .byte-in .ensures)
 
@@ -16,4 +13,5 @@ returns-2 : tie.Need-returns-2
 returns-2 c = ap (λ x. cond x 2 0) (sym (c .if1 .left) ∙ c .before .byte-in .ensures)
 
 pub two-spec : {M : Type 1} → statement M
-two-spec = tie.close (tie.spec byte-in-requires returns returns-2)
+two-spec =
+    tie.close (tie.spec (λ c κs. search needs) returns returns-2)

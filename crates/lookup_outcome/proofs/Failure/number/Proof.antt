@@ -4,15 +4,6 @@ use borrow.Author.Needs.{needs}
 use Rattle.lookup_outcome.proofs.Failure.number.Statement.{statement}
 use Rattle.lookup_outcome.proofs.Failure.number.Tie as tie
 
-enum-told : tie.Need-enum-told
-enum-told c = search needs
-
-enum-told-2 : tie.Need-enum-told-2
-enum-told-2 c = search needs
-
-enum-told-3 : tie.Need-enum-told-3
-enum-told-3 c = search needs
-
 returns : tie.Need-returns
 unfolding failureNumber
 returns c = search needs
@@ -26,4 +17,5 @@ unfolding failureNumber
 returns-3 c = search needs
 
 pub number-spec : {M : Type 1} → statement M
-number-spec = tie.close (tie.spec enum-told enum-told-2 enum-told-3 returns returns-2 returns-3)
+number-spec =
+    tie.close (tie.spec (λ c. search needs) (λ c. search needs) (λ c. search needs) returns returns-2 returns-3)

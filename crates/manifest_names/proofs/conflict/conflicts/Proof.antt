@@ -1,30 +1,17 @@
--- `manifest_names::conflict::conflicts` meets its contract. Assumes nothing.
-use borrow.Author.Needs.{needs}
-use Rattle.manifest_fields.proofs.Founds.{missing-members}
-use Rattle.manifest_names.proofs.Founds.{group-here, its-object, no-conflict}
+-- `manifest_names::conflict::conflicts` meets its contract: each alias is asked about with its key.
+-- Assumes nothing.
+use Rattle.manifest_heads.specs.Contents.{conflict}
+use Rattle.manifest_names.specs.Asked.{passes}
 use Rattle.manifest_names.proofs.conflict.conflicts.Statement.{statement}
 use Rattle.manifest_names.proofs.conflict.conflicts.Tie as tie
 
-enum-told : tie.Need-enum-told
-enum-told c = search needs
-
-enum-known-group : tie.Need-enum-known-group
-enum-known-group c = search needs
-
-conflicts-group-requires : tie.Need-conflicts-group-requires
-conflicts-group-requires c κs =
-    let a = c .before .before .before .before .before .before .before .before in
-    (a .pre .0, a .pre .1, group-here _ _ _ (a .pre .2) _ (c .before .group .given .1))
+any-requires : tie.Need-any-requires
+any-requires c κs = let o = c .before .before .before .before .before .pre in ((o .0 .aliases, o .0 .sorted), o .1, o .2)
 
 returns : tie.Need-returns
-returns c = λ xs o m f. no-conflict xs _ (missing-members _ _ _ o f (c .enum-told .given .1))
-
-returns-2 : tie.Need-returns-2
-returns-2 c =
-    let d = c .before in
-    let a = d .before .before .before .before .before .before .before .before in
-    λ xs o m f. c .conflicts-group .ensures xs _ m (its-object _ _ _ (a .pre .2) _ (d .before .group .given .1) o f)
+unfolding passes conflict
+returns c = λ xs o m f. c .any .ensures (xs, m) o f
 
 pub conflicts-spec : {M : Type 1} → statement M
 conflicts-spec =
-    tie.close (tie.spec enum-told enum-known-group conflicts-group-requires returns returns-2)
+    tie.close (tie.spec any-requires returns)

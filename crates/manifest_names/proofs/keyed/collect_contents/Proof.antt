@@ -2,11 +2,10 @@
 -- their keys, and there is space for 64 of each other member. The measure is how much of the text is left. Assumes nothing.
 use borrow.Author.Needs.{needs}
 use Prim.Native.Nat.{_-_}
-use mathlib.Core.Path.{subst}
 use native.Mathlib.Omega.{arith}
 use denote.Ref.{now}
 use lib.ListN.{length}
-use Rattle.text_view.specs.Cursor.{GivesMember, NextMember}
+use Rattle.text_view.specs.Cursor.{NextMember}
 use Rattle.manifest_names.proofs.Keying.{WithKeys, keyable-object, with-started, with-left, with-within, with-finished, keyable, with-goes-on}
 use Rattle.manifest_names.proofs.keyed.collect_contents.Statement.{statement}
 use Rattle.manifest_names.proofs.keyed.collect_contents.Tie as tie
@@ -28,23 +27,11 @@ loop-holds c =
 next-requires : tie.Need-next-requires Inv-loop μ-loop
 next-requires c κs = with-left _ _ _ _ _ _ _ _ _ (c .loop .inv)
 
-enum-told : tie.Need-enum-told Inv-loop μ-loop
-enum-told c = search needs
-
-same-length : tie.Need-same-length Inv-loop μ-loop
-same-length c = c .before .before .before .loop .inv .size
-
-same-length-2 : tie.Need-same-length-2 Inv-loop μ-loop
-same-length-2 c = c .before .before .before .loop .inv .key-size
-
 returns : tie.Need-returns Inv-loop μ-loop
 returns c =
     let d = c .before .before in
     let p = d .before .loop .inv in
     (with-within _ _ _ _ _ _ _ _ _ p, with-finished _ _ _ _ _ _ _ _ _ p (rw (c .enum-told .given .1) at (d .next .ensures (p .others) (p .here))))
-
-enum-known-key : tie.Need-enum-known-key Inv-loop μ-loop
-enum-known-key c = search needs
 
 -- what `next` gave: a member
 abbrev inv : (c : tie.After-known-told Inv-loop μ-loop) → let b = c .before .before .before .before in
@@ -53,13 +40,8 @@ abbrev inv : (c : tie.After-known-told Inv-loop μ-loop) → let b = c .before .
 inv c = c .before .before .before .before .loop .inv
 
 given : (c : tie.After-known-told Inv-loop μ-loop) → let b = c .before .before .before .before in let a = b .before .before .before .before .before .args in
-    let g = c .before .key .given .0 in
-    NextMember (now (a .s)) (b .loop .left) (b .loop .inv .others) (g .0) (g .1 .0) (g .1 .1 .0)
-given c =
-    let p = inv c in
-    let d = c .before .before .before in
-    let a = d .before .before .before .before .before .before .args in
-    subst (GivesMember (now (a .s)) (d .before .loop .left) (p .others)) (c .before .key .given .1) (d .next .ensures (p .others) (p .here))
+    let g = c .before .key .given .0 in NextMember (now (a .s)) (b .loop .left) (b .loop .inv .others) (g .0) (g .1 .0) (g .1 .1 .0)
+given c = let d = c .before .before .before in let p = d .before .loop .inv in rw (c .before .key .given .1) at (d .next .ensures (p .others) (p .here))
 
 collect-under-requires : tie.Need-collect-under-requires Inv-loop μ-loop
 collect-under-requires c κs = let d = c .before .before in keyable _ _ _ _ _ _ _ _ _ (inv d) _ _ _ (given d)
@@ -76,18 +58,6 @@ loop-again c =
 
 pub collect-contents-spec : {M : Type 1} → statement M
 collect-contents-spec =
-    tie.close
-    (tie.spec
-    Inv-loop
-    μ-loop
-    new-requires
-    loop-holds
-    next-requires
-    enum-told
-    same-length
-    same-length-2
-    returns
-    enum-known-key
-    collect-under-requires
-    loop-less
-    loop-again)
+    tie.close (tie.spec Inv-loop μ-loop new-requires loop-holds next-requires (λ c. search needs)
+    (λ c. c .before .before .before .loop .inv .size) (λ c. c .before .before .before .loop .inv .key-size) returns
+    (λ c. search needs) collect-under-requires loop-less loop-again)

@@ -2,11 +2,10 @@
 -- measure is how much of the text is left. Assumes nothing.
 use borrow.Author.Needs.{needs}
 use Prim.Native.Nat.{_-_}
-use mathlib.Core.Path.{subst}
 use native.Mathlib.Omega.{arith}
 use denote.Ref.{now}
 use lib.ListN.{length}
-use Rattle.text_view.specs.Cursor.{GivesElement, NextElement}
+use Rattle.text_view.specs.Cursor.{NextElement}
 use Rattle.manifest_names.proofs.Keying.{UnderKey, under-array, under-started, under-left, under-finished, place-within, key-within, place-space}
 use Rattle.manifest_names.proofs.Keying.{place-fits, under-goes-on}
 use Rattle.manifest_names.proofs.keyed.collect_under.Statement.{statement}
@@ -29,23 +28,11 @@ loop-holds c =
 next-requires : tie.Need-next-requires Inv-loop μ-loop
 next-requires c κs = under-left _ _ _ _ _ _ _ _ _ _ _ (c .loop .inv)
 
-enum-told : tie.Need-enum-told Inv-loop μ-loop
-enum-told c = search needs
-
-same-length : tie.Need-same-length Inv-loop μ-loop
-same-length c = c .before .before .before .loop .inv .size
-
-same-length-2 : tie.Need-same-length-2 Inv-loop μ-loop
-same-length-2 c = c .before .before .before .loop .inv .key-size
-
 returns : tie.Need-returns Inv-loop μ-loop
 returns c =
     let d = c .before .before in
     let p = d .before .loop .inv in
     under-finished _ _ _ _ _ _ _ _ _ _ _ p (rw (c .enum-told .given .1) at (d .next .ensures (p .others) (p .here)))
-
-enum-known-p : tie.Need-enum-known-p Inv-loop μ-loop
-enum-known-p c = search needs
 
 -- what `next` gave: an element
 abbrev inv : (c : tie.After-known-told Inv-loop μ-loop) → let b = c .before .before .before .before in
@@ -54,13 +41,8 @@ abbrev inv : (c : tie.After-known-told Inv-loop μ-loop) → let b = c .before .
 inv c = c .before .before .before .before .loop .inv
 
 given : (c : tie.After-known-told Inv-loop μ-loop) → let b = c .before .before .before .before in let a = b .before .before .before .before .before .args in
-    let g = c .before .p .given .0 in
-    NextElement (now (a .s)) (b .loop .left) (b .loop .inv .others) (g .0) (g .1 .0)
-given c =
-    let p = inv c in
-    let d = c .before .before .before in
-    let a = d .before .before .before .before .before .before .args in
-    subst (GivesElement (now (a .s)) (d .before .loop .left) (p .others)) (c .before .p .given .1) (d .next .ensures (p .others) (p .here))
+    let g = c .before .p .given .0 in NextElement (now (a .s)) (b .loop .left) (b .loop .inv .others) (g .0) (g .1 .0)
+given c = let d = c .before .before .before in let p = d .before .loop .inv in rw (c .before .p .given .1) at (d .next .ensures (p .others) (p .here))
 
 cast-names : tie.Need-cast-names Inv-loop μ-loop
 cast-names c =
@@ -95,24 +77,6 @@ loop-again c = under-goes-on _ _ _ _ _ _ _ _ _ _ _ (inv c) _ _ (given c)
 
 pub collect-under-spec : {M : Type 1} → statement M
 collect-under-spec =
-    tie.close
-    (tie.spec
-    Inv-loop
-    μ-loop
-    new-requires
-    loop-holds
-    next-requires
-    enum-told
-    same-length
-    same-length-2
-    returns
-    enum-known-p
-    cast-names
-    mul-names
-    slice-write-names
-    cast-keys
-    mul-keys
-    slice-write-keys
-    add-i
-    loop-less
-    loop-again)
+    tie.close (tie.spec Inv-loop μ-loop new-requires loop-holds next-requires (λ c. search needs)
+    (λ c. c .before .before .before .loop .inv .size) (λ c. c .before .before .before .loop .inv .key-size) returns
+    (λ c. search needs) cast-names mul-names slice-write-names cast-keys mul-keys slice-write-keys add-i loop-less loop-again)

@@ -8,25 +8,16 @@ use Rattle.manifest_repeat.proofs.Groups.{group-at}
 use Rattle.manifest_names.proofs.Elsewhere.{once-settled}
 use Rattle.manifest_names.proofs.Founds.{found-grouped, its-object}
 use Rattle.manifest_names.proofs.Keying.{placed-keys, no-contents, contents-sorted}
-use Rattle.manifest_heads.proofs.Searching.{sorted-front}
+use Rattle.manifest_repeat.proofs.Sorting.{sorted-front}
 use borrow.Author.Needs.{needs}
 use Rattle.manifest_names.proofs.keyed.sort_contents.Statement.{statement}
 use Rattle.manifest_names.proofs.keyed.sort_contents.Tie as tie
-
-enum-told : tie.Need-enum-told
-enum-told c = search needs
-
-enum-known-group : tie.Need-enum-known-group
-enum-known-group c = search needs
 
 collect-contents-requires : tie.Need-collect-contents-requires
 collect-contents-requires c κs =
     let d = c .before .before in
     let a = d .before .before .before .before .before .before .before in
     record { group = group-at _ _ _ _ _ (a .pre .group) _ (d .before .group .given .1); long = a .pre .long }
-
-slice-relend-prefix-sort-keys : tie.Need-slice-relend-prefix-sort-keys
-slice-relend-prefix-sort-keys c = search needs
 
 slice-aggregate-sort-keys : tie.Need-slice-aggregate-sort-keys
 slice-aggregate-sort-keys c =
@@ -53,15 +44,6 @@ returns c = (
       (missing-members _ _ _ o f (c .enum-told .given .1)),
 )
 
-same-length : tie.Need-same-length
-same-length c = search needs
-
-same-length-2 : tie.Need-same-length-2
-same-length-2 c = search needs
-
-same-length-3 : tie.Need-same-length-3
-same-length-3 c = search needs
-
 returns-2 : tie.Need-returns-2
 returns-2 c =
     let k = c .before .before .before .before in
@@ -78,16 +60,5 @@ returns-2 c =
 
 pub sort-contents-spec : {M : Type 1} → statement M
 sort-contents-spec =
-    tie.close
-    (tie.spec
-    enum-told
-    enum-known-group
-    collect-contents-requires
-    slice-relend-prefix-sort-keys
-    slice-aggregate-sort-keys
-    sort-keys-requires
-    returns
-    same-length
-    same-length-2
-    same-length-3
-    returns-2)
+    tie.close (tie.spec (λ c. search needs) (λ c. search needs) collect-contents-requires (λ c. search needs) slice-aggregate-sort-keys
+    sort-keys-requires returns (λ c. search needs) (λ c. search needs) (λ c. search needs) returns-2)

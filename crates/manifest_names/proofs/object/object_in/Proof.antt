@@ -2,12 +2,11 @@
 -- The measure is how much of the text is left. Assumes nothing.
 use borrow.Author.Needs.{needs}
 use Prim.Native.Nat.{_-_}
-use mathlib.Core.Path.{subst}
 use native.Mathlib.Omega.{arith}
 use denote.Ref.{now}
 use lib.ListN.{length}
 use Rattle.text_strings.specs.InString.{contentFrom}
-use Rattle.text_view.specs.Cursor.{GivesMember, NextMember}
+use Rattle.text_view.specs.Cursor.{NextMember}
 use Rattle.manifest_names.proofs.Objects.{Passing, started, some-left, no-key, member-value, key-found, goes-on}
 use Rattle.manifest_names.proofs.object.object_in.Statement.{statement}
 use Rattle.manifest_names.proofs.object.object_in.Tie as tie
@@ -29,17 +28,11 @@ loop-holds c =
 next-requires : tie.Need-next-requires Inv-loop μ-loop
 next-requires c κs = some-left _ _ _ _ _ _ (c .loop .inv)
 
-enum-told : tie.Need-enum-told Inv-loop μ-loop
-enum-told c = search needs
-
 returns : tie.Need-returns Inv-loop μ-loop
 returns c =
     let d = c .before .before in
     let p = d .before .loop .inv in
     no-key _ _ _ _ _ _ p (rw (c .enum-told .given .1) at (d .next .ensures (p .others) (p .here)))
-
-enum-known-key : tie.Need-enum-known-key Inv-loop μ-loop
-enum-known-key c = search needs
 
 -- what `next` gave: a member
 abbrev inv : (c : tie.After-known-told Inv-loop μ-loop) → let b = c .before .before .before .before in let a = b .before .before .before .before .args in
@@ -47,13 +40,8 @@ abbrev inv : (c : tie.After-known-told Inv-loop μ-loop) → let b = c .before .
 inv c = c .before .before .before .before .loop .inv
 
 given : (c : tie.After-known-told Inv-loop μ-loop) → let b = c .before .before .before .before in let a = b .before .before .before .before .args in
-    let g = c .before .key .given .0 in
-    NextMember (now (a .s)) (b .loop .left) (b .loop .inv .others) (g .0) (g .1 .0) (g .1 .1 .0)
-given c =
-    let p = inv c in
-    let d = c .before .before .before in
-    let a = d .before .before .before .before .before .args in
-    subst (GivesMember (now (a .s)) (d .before .loop .left) (p .others)) (c .before .key .given .1) (d .next .ensures (p .others) (p .here))
+    let g = c .before .key .given .0 in NextMember (now (a .s)) (b .loop .left) (b .loop .inv .others) (g .0) (g .1 .0) (g .1 .1 .0)
+given c = let d = c .before .before .before in let p = d .before .loop .inv in rw (c .before .key .given .1) at (d .next .ensures (p .others) (p .here))
 
 is-in-list-requires : tie.Need-is-in-list-requires Inv-loop μ-loop
 is-in-list-requires c κs = (c .before .before .before .before .before .before .before .before .pre .1, member-value _ _ _ _ _ _ (inv c) _ _ _ (given c))
@@ -80,18 +68,5 @@ loop-again c =
 
 pub object-in-spec : {M : Type 1} → statement M
 object-in-spec =
-    tie.close
-    (tie.spec
-    Inv-loop
-    μ-loop
-    new-requires
-    loop-holds
-    next-requires
-    enum-told
-    returns
-    enum-known-key
-    is-in-list-requires
-    returns-2
-    add-i
-    loop-less
-    loop-again)
+    tie.close (tie.spec Inv-loop μ-loop new-requires loop-holds next-requires (λ c. search needs) returns (λ c. search needs) is-in-list-requires
+    returns-2 add-i loop-less loop-again)

@@ -6,12 +6,6 @@ use Rattle.manifest_names.proofs.Objects.{nothing-named}
 use Rattle.manifest_names.proofs.object.object_of.Statement.{statement}
 use Rattle.manifest_names.proofs.object.object_of.Tie as tie
 
-enum-told : tie.Need-enum-told
-enum-told c = search needs
-
-enum-known-group : tie.Need-enum-known-group
-enum-known-group c = search needs
-
 object-in-requires : tie.Need-object-in-requires
 object-in-requires c κs =
     let a = c .before .before .before .before .before in
@@ -28,4 +22,4 @@ returns-2 c =
 
 pub object-of-spec : {M : Type 1} → statement M
 object-of-spec =
-    tie.close (tie.spec enum-told enum-known-group object-in-requires returns returns-2)
+    tie.close (tie.spec (λ c. search needs) (λ c. search needs) object-in-requires returns returns-2)

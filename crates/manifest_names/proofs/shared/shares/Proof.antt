@@ -1,30 +1,22 @@
--- `manifest_names::shared::shares` meets its contract. Assumes nothing.
-use borrow.Author.Needs.{needs}
-use Rattle.manifest_fields.proofs.Founds.{missing-members}
-use Rattle.manifest_names.proofs.Founds.{group-here, its-object, none-shared}
+-- `manifest_names::shared::shares` meets its contract: each alias is asked about by its name.
+-- Assumes nothing.
+use Prim.Native.Nat.{ℕ}
+use mathlib.Core.Path.{_∙_}
+use mathlib.Core.List.{List}
+use Rattle.reference.specs.Matches.{isOneOf}
+use Rattle.manifest_heads.specs.Contents.{shareName}
+use Rattle.manifest_heads.proofs.Any.{any-name}
+use Rattle.manifest_names.specs.Asked.{passes}
 use Rattle.manifest_names.proofs.shared.shares.Statement.{statement}
 use Rattle.manifest_names.proofs.shared.shares.Tie as tie
 
-enum-told : tie.Need-enum-told
-enum-told c = search needs
-
-enum-known-group : tie.Need-enum-known-group
-enum-known-group c = search needs
-
-shares-group-requires : tie.Need-shares-group-requires
-shares-group-requires c κs =
-    let a = c .before .before .before .before .before .before .before in
-    (a .pre .0, a .pre .1, group-here _ _ _ (a .pre .2) _ (c .before .group .given .1))
+any-requires : tie.Need-any-requires
+any-requires c κs = let o = c .before .before .before .before .pre in ((o .0 .names, o .0 .sorted), o .1, o .2)
 
 returns : tie.Need-returns
-returns c = λ cs o m f. none-shared cs _ (missing-members _ _ _ o f (c .enum-told .given .1))
-
-returns-2 : tie.Need-returns-2
-returns-2 c =
-    let d = c .before in
-    let a = d .before .before .before .before .before .before .before in
-    λ cs o m f. c .shares-group .ensures cs _ m (its-object _ _ _ (a .pre .2) _ (d .before .group .given .1) o f)
+unfolding passes shareName
+returns c = λ cs o m f. c .any .ensures (cs, m) o f ∙ any-name (λ (n : List ℕ). isOneOf n cs) _
 
 pub shares-spec : {M : Type 1} → statement M
 shares-spec =
-    tie.close (tie.spec enum-told enum-known-group shares-group-requires returns returns-2)
+    tie.close (tie.spec any-requires returns)

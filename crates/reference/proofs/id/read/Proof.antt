@@ -1,48 +1,27 @@
 -- `reference::id::read` meets its contract: the parts are read one after the other.
 -- Assumes nothing.
 use borrow.Author.Tests.{not-true, not-false}
-use Rattle.reference.proofs.Forms.{id-one, id-two, id-four}
+use Rattle.reference.proofs.Forms.{id-parts}
 use Rattle.reference.proofs.Steps.{plain-one, plain-two, plain-past, id-none, id-reads}
 use borrow.Author.Needs.{needs}
 use Rattle.reference.proofs.id.read.Statement.{statement}
 use Rattle.reference.proofs.id.read.Tie as tie
 
-read-plain-requires : tie.Need-read-plain-requires
-read-plain-requires c κs = search needs
-
 returns : tie.Need-returns
-returns c = id-one _ (plain-one _ _ (c .before .read-plain .ensures .0) (c .if1 .taken))
-
-read-plain-requires-2 : tie.Need-read-plain-requires-2
-read-plain-requires-2 c κs = search needs
+returns c = id-parts _ .one (plain-one _ _ (c .before .read-plain .ensures .0) (c .if1 .taken))
 
 returns-2 : tie.Need-returns-2
 returns-2 c =
     let x = c .before .before in
-    id-two _ _ _ (plain-two _ _ (x .before .read-plain .ensures .0) (x .if1 .left) _ (c .before .read-plain2 .ensures .0) (c .if2 .taken))
-
-read-plain-requires-3 : tie.Need-read-plain-requires-3
-read-plain-requires-3 c κs = search needs
+    id-parts _ .two _ _ (plain-two _ _ (x .before .read-plain .ensures .0) (x .if1 .left) _ (c .before .read-plain2 .ensures .0) (c .if2 .taken))
 
 returns-3 : tie.Need-returns-3
 returns-3 c =
     let z = c .before .before in
     let y = z .before in
     let x = y .before .before in
-    id-four _ _ _ _ _ (plain-past _ _ (x .before .read-plain .ensures .0) (x .if1 .left) _ (y .before .read-plain2 .ensures .0) (y .if2 .left) _
+    id-parts _ .four _ _ _ _ (plain-past _ _ (x .before .read-plain .ensures .0) (x .if1 .left) _ (y .before .read-plain2 .ensures .0) (y .if2 .left) _
     (z .read-plain3 .ensures .0) (not-true _ (c .if3 .taken)))
-
-named-requires : tie.Need-named-requires
-named-requires c κs = search needs
-
-enum-told : tie.Need-enum-told
-enum-told c = search needs
-
-enum-known-a : tie.Need-enum-known-a
-enum-known-a c = search needs
-
-under-requires : tie.Need-under-requires
-under-requires c κs = search needs
 
 returns-4 : tie.Need-returns-4
 returns-4 c =
@@ -69,17 +48,5 @@ returns-5 c =
 
 pub read-spec : {M : Type 1} → statement M
 read-spec =
-    tie.close
-    (tie.spec
-    read-plain-requires
-    returns
-    read-plain-requires-2
-    returns-2
-    read-plain-requires-3
-    returns-3
-    named-requires
-    enum-told
-    enum-known-a
-    under-requires
-    returns-4
-    returns-5)
+    tie.close (tie.spec (λ c κs. search needs) returns (λ c κs. search needs) returns-2 (λ c κs. search needs) returns-3 (λ c κs. search needs)
+    (λ c. search needs) (λ c. search needs) (λ c κs. search needs) returns-4 returns-5)

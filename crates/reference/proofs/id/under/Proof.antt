@@ -8,16 +8,10 @@ use borrow.Author.Needs.{needs}
 use Rattle.reference.proofs.id.under.Statement.{statement}
 use Rattle.reference.proofs.id.under.Tie as tie
 
-is-digest-requires : tie.Need-is-digest-requires
-is-digest-requires c κs = search needs
-
 returns : tie.Need-returns
 returns c = λ x y k l.
     let a = c .before .before .args in
     id-no-signer (a .a) _ _ (sym (c .before .is-digest .ensures ∙ digest-counted (a .a) x (a .signer) k) ∙ not-true _ (c .if1 .taken))
-
-is-digest-requires-2 : tie.Need-is-digest-requires-2
-is-digest-requires-2 c κs = search needs
 
 returns-2 : tie.Need-returns-2
 returns-2 c = λ x y k l.
@@ -39,4 +33,4 @@ returns-3 c = λ x y k l.
 
 pub under-spec : {M : Type 1} → statement M
 under-spec =
-    tie.close (tie.spec is-digest-requires returns is-digest-requires-2 returns-2 returns-3)
+    tie.close (tie.spec (λ c κs. search needs) returns (λ c κs. search needs) returns-2 returns-3)

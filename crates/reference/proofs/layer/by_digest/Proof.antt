@@ -13,18 +13,6 @@ use borrow.Author.Needs.{needs}
 use Rattle.reference.proofs.layer.by_digest.Statement.{statement}
 use Rattle.reference.proofs.layer.by_digest.Tie as tie
 
-named-requires : tie.Need-named-requires
-named-requires c κs = search needs
-
-enum-told : tie.Need-enum-told
-enum-told c = search needs
-
-enum-known-a : tie.Need-enum-known-a
-enum-known-a c = search needs
-
-is-digest-requires : tie.Need-is-digest-requires
-is-digest-requires c κs = search needs
-
 returns : tie.Need-returns
 returns c =
     let n = c .before .before in
@@ -58,5 +46,4 @@ returns-3 c =
 
 pub by-digest-spec : {M : Type 1} → statement M
 by-digest-spec =
-    tie.close
-    (tie.spec named-requires enum-told enum-known-a is-digest-requires returns returns-2 returns-3)
+    tie.close (tie.spec (λ c κs. search needs) (λ c. search needs) (λ c. search needs) (λ c κs. search needs) returns returns-2 returns-3)

@@ -6,23 +6,8 @@ use borrow.Author.Needs.{needs}
 use Rattle.reference.proofs.layer.read.Statement.{statement}
 use Rattle.reference.proofs.layer.read.Tie as tie
 
-read-requires : tie.Need-read-requires
-read-requires c κs = search needs
-
 returns : tie.Need-returns
 returns c = layer-one _ (at-last _ _ _ (c .before .read .ensures) (c .if1 .taken))
-
-read-requires-2 : tie.Need-read-requires-2
-read-requires-2 c κs = search needs
-
-by-digest-requires : tie.Need-by-digest-requires
-by-digest-requires c κs = search needs
-
-returns-2 : tie.Need-returns-2
-returns-2 c = search needs
-
-read-requires-3 : tie.Need-read-requires-3
-read-requires-3 c κs = search needs
 
 returns-3 : tie.Need-returns-3
 returns-3 c =
@@ -34,15 +19,6 @@ returns-3 c =
     (record { here = a .pre; first = x .before .read .ensures; more = x .if1 .left; second = y .before .read2 .ensures }) _
     (record { here = x .before .read .ensures .inside; first = y .before .read2 .ensures; more = y .if2 .left; second = z .read3 .ensures })
     (c .if3 .taken))
-
-read-requires-4 : tie.Need-read-requires-4
-read-requires-4 c κs = search needs
-
-by-alias-requires : tie.Need-by-alias-requires
-by-alias-requires c κs = search needs
-
-returns-4 : tie.Need-returns-4
-returns-4 c = search needs
 
 returns-5 : tie.Need-returns-5
 returns-5 c =
@@ -58,16 +34,5 @@ returns-5 c =
 
 pub read-spec : {M : Type 1} → statement M
 read-spec =
-    tie.close
-    (tie.spec
-    read-requires
-    returns
-    read-requires-2
-    by-digest-requires
-    returns-2
-    read-requires-3
-    returns-3
-    read-requires-4
-    by-alias-requires
-    returns-4
-    returns-5)
+    tie.close (tie.spec (λ c κs. search needs) returns (λ c κs. search needs) (λ c κs. search needs) (λ c. search needs) (λ c κs. search needs)
+    returns-3 (λ c κs. search needs) (λ c κs. search needs) (λ c. search needs) returns-5)

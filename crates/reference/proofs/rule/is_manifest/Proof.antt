@@ -8,18 +8,6 @@ use borrow.Author.Needs.{needs}
 use Rattle.reference.proofs.rule.is_manifest.Statement.{statement}
 use Rattle.reference.proofs.rule.is_manifest.Tie as tie
 
-slice-aggregate-is : tie.Need-slice-aggregate-is
-slice-aggregate-is c = search needs
-
-is-requires : tie.Need-is-requires
-is-requires c κs = search needs
-
-is-digest-requires : tie.Need-is-digest-requires
-is-digest-requires c κs = search needs
-
-is-alias-part-requires : tie.Need-is-alias-part-requires
-is-alias-part-requires c κs = search needs
-
 returns : tie.Need-returns
 unfolding isManifest
 returns c = or-taken _ _ _ (c .before .is .ensures) (c .if1 .taken)
@@ -44,12 +32,4 @@ returns-3 c =
 
 pub is-manifest-spec : {M : Type 1} → statement M
 is-manifest-spec =
-    tie.close
-    (tie.spec
-    slice-aggregate-is
-    is-requires
-    is-digest-requires
-    is-alias-part-requires
-    returns
-    returns-2
-    returns-3)
+    tie.close (tie.spec (λ c. search needs) (λ c κs. search needs) (λ c κs. search needs) (λ c κs. search needs) returns returns-2 returns-3)

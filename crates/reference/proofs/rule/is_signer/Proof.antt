@@ -8,15 +8,6 @@ use borrow.Author.Needs.{needs}
 use Rattle.reference.proofs.rule.is_signer.Statement.{statement}
 use Rattle.reference.proofs.rule.is_signer.Tie as tie
 
-slice-aggregate-is : tie.Need-slice-aggregate-is
-slice-aggregate-is c = search needs
-
-is-requires : tie.Need-is-requires
-is-requires c κs = search needs
-
-is-digest-requires : tie.Need-is-digest-requires
-is-digest-requires c κs = search needs
-
 returns : tie.Need-returns
 unfolding isSigner
 returns c = or-taken _ _ _ (c .before .is .ensures) (c .if1 .taken)
@@ -30,4 +21,4 @@ returns-2 c =
 
 pub is-signer-spec : {M : Type 1} → statement M
 is-signer-spec =
-    tie.close (tie.spec slice-aggregate-is is-requires is-digest-requires returns returns-2)
+    tie.close (tie.spec (λ c. search needs) (λ c κs. search needs) (λ c κs. search needs) returns returns-2)

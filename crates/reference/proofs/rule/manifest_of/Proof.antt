@@ -14,20 +14,11 @@ use borrow.Author.Needs.{needs}
 use Rattle.reference.proofs.rule.manifest_of.Statement.{statement}
 use Rattle.reference.proofs.rule.manifest_of.Tie as tie
 
-slice-aggregate-is : tie.Need-slice-aggregate-is
-slice-aggregate-is c = search needs
-
-is-requires : tie.Need-is-requires
-is-requires c κs = search needs
-
 returns : tie.Need-returns
 returns c =
     let a = c .before .before .before .before in
     let w = whole _ _ _ (a .pre .1) (a .pre .2) in
     (tt, manifest-any _ (a .args .a) (sym (c .before .is .ensures ∙ ap (λ (x : List ℕ). same x star) w) ∙ c .if1 .taken))
-
-is-digest-requires : tie.Need-is-digest-requires
-is-digest-requires c κs = search needs
 
 returns-2 : tie.Need-returns-2
 returns-2 c =
@@ -55,5 +46,4 @@ returns-3 c =
 
 pub manifest-of-spec : {M : Type 1} → statement M
 manifest-of-spec =
-    tie.close
-    (tie.spec slice-aggregate-is is-requires returns is-digest-requires returns-2 returns-3)
+    tie.close (tie.spec (λ c. search needs) (λ c κs. search needs) returns (λ c κs. search needs) returns-2 returns-3)

@@ -6,12 +6,6 @@ use borrow.Author.Needs.{needs}
 use Rattle.reference.proofs.rule.signer_of.Statement.{statement}
 use Rattle.reference.proofs.rule.signer_of.Tie as tie
 
-slice-aggregate-is : tie.Need-slice-aggregate-is
-slice-aggregate-is c = search needs
-
-is-requires : tie.Need-is-requires
-is-requires c κs = search needs
-
 returns : tie.Need-returns
 returns c = (tt, signer-any _ (sym (c .before .is .ensures) ∙ c .if1 .taken))
 
@@ -22,4 +16,5 @@ returns-2 c =
     (record { inside = a .pre .0; digest = signer-digest _ (a .args .a) (a .pre .2) e }, signer-one _ e)
 
 pub signer-of-spec : {M : Type 1} → statement M
-signer-of-spec = tie.close (tie.spec slice-aggregate-is is-requires returns returns-2)
+signer-of-spec =
+    tie.close (tie.spec (λ c. search needs) (λ c κs. search needs) returns returns-2)

@@ -9,14 +9,8 @@ use borrow.Author.Tests.{not-true, not-false}
 use Rattle.reference.proofs.rule.under.Statement.{statement}
 use Rattle.reference.proofs.rule.under.Tie as tie
 
-is-signer-requires : tie.Need-is-signer-requires
-is-signer-requires c κs = search needs
-
 returns : tie.Need-returns
 returns c = rule-no-signer _ _ _ (sym (c .before .is-signer .ensures) ∙ not-true _ (c .if1 .taken))
-
-is-manifest-requires : tie.Need-is-manifest-requires
-is-manifest-requires c κs = search needs
 
 returns-2 : tie.Need-returns-2
 returns-2 c =
@@ -31,9 +25,6 @@ signer-of-requires c κs =
     let e = c .before .before in
     let a = e .before .before .before in
     (a .pre .0 .here, a .pre .0 .first, sym (e .before .is-signer .ensures) ∙ not-false _ (e .if1 .left))
-
-manifest-of-requires : tie.Need-manifest-of-requires
-manifest-of-requires c κs = search needs
 
 returns-3 : tie.Need-returns-3
 returns-3 c =
@@ -51,12 +42,4 @@ returns-3 c =
 
 pub under-spec : {M : Type 1} → statement M
 under-spec =
-    tie.close
-    (tie.spec
-    is-signer-requires
-    returns
-    is-manifest-requires
-    returns-2
-    signer-of-requires
-    manifest-of-requires
-    returns-3)
+    tie.close (tie.spec (λ c κs. search needs) returns (λ c κs. search needs) returns-2 signer-of-requires (λ c κs. search needs) returns-3)

@@ -27,5 +27,4 @@ returns-2 c = λ e. absurd (eqb-false _ _ (not-true _ e) (c .if1 .left))
 
 pub are-plain-spec : {M : Type 1} → statement M
 are-plain-spec =
-    tie.close
-    (tie.spec shared-slice-read-if1 add-result shared-slice-read-result returns returns-2)
+    tie.close (tie.spec shared-slice-read-if1 add-result shared-slice-read-result returns returns-2)

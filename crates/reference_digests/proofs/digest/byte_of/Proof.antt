@@ -27,8 +27,6 @@ cast-result c =
     let b = hex-below _ (is-hex _ (c .before .before .pre .1)) in
     omega (arith, c .before .hex-value .ensures, c .hex-value2 .ensures)
 
-returns : tie.Need-returns
-returns c = search needs
-
 pub byte-of-spec : {M : Type 1} → statement M
-byte-of-spec = tie.close (tie.spec hex-value-requires mul-result hex-value-requires-2 add-result cast-result returns)
+byte-of-spec =
+    tie.close (tie.spec hex-value-requires mul-result hex-value-requires-2 add-result cast-result (λ c. search needs))

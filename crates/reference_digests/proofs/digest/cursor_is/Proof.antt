@@ -76,12 +76,6 @@ returns c =
     λ d p. byte-differs _ (now (a .bytes)) (l .k) (l .inv .2) h _ _ _ (pair n .1) _ (b .byte-of .ensures) (c .if1 .taken)
     ∙ l .inv .3 d p
 
-add-k : tie.Need-add-k Inv-loop μ-loop
-add-k c = omega arith
-
-loop-less : tie.Need-loop-less Inv-loop μ-loop
-loop-less c = omega arith
-
 loop-again : tie.Need-loop-again Inv-loop μ-loop
 loop-again c =
     let b = c .before .before .before in
@@ -104,17 +98,5 @@ returns-2 c =
 
 pub cursor-is-spec : {M : Type 1} → statement M
 cursor-is-spec =
-    tie.close
-    (tie.spec
-    Inv-loop
-    μ-loop
-    loop-holds
-    next-requires
-    next-requires-2
-    byte-of-requires
-    shared-slice-read-if1
-    returns
-    add-k
-    loop-less
-    loop-again
-    returns-2)
+    tie.close (tie.spec Inv-loop μ-loop loop-holds next-requires next-requires-2 byte-of-requires shared-slice-read-if1 returns (λ c. omega arith)
+    (λ c. omega arith) loop-again returns-2)

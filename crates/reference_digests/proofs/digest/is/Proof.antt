@@ -26,9 +26,6 @@ Inv-loop s i bytes k₀ j₀ k j =
 abbrev μ-loop : tie.MeasureT-loop
 μ-loop s i bytes k₀ j₀ k j = length bytes - k
 
-digest-bytes-requires : tie.Need-digest-bytes-requires Inv-loop μ-loop
-digest-bytes-requires c κs = tt
-
 returns : tie.Need-returns Inv-loop μ-loop
 returns c =
     let a = c .before .before .before .before in
@@ -48,9 +45,6 @@ are-plain-requires c κs =
     let l = c .before .loop in
     let a = c .before .before .before .before .before .before .args in
     (l .inv .0, pair-left _ (now (a .bytes)) (l .k) (l .inv .1) (c .loop-test .taken))
-
-new-requires : tie.Need-new-requires Inv-loop μ-loop
-new-requires c κs = tt
 
 cursor-is-requires : tie.Need-cursor-is-requires Inv-loop μ-loop
 cursor-is-requires c κs =
@@ -104,12 +98,6 @@ add-at c =
     let e = c .before .before .before .before .before in
     omega (arith, pair-within e, e .before .before .before .before .before .before .before .before .good)
 
-add-k : tie.Need-add-k Inv-loop μ-loop
-add-k c = omega arith
-
-loop-less : tie.Need-loop-less Inv-loop μ-loop
-loop-less c = omega arith
-
 loop-again : tie.Need-loop-again Inv-loop μ-loop
 loop-again c =
     let b = c .before .before in
@@ -130,25 +118,6 @@ returns-4 c =
 
 pub is-spec : {M : Type 1} → statement M
 is-spec =
-    tie.close
-    (tie.spec
-    Inv-loop
-    μ-loop
-    digest-bytes-requires
-    returns
-    loop-holds
-    are-plain-requires
-    new-requires
-    cursor-is-requires
-    returns-2
-    shared-slice-read-byte-of
-    add-byte-of
-    shared-slice-read-byte-of-2
-    byte-of-requires
-    shared-slice-read-if3
-    returns-3
-    add-at
-    add-k
-    loop-less
-    loop-again
-    returns-4)
+    tie.close (tie.spec Inv-loop μ-loop (λ c κs. tt) returns loop-holds are-plain-requires (λ c κs. tt) cursor-is-requires returns-2
+    shared-slice-read-byte-of add-byte-of shared-slice-read-byte-of-2 byte-of-requires shared-slice-read-if3 returns-3 add-at (λ c. omega arith)
+    (λ c. omega arith) loop-again returns-4)

@@ -23,12 +23,6 @@ Inv-loop s i out₀ n c₀ k₀ out c k = (n ≤ length out₀) × ((r : List �
 abbrev μ-loop : tie.MeasureT-loop
 μ-loop s i out₀ n c₀ k₀ out c k = n - k
 
-digest-bytes-requires : tie.Need-digest-bytes-requires Inv-loop μ-loop
-digest-bytes-requires c κs = tt
-
-new-requires : tie.Need-new-requires Inv-loop μ-loop
-new-requires c κs = tt
-
 loop-holds : tie.Need-loop-holds Inv-loop μ-loop
 loop-holds c =
     let a = c .before .before .before .before .args in
@@ -101,19 +95,5 @@ returns c =
 
 pub write-spec : {M : Type 1} → statement M
 write-spec =
-    tie.close
-    (tie.spec
-    Inv-loop
-    μ-loop
-    digest-bytes-requires
-    new-requires
-    loop-holds
-    next-requires
-    next-requires-2
-    byte-of-requires
-    slice-write-out
-    add-k
-    loop-less
-    loop-again
-    same-length
-    returns)
+    tie.close (tie.spec Inv-loop μ-loop (λ c κs. tt) (λ c κs. tt) loop-holds next-requires next-requires-2 byte-of-requires slice-write-out add-k
+    loop-less loop-again same-length returns)

@@ -19,9 +19,6 @@ Inv-loop s i out₀ n k₀ j₀ out k j = (n ≤ length out₀) × (j ≤ length
 abbrev μ-loop : tie.MeasureT-loop
 μ-loop s i out₀ n k₀ j₀ out k j = n - k
 
-digest-bytes-requires : tie.Need-digest-bytes-requires Inv-loop μ-loop
-digest-bytes-requires c κs = tt
-
 loop-holds : tie.Need-loop-holds Inv-loop μ-loop
 loop-holds c =
     let a = c .before .before .before .args in
@@ -111,20 +108,5 @@ returns c =
 
 pub write-plain-spec : {M : Type 1} → statement M
 write-plain-spec =
-    tie.close
-    (tie.spec
-    Inv-loop
-    μ-loop
-    digest-bytes-requires
-    loop-holds
-    shared-slice-read-byte-of
-    add-byte-of
-    shared-slice-read-byte-of-2
-    byte-of-requires
-    slice-write-out
-    add-j
-    add-k
-    loop-less
-    loop-again
-    same-length
-    returns)
+    tie.close (tie.spec Inv-loop μ-loop (λ c κs. tt) loop-holds shared-slice-read-byte-of add-byte-of shared-slice-read-byte-of-2 byte-of-requires
+    slice-write-out add-j add-k loop-less loop-again same-length returns)

@@ -37,9 +37,6 @@ shared-slice-read-b c = inside-within _ _ (c .before .before .loop .inv .0)
 add-new : tie.Need-add-new Inv-loop μ-loop
 add-new c = omega (arith, inside-within _ _ (c .before .before .before .loop .inv .0))
 
-new-requires : tie.Need-new-requires Inv-loop μ-loop
-new-requires c κs = search needs
-
 cursor-begins-requires : tie.Need-cursor-begins-requires Inv-loop μ-loop
 cursor-begins-requires c κs =
     let inv = c .before .before .before .before .loop .inv in
@@ -56,21 +53,12 @@ returns-2 c =
     let l = d .before .loop in
     too-short _ _ _ (l .k) (l .inv .1) (d .loop-test .taken) (ends _ _ (l .inv .0) (c .if2 .taken))
 
-shared-slice-read-if3 : tie.Need-shared-slice-read-if3 Inv-loop μ-loop
-shared-slice-read-if3 c = search needs
-
 returns-3 : tie.Need-returns-3 Inv-loop μ-loop
 returns-3 c =
     let d = c .before .before .before .before .before in
     let l = d .before .loop in
     let g = goes-on _ _ (l .inv .0) (c .before .before .if2 .left) (c .before .before .before .if1 .left) in
     next-differs _ _ _ (l .k) (l .inv .1) (d .loop-test .taken) _ _ (g .0) (c .if3 .taken)
-
-add-k : tie.Need-add-k Inv-loop μ-loop
-add-k c = omega arith
-
-loop-less : tie.Need-loop-less Inv-loop μ-loop
-loop-less c = omega arith
 
 loop-again : tie.Need-loop-again Inv-loop μ-loop
 loop-again c =
@@ -89,21 +77,5 @@ returns-4 c = let l = c .before .loop in begins _ _ _ (l .k) (l .inv .1) (c .loo
 
 pub begins-spec : {M : Type 1} → statement M
 begins-spec =
-    tie.close
-    (tie.spec
-    Inv-loop
-    μ-loop
-    loop-holds
-    add-b
-    shared-slice-read-b
-    add-new
-    new-requires
-    cursor-begins-requires
-    returns
-    returns-2
-    shared-slice-read-if3
-    returns-3
-    add-k
-    loop-less
-    loop-again
-    returns-4)
+    tie.close (tie.spec Inv-loop μ-loop loop-holds add-b shared-slice-read-b add-new (λ c κs. search needs) cursor-begins-requires returns returns-2
+    (λ c. search needs) returns-3 (λ c. omega arith) (λ c. omega arith) loop-again returns-4)

@@ -7,7 +7,7 @@ use mathlib.Core.List.{List, _++_}
 use native.Mathlib.Omega.{arith}
 use borrow.Author.Tests.{not-true, not-false}
 use lib.ListN.{length, take}
-use Rattle.text_strings.specs.Cursor.{Left, Readable}
+use Rattle.text_strings.specs.Cursor.{Left, ReadableCursor}
 use Rattle.text_strings.proofs.Cursors.{given-end, given-byte}
 use Rattle.reference_parts.proofs.Counting.{begins, too-short, next-same, next-differs}
 use Rattle.reference_parts.proofs.part.cursor_begins.Statement.{statement}
@@ -15,7 +15,7 @@ use Rattle.reference_parts.proofs.part.cursor_begins.Tie as tie
 
 abbrev Inv-loop : tie.InvT-loop
 Inv-loop s name at c₀ k₀ c k =
-    Readable s c × ((d : List ℕ) → Left s c₀ d → (r : List ℕ) × Left s c r × ((l : List ℕ) → l ≡ take k₀ name ++ d → l ≡ take k name ++ r))
+    ReadableCursor s c × ((d : List ℕ) → Left s c₀ d → (r : List ℕ) × Left s c r × ((l : List ℕ) → l ≡ take k₀ name ++ d → l ≡ take k name ++ r))
 
 abbrev μ-loop : tie.MeasureT-loop
 μ-loop s name at c₀ k₀ c k = length name - k
@@ -45,12 +45,6 @@ returns-2 c =
     let b = given-byte _ _ (n .next .result) (not-false _ (c .before .before .before .if1 .left)) (n .next .ensures .0 (q .0) (q .1)) in
     next-differs w _ _ (l .k) (q .2 w e) (n .before .loop-test .taken) _ _ (b .1) (c .if2 .taken)
 
-add-k : tie.Need-add-k Inv-loop μ-loop
-add-k c = omega arith
-
-loop-less : tie.Need-loop-less Inv-loop μ-loop
-loop-less c = omega arith
-
 loop-again : tie.Need-loop-again Inv-loop μ-loop
 loop-again c =
     let n = c .before .before .before .before .before .before in
@@ -69,16 +63,5 @@ returns-3 c = let l = c .before .loop in λ w d p e. begins w _ _ (l .k) (l .inv
 
 pub cursor-begins-spec : {M : Type 1} → statement M
 cursor-begins-spec =
-    tie.close
-    (tie.spec
-    Inv-loop
-    μ-loop
-    loop-holds
-    next-requires
-    returns
-    shared-slice-read-if2
-    returns-2
-    add-k
-    loop-less
-    loop-again
-    returns-3)
+    tie.close (tie.spec Inv-loop μ-loop loop-holds next-requires returns shared-slice-read-if2 returns-2 (λ c. omega arith) (λ c. omega arith)
+    loop-again returns-3)

@@ -22,18 +22,6 @@ loop-holds : tie.Need-loop-holds Inv-loop μ-loop
 unfolding every
 loop-holds c = (omega arith, refl)
 
-add-b : tie.Need-add-b Inv-loop μ-loop
-add-b c = omega arith
-
-shared-slice-read-b : tie.Need-shared-slice-read-b Inv-loop μ-loop
-shared-slice-read-b c = omega arith
-
-add-n : tie.Need-add-n Inv-loop μ-loop
-add-n c = omega arith
-
-loop-less : tie.Need-loop-less Inv-loop μ-loop
-loop-less c = omega arith
-
 loop-again : tie.Need-loop-again Inv-loop μ-loop
 unfolding isLowerHex between
 loop-again c =
@@ -47,4 +35,5 @@ returns c =
     let o : l .n ≡ 16 = omega arith in rw o at (l .inv .1)
 
 pub hex16-spec : {M : Type 1} → statement M
-hex16-spec = tie.close (tie.spec Inv-loop μ-loop loop-holds add-b shared-slice-read-b add-n loop-less loop-again returns)
+hex16-spec =
+    tie.close (tie.spec Inv-loop μ-loop loop-holds (λ c. omega arith) (λ c. omega arith) (λ c. omega arith) (λ c. omega arith) loop-again returns)

@@ -15,4 +15,5 @@ returns-2 : tie.Need-returns-2
 returns-2 c = c .begins .ensures ∙ as-begins _ _ (sym (c .before .if1 .left) ∙ c .before .before .before .before .pre .1)
 
 pub is-spec : {M : Type 1} → statement M
-is-spec = tie.close (tie.spec returns begins-requires returns-2)
+is-spec =
+    tie.close (tie.spec returns begins-requires returns-2)

@@ -5,12 +5,6 @@ use Rattle.reference_parts.specs.Hex.{isLowerHex}
 use Rattle.reference_parts.proofs.part.is_lower_hex.Statement.{statement}
 use Rattle.reference_parts.proofs.part.is_lower_hex.Tie as tie
 
-between-requires : tie.Need-between-requires
-between-requires c κs = search needs
-
-between-requires-2 : tie.Need-between-requires-2
-between-requires-2 c κs = search needs
-
 returns : tie.Need-returns
 unfolding isLowerHex
 returns c = rw (← c .before .between .ensures, c .if1 .taken)
@@ -20,4 +14,5 @@ unfolding isLowerHex
 returns-2 c = rw (← c .between2 .ensures, ← c .before .before .between .ensures, c .before .if1 .left)
 
 pub is-lower-hex-spec : {M : Type 1} → statement M
-is-lower-hex-spec = tie.close (tie.spec between-requires between-requires-2 returns returns-2)
+is-lower-hex-spec =
+    tie.close (tie.spec (λ c κs. search needs) (λ c κs. search needs) returns returns-2)

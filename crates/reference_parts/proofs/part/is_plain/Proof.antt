@@ -28,15 +28,6 @@ loop-holds c = (
   refl,
 )
 
-add-if2 : tie.Need-add-if2 Inv-loop μ-loop
-add-if2 c = omega arith
-
-shared-slice-read-if2 : tie.Need-shared-slice-read-if2 Inv-loop μ-loop
-shared-slice-read-if2 c = omega arith
-
-shared-slice-read-if2-2 : tie.Need-shared-slice-read-if2-2 Inv-loop μ-loop
-shared-slice-read-if2-2 c = omega arith
-
 returns-2 : tie.Need-returns-2 Inv-loop μ-loop
 returns-2 c =
     let l = c .before .before .before .before in
@@ -44,12 +35,6 @@ returns-2 c =
     next-differs (drop (a .i) (a .s .now)) _ _ (l .loop .k) (l .loop .inv .1) (c .before .before .before .loop-test .taken) _ _
     (next-plain (a .s .now) (a .i) (l .loop .k) (omega arith)) (c .if2 .taken)
     ∙ as-begins _ _ (sym (l .before .if1 .left) ∙ l .before .before .pre .1)
-
-add-k : tie.Need-add-k Inv-loop μ-loop
-add-k c = omega arith
-
-loop-less : tie.Need-loop-less Inv-loop μ-loop
-loop-less c = omega arith
 
 loop-again : tie.Need-loop-again Inv-loop μ-loop
 loop-again c =
@@ -68,17 +53,5 @@ returns-3 c =
 
 pub is-plain-spec : {M : Type 1} → statement M
 is-plain-spec =
-    tie.close
-    (tie.spec
-    Inv-loop
-    μ-loop
-    returns
-    loop-holds
-    add-if2
-    shared-slice-read-if2
-    shared-slice-read-if2-2
-    returns-2
-    add-k
-    loop-less
-    loop-again
-    returns-3)
+    tie.close (tie.spec Inv-loop μ-loop returns loop-holds (λ c. omega arith) (λ c. omega arith) (λ c. omega arith) returns-2 (λ c. omega arith)
+    (λ c. omega arith) loop-again returns-3)

@@ -30,12 +30,4 @@ returns-2 c = char-byte _ _ (c .before .before .before .pre .0) (c .before .befo
 
 pub one-char-spec : {M : Type 1} → statement M
 one-char-spec =
-    tie.close
-    (tie.spec
-    shared-slice-read-b
-    read-escape-requires
-    encoded-requires
-    returns
-    add-t10
-    cast-t11
-    returns-2)
+    tie.close (tie.spec shared-slice-read-b read-escape-requires encoded-requires returns add-t10 cast-t11 returns-2)

@@ -5,13 +5,13 @@ use native.Mathlib.Omega.{arith}
 use lib.ListN.{length}
 use Rattle.text_strings.specs.InString.{Inside, contentFrom}
 use Rattle.text_strings.proofs.Cursors.{inside-within}
-use Rattle.reference_parts.proofs.Counting.{Progress, at-mark, at-divider, over-char, char-fits}
+use Rattle.reference_parts.proofs.Counting.{DigitsCounted, at-mark, at-divider, over-char, char-fits}
 use Rattle.reference_parts.proofs.Blocks.{begun}
 use Rattle.reference_parts.proofs.part.read.Statement.{statement}
 use Rattle.reference_parts.proofs.part.read.Tie as tie
 
 abbrev Inv-loop : tie.InvT-loop
-Inv-loop s i k₀ n₀ hex₀ k n hex = Inside s k × Progress (contentFrom s i) (contentFrom s k) n hex
+Inv-loop s i k₀ n₀ hex₀ k n hex = Inside s k × DigitsCounted (contentFrom s i) (contentFrom s k) n hex
 
 abbrev μ-loop : tie.MeasureT-loop
 μ-loop s i k₀ n₀ hex₀ k n hex = length s - k
@@ -46,9 +46,6 @@ add-length c =
     let l = x .before .before .before in
     omega (arith, char-fits _ (l .before .before .before .args .i) (l .loop .k) _ _ (l .loop .inv .1) _ (x .one-char .ensures) (l .before .before .before .pre))
 
-is-lower-hex-requires : tie.Need-is-lower-hex-requires Inv-loop μ-loop
-is-lower-hex-requires c κs = tt
-
 loop-less : tie.Need-loop-less Inv-loop μ-loop
 loop-less c =
     let x = c .before .before .before .before .one-char .ensures in
@@ -65,18 +62,5 @@ loop-again c =
 
 pub read-spec : {M : Type 1} → statement M
 read-spec =
-    tie.close
-    (tie.spec
-    Inv-loop
-    μ-loop
-    read-blocks-requires
-    sub-length
-    loop-holds
-    shared-slice-read-b
-    returns
-    one-char-requires
-    returns-2
-    add-length
-    is-lower-hex-requires
-    loop-less
-    loop-again)
+    tie.close (tie.spec Inv-loop μ-loop read-blocks-requires sub-length loop-holds shared-slice-read-b returns one-char-requires returns-2 add-length
+    (λ c κs. tt) loop-less loop-again)

@@ -50,4 +50,5 @@ returns : tie.Need-returns Inv-loop μ-loop
 returns c = c .before .before .loop .inv
 
 pub read-blocks-spec : {M : Type 1} → statement M
-read-blocks-spec = tie.close (tie.spec Inv-loop μ-loop loop-holds undivided16-requires hex16-requires add-k loop-less loop-again returns)
+read-blocks-spec =
+    tie.close (tie.spec Inv-loop μ-loop loop-holds undivided16-requires hex16-requires add-k loop-less loop-again returns)

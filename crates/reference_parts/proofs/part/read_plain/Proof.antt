@@ -4,24 +4,18 @@ use Prim.Native.Nat.{_-_, _≤_}
 use native.Mathlib.Omega.{arith}
 use lib.ListN.{length, drop, drop-of-length-le, length-drop}
 use Rattle.text_json.proofs.Places.{drop-next}
-use Rattle.reference_parts.proofs.Counting.{Progress, start, goes-on-byte, sizes, counts-divided, rest-divided, counts-last, rest-last}
+use Rattle.reference_parts.proofs.Counting.{DigitsCounted, start, goes-on-byte, sizes, counts-divided, rest-divided, counts-last, rest-last}
 use Rattle.reference_parts.proofs.part.read_plain.Statement.{statement}
 use Rattle.reference_parts.proofs.part.read_plain.Tie as tie
 
 abbrev Inv-loop : tie.InvT-loop
-Inv-loop s i k₀ n₀ hex₀ k n hex = (k ≤ length s) × Progress (drop i s) (drop k s) n hex
+Inv-loop s i k₀ n₀ hex₀ k n hex = (k ≤ length s) × DigitsCounted (drop i s) (drop k s) n hex
 
 abbrev μ-loop : tie.MeasureT-loop
 μ-loop s i k₀ n₀ hex₀ k n hex = length s - k
 
 loop-holds : tie.Need-loop-holds Inv-loop μ-loop
 loop-holds c = (c .before .pre, start _)
-
-shared-slice-read-b : tie.Need-shared-slice-read-b Inv-loop μ-loop
-shared-slice-read-b c = omega arith
-
-add-k : tie.Need-add-k Inv-loop μ-loop
-add-k c = omega arith
 
 returns : tie.Need-returns Inv-loop μ-loop
 returns c =
@@ -40,12 +34,6 @@ add-length c =
 cast-is-lower-hex : tie.Need-cast-is-lower-hex Inv-loop μ-loop
 cast-is-lower-hex c = omega (arith, c .before .shared-slice-known2 .given (c .before .before .before .loop .k))
 
-is-lower-hex-requires : tie.Need-is-lower-hex-requires Inv-loop μ-loop
-is-lower-hex-requires c κs = tt
-
-loop-less : tie.Need-loop-less Inv-loop μ-loop
-loop-less c = omega arith
-
 loop-again : tie.Need-loop-again Inv-loop μ-loop
 loop-again c =
     let l = c .before .before .before .before in
@@ -63,17 +51,5 @@ returns-2 c =
 
 pub read-plain-spec : {M : Type 1} → statement M
 read-plain-spec =
-    tie.close
-    (tie.spec
-    Inv-loop
-    μ-loop
-    loop-holds
-    shared-slice-read-b
-    add-k
-    returns
-    add-length
-    cast-is-lower-hex
-    is-lower-hex-requires
-    loop-less
-    loop-again
-    returns-2)
+    tie.close (tie.spec Inv-loop μ-loop loop-holds (λ c. omega arith) (λ c. omega arith) returns add-length cast-is-lower-hex (λ c κs. tt)
+    (λ c. omega arith) loop-again returns-2)

@@ -16,52 +16,23 @@ Inv-loop s records₀ count₀ i₀ records count i = Surveyed s records count i
 abbrev μ-loop : tie.MeasureT-loop
 μ-loop s records₀ count₀ i₀ records count i = length s - i
 
-no-record-requires : tie.Need-no-record-requires Inv-loop μ-loop
-no-record-requires c κs = search needs
-
 loop-holds : tie.Need-loop-holds Inv-loop μ-loop
 loop-holds c = nothing-read _ _ refl
-
-broken-requires : tie.Need-broken-requires Inv-loop μ-loop
-broken-requires c κs = search needs
 
 returns : tie.Need-returns Inv-loop μ-loop
 returns c =
     let t = c .before in
-    let l = t .before .before in
-    let a = l .before .before .before in
-    not-filled (now (a .args .s)) (c .broken .result) (c .broken .ensures)
-    (too-many (now (a .args .s)) (l .loop .records) (l .loop .count) (l .loop .i) (l .loop .inv) (t .before .loop-test .taken) (omega (
-      arith,
-      t .if1 .taken,
-      l .loop .inv .few,
-    )))
-
-read-requires : tie.Need-read-requires Inv-loop μ-loop
-read-requires c κs = search needs
-
-enum-told : tie.Need-enum-told Inv-loop μ-loop
-enum-told c = search needs
-
-broken-requires-2 : tie.Need-broken-requires-2 Inv-loop μ-loop
-broken-requires-2 c κs = search needs
+    let l = t .before .before .loop in
+    not-filled _ _ (c .broken .ensures) (too-many _ _ _ _ (l .inv) (t .before .loop-test .taken) (omega (arith, t .if1 .taken, l .inv .few)))
 
 returns-2 : tie.Need-returns-2 Inv-loop μ-loop
 returns-2 c =
     let r = c .before .before .before in
     let e = r .before in
-    let l = e .before .before in
-    let a = l .before .before .before in
-    not-filled (now (a .args .s)) (c .broken2 .result) (c .broken2 .ensures)
-    (no-more (now (a .args .s)) (l .loop .records) (l .loop .count) (l .loop .i) (l .loop .inv) (e .before .loop-test .taken) (omega (
-      arith,
-      e .if1 .left,
-      l .loop .inv .few,
-    ))
+    let l = e .before .before .loop in
+    not-filled _ _ (c .broken2 .ensures)
+    (no-more _ _ _ _ (l .inv) (e .before .loop-test .taken) (omega (arith, e .if1 .left, l .inv .few))
     (rw (c .before .enum-told .given .1) at (r .read .ensures)))
-
-enum-known-r : tie.Need-enum-known-r Inv-loop μ-loop
-enum-known-r c = search needs
 
 -- the record, once it is read
 record-here : (c : tie.After-r Inv-loop μ-loop)
@@ -100,22 +71,5 @@ returns-3 c = let l = c .before in all-read _ _ _ _ (l .loop .inv) (c .loop-test
 
 pub of-spec : {M : Type 1} → statement M
 of-spec =
-    tie.close
-    (tie.spec
-    Inv-loop
-    μ-loop
-    no-record-requires
-    loop-holds
-    broken-requires
-    returns
-    read-requires
-    enum-told
-    broken-requires-2
-    returns-2
-    enum-known-r
-    mul-records
-    array-set-from-records
-    add-count
-    loop-less
-    loop-again
-    returns-3)
+    tie.close (tie.spec Inv-loop μ-loop (λ c κs. search needs) loop-holds (λ c κs. search needs) returns (λ c κs. search needs) (λ c. search needs)
+    (λ c κs. search needs) returns-2 (λ c. search needs) mul-records array-set-from-records add-count loop-less loop-again returns-3)

@@ -14,4 +14,5 @@ unfolding between
 returns-2 c = simp (lt-leb _ _ (c .if1 .left))
 
 pub between-spec : {M : Type 1} → statement M
-between-spec = tie.close (tie.spec returns returns-2)
+between-spec =
+    tie.close (tie.spec returns returns-2)

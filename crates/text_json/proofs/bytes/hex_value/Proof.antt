@@ -12,20 +12,8 @@ use Rattle.text_json.proofs.bytes.hex_value.Tie as tie
 sub-result : tie.Need-sub-result
 sub-result c = hex-low _ (c .before .pre)
 
-cast-result : tie.Need-cast-result
-cast-result c = search needs
-
-sub-result-2 : tie.Need-sub-result-2
-sub-result-2 c = search needs
-
-cast-result-2 : tie.Need-cast-result-2
-cast-result-2 c = search needs
-
 sub-result-3 : tie.Need-sub-result-3
 sub-result-3 c = omega (arith, hex-lower _ (c .before .before .pre) (c .if2 .left))
-
-cast-result-3 : tie.Need-cast-result-3
-cast-result-3 c = search needs
 
 returns : tie.Need-returns
 unfolding hexValue
@@ -41,14 +29,5 @@ returns-3 c = rw (hexValue, lt-leb _ _ (c .before .if1 .left), lt-leb _ _ (c .if
 
 pub hex-value-spec : {M : Type 1} → statement M
 hex-value-spec =
-    tie.close
-    (tie.spec
-    sub-result
-    cast-result
-    sub-result-2
-    cast-result-2
-    sub-result-3
-    cast-result-3
-    returns
-    returns-2
+    tie.close (tie.spec sub-result (λ c. search needs) (λ c. search needs) (λ c. search needs) sub-result-3 (λ c. search needs) returns returns-2
     returns-3)

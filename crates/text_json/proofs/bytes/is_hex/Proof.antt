@@ -5,15 +5,6 @@ use Rattle.text_json.specs.Bytes.{isHex}
 use Rattle.text_json.proofs.bytes.is_hex.Statement.{statement}
 use Rattle.text_json.proofs.bytes.is_hex.Tie as tie
 
-between-requires : tie.Need-between-requires
-between-requires c κs = search needs
-
-between-requires-2 : tie.Need-between-requires-2
-between-requires-2 c κs = search needs
-
-between-requires-3 : tie.Need-between-requires-3
-between-requires-3 c κs = search needs
-
 returns : tie.Need-returns
 unfolding isHex
 returns c = rw (← c .before .between .ensures, c .if1 .taken)
@@ -31,5 +22,4 @@ returns-3 c =
 
 pub is-hex-spec : {M : Type 1} → statement M
 is-hex-spec =
-    tie.close
-    (tie.spec between-requires between-requires-2 between-requires-3 returns returns-2 returns-3)
+    tie.close (tie.spec (λ c κs. search needs) (λ c κs. search needs) (λ c κs. search needs) returns returns-2 returns-3)

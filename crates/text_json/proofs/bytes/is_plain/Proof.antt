@@ -5,9 +5,7 @@ use Rattle.text_json.specs.Bytes.{isPlain}
 use Rattle.text_json.proofs.bytes.is_plain.Statement.{statement}
 use Rattle.text_json.proofs.bytes.is_plain.Tie as tie
 
-returns : tie.Need-returns
-unfolding isPlain
-returns c = refl
-
 pub is-plain-spec : {M : Type 1} → statement M
-is-plain-spec = tie.close (tie.spec returns)
+unfolding isPlain
+is-plain-spec =
+    tie.close (tie.spec (λ c. refl))

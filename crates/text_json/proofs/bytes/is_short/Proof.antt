@@ -5,34 +5,6 @@ use Rattle.text_json.specs.Bytes.{isShort}
 use Rattle.text_json.proofs.bytes.is_short.Statement.{statement}
 use Rattle.text_json.proofs.bytes.is_short.Tie as tie
 
-returns : tie.Need-returns
-unfolding isShort
-returns c = rw (c .if1 .taken)
-
-returns-2 : tie.Need-returns-2
-unfolding isShort
-returns-2 c = rw (c .if2 .taken)
-
-returns-3 : tie.Need-returns-3
-unfolding isShort
-returns-3 c = rw (c .if3 .taken)
-
-returns-4 : tie.Need-returns-4
-unfolding isShort
-returns-4 c = rw (c .if4 .taken)
-
-returns-5 : tie.Need-returns-5
-unfolding isShort
-returns-5 c = rw (c .if5 .taken)
-
-returns-6 : tie.Need-returns-6
-unfolding isShort
-returns-6 c = rw (c .if6 .taken)
-
-returns-7 : tie.Need-returns-7
-unfolding isShort
-returns-7 c = rw (c .if7 .taken)
-
 returns-8 : tie.Need-returns-8
 unfolding isShort
 returns-8 c =
@@ -47,4 +19,7 @@ returns-8 c =
     )
 
 pub is-short-spec : {M : Type 1} → statement M
-is-short-spec = tie.close (tie.spec returns returns-2 returns-3 returns-4 returns-5 returns-6 returns-7 returns-8)
+unfolding isShort
+is-short-spec =
+    tie.close (tie.spec (λ c. rw (c .if1 .taken)) (λ c. rw (c .if2 .taken)) (λ c. rw (c .if3 .taken)) (λ c. rw (c .if4 .taken))
+    (λ c. rw (c .if5 .taken)) (λ c. rw (c .if6 .taken)) (λ c. rw (c .if7 .taken)) returns-8)

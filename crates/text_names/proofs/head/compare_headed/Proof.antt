@@ -22,13 +22,11 @@ returns-2 c =
     (λ k. omega (arith, c .before .before .shared-slice-known2 .given k)) (p .0) (p .1)
     (omega (arith, c .if2 .taken, p .2, p .3))
 
-compare-requires : tie.Need-compare-requires
-compare-requires c κs = search needs
-
 returns-3 : tie.Need-returns-3
 returns-3 c =
     let p = c .before .before .before .before .before .pre in
     c .compare .ensures _ _ (inside-content _ _ (p .0)) (inside-content _ _ (p .1))
 
 pub compare-headed-spec : {M : Type 1} → statement M
-compare-headed-spec = tie.close (tie.spec returns returns-2 compare-requires returns-3)
+compare-headed-spec =
+    tie.close (tie.spec returns returns-2 (λ c κs. search needs) returns-3)

@@ -33,9 +33,6 @@ loop-holds c = (c .before .pre, omega arith, omega arith, refl)
 shared-slice-read-b : tie.Need-shared-slice-read-b Inv-loop μ-loop
 shared-slice-read-b c = inside-within _ _ (c .before .before .loop .inv .0)
 
-new-requires : tie.Need-new-requires Inv-loop μ-loop
-new-requires c κs = search needs
-
 head-left-requires : tie.Need-head-left-requires Inv-loop μ-loop
 head-left-requires c κs =
     let inv = c .before .before .before .before .loop .inv in
@@ -46,17 +43,11 @@ returns c =
     let inv = c .before .before .before .before .before .loop .inv in
     c .head-left .ensures _ (new-left _ _ _ _ (c .before .new .ensures) (inside-content _ _ (inv .0))) ∙ sym (inv .3)
 
-sub-left : tie.Need-sub-left Inv-loop μ-loop
-sub-left c = omega arith
-
 mul-h : tie.Need-mul-h Inv-loop μ-loop
 mul-h c =
     let t = c .before .before .before in
     let l = t .before .loop in
     omega (arith, bound-fits (l .left) (l .h) 0 (t .loop-test .taken) (l .inv .1) (l .inv .2) (omega arith))
-
-loop-less : tie.Need-loop-less Inv-loop μ-loop
-loop-less c = omega arith
 
 loop-again : tie.Need-loop-again Inv-loop μ-loop
 loop-again c =
@@ -87,9 +78,6 @@ add-h c =
 add-at : tie.Need-add-at Inv-loop μ-loop
 add-at c = omega (arith, inside-within _ _ (c .before .before .before .before .loop .inv .0))
 
-loop-less-2 : tie.Need-loop-less-2 Inv-loop μ-loop
-loop-less-2 c = omega arith
-
 loop-again-2 : tie.Need-loop-again-2 Inv-loop μ-loop
 loop-again-2 c =
     let t = c .before .before .before in
@@ -106,23 +94,5 @@ returns-2 c = let l = c .before .loop in sym (l .inv .3 ∙ head-done (l .left) 
 
 pub head-spec : {M : Type 1} → statement M
 head-spec =
-    tie.close
-    (tie.spec
-    Inv-loop
-    μ-loop
-    loop-holds
-    shared-slice-read-b
-    new-requires
-    head-left-requires
-    returns
-    sub-left
-    mul-h
-    loop-less
-    loop-again
-    mul-h-2
-    cast-h
-    add-h
-    add-at
-    loop-less-2
-    loop-again-2
-    returns-2)
+    tie.close (tie.spec Inv-loop μ-loop loop-holds shared-slice-read-b (λ c κs. search needs) head-left-requires returns (λ c. omega arith) mul-h
+    (λ c. omega arith) loop-again mul-h-2 cast-h add-h add-at (λ c. omega arith) loop-again-2 returns-2)

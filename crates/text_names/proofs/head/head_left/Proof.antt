@@ -4,7 +4,7 @@ use Prim.Native.Nat.{ℕ, _-_, _*_, _≤_, _<_}
 use mathlib.Core.Path.{refl, sym, subst, _∙_}
 use native.Mathlib.Omega.{arith}
 use native.Mathlib.Nat.{add-zero}
-use Rattle.text_strings.specs.Cursor.{Left, Readable}
+use Rattle.text_strings.specs.Cursor.{Left, ReadableCursor}
 use Rattle.text_names.specs.Head.{headBound}
 use Rattle.text_strings.proofs.Cursors.{given-byte}
 use Rattle.text_names.proofs.Heads.{Continues, bound-more, bound-fits, head-done, cursor-end, cursor-byte}
@@ -12,7 +12,7 @@ use Rattle.text_names.proofs.head.head_left.Statement.{statement}
 use Rattle.text_names.proofs.head.head_left.Tie as tie
 
 abbrev Inv-loop : tie.InvT-loop
-Inv-loop s n start c₀ left₀ h₀ c left h = Readable s c × (left ≤ 4) × (h < headBound left) × Continues (Left s c₀) (Left s c) n start left h
+Inv-loop s n start c₀ left₀ h₀ c left h = ReadableCursor s c × (left ≤ 4) × (h < headBound left) × Continues (Left s c₀) (Left s c) n start left h
 
 abbrev μ-loop : tie.MeasureT-loop
 μ-loop s n start c₀ left₀ h₀ c left h = left
@@ -22,9 +22,6 @@ loop-holds c = let p = c .before .pre in (p .0, p .1, p .2, λ x q. (x, q, refl)
 
 next-requires : tie.Need-next-requires Inv-loop μ-loop
 next-requires c κs = c .before .loop .inv .0
-
-sub-left : tie.Need-sub-left Inv-loop μ-loop
-sub-left c = omega arith
 
 -- what was taken is a byte, and with it the number fits
 byte : (c : tie.After-struct-known Inv-loop μ-loop) → c .before .before .next .result .byte < 256
@@ -43,9 +40,6 @@ add-h c =
     let l = c .before .before .before .before .loop in
     omega (arith, bound-fits (l .left) (l .h) _ (c .before .before .before .loop-test .taken) (l .inv .1) (l .inv .2) (byte c))
 
-loop-less : tie.Need-loop-less Inv-loop μ-loop
-loop-less c = omega arith
-
 loop-again : tie.Need-loop-again Inv-loop μ-loop
 loop-again c =
     let n = c .before .before .before in
@@ -62,9 +56,6 @@ mul-h-2 : tie.Need-mul-h-2 Inv-loop μ-loop
 mul-h-2 c =
     let l = c .before .before .before .loop in
     omega (arith, bound-fits (l .left) (l .h) 0 (c .before .before .loop-test .taken) (l .inv .1) (l .inv .2) (omega arith))
-
-loop-less-2 : tie.Need-loop-less-2 Inv-loop μ-loop
-loop-less-2 c = omega arith
 
 loop-again-2 : tie.Need-loop-again-2 Inv-loop μ-loop
 loop-again-2 c =
@@ -83,19 +74,5 @@ returns c =
 
 pub head-left-spec : {M : Type 1} → statement M
 head-left-spec =
-    tie.close
-    (tie.spec
-    Inv-loop
-    μ-loop
-    loop-holds
-    next-requires
-    sub-left
-    mul-h
-    cast-h
-    add-h
-    loop-less
-    loop-again
-    mul-h-2
-    loop-less-2
-    loop-again-2
-    returns)
+    tie.close (tie.spec Inv-loop μ-loop loop-holds next-requires (λ c. omega arith) mul-h cast-h add-h (λ c. omega arith) loop-again mul-h-2
+    (λ c. omega arith) loop-again-2 returns)

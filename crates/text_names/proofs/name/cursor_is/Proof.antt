@@ -6,14 +6,14 @@ use Prim.Native.Nat.{_-_, _≤_}
 use mathlib.Core.Path.{refl}
 use native.Mathlib.Omega.{arith}
 use lib.ListN.{length, drop}
-use Rattle.text_strings.specs.Cursor.{Left, Readable}
+use Rattle.text_strings.specs.Cursor.{Left, ReadableCursor}
 use Rattle.text_strings.proofs.Cursors.{given-byte}
 use Rattle.text_names.proofs.Names.{Follows, cursor-ends, cursor-done, cursor-differs, cursor-same}
 use Rattle.text_names.proofs.name.cursor_is.Statement.{statement}
 use Rattle.text_names.proofs.name.cursor_is.Tie as tie
 
 abbrev Inv-loop : tie.InvT-loop
-Inv-loop s name at c₀ k₀ c k = Readable s c × (k ≤ length name) × Follows (Left s c₀) (Left s c) (drop k₀ name) (drop k name)
+Inv-loop s name at c₀ k₀ c k = ReadableCursor s c × (k ≤ length name) × Follows (Left s c₀) (Left s c) (drop k₀ name) (drop k name)
 
 abbrev μ-loop : tie.MeasureT-loop
 μ-loop s name at c₀ k₀ c k = length name - k
@@ -30,20 +30,11 @@ returns c =
     cursor-ends _ (d .next .result) _ _ (d .before .before .loop .k) (d .before .before .loop .inv .2) (d .next .ensures .0) (d .before .loop-test .taken)
     (not-true _ (c .if1 .taken))
 
-shared-slice-read-if2 : tie.Need-shared-slice-read-if2 Inv-loop μ-loop
-shared-slice-read-if2 c = search needs
-
 returns-2 : tie.Need-returns-2 Inv-loop μ-loop
 returns-2 c =
     let d = c .before .before .before .before .before in
     cursor-differs _ (d .next .result) _ _ (d .before .before .loop .k) (d .before .before .loop .inv .2) (d .next .ensures .0) (d .before .loop-test .taken)
     (not-false _ (c .before .before .before .if1 .left)) (c .if2 .taken)
-
-add-k : tie.Need-add-k Inv-loop μ-loop
-add-k c = omega arith
-
-loop-less : tie.Need-loop-less Inv-loop μ-loop
-loop-less c = omega arith
 
 loop-again : tie.Need-loop-again Inv-loop μ-loop
 loop-again c =
@@ -66,17 +57,5 @@ returns-3 c =
 
 pub cursor-is-spec : {M : Type 1} → statement M
 cursor-is-spec =
-    tie.close
-    (tie.spec
-    Inv-loop
-    μ-loop
-    loop-holds
-    next-requires
-    returns
-    shared-slice-read-if2
-    returns-2
-    add-k
-    loop-less
-    loop-again
-    next-requires-2
-    returns-3)
+    tie.close (tie.spec Inv-loop μ-loop loop-holds next-requires returns (λ c. search needs) returns-2 (λ c. omega arith) (λ c. omega arith)
+    loop-again next-requires-2 returns-3)

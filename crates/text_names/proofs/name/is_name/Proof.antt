@@ -30,18 +30,6 @@ loop-holds c =
       ap (λ (n : ℕ). same (contentFrom (now (a .s)) n) (now (a .name))) (sym (add-zero (a .i))),
     )
 
-add-b : tie.Need-add-b Inv-loop μ-loop
-add-b c = omega (arith, inside-within _ _ (c .before .loop .inv .0))
-
-shared-slice-read-b : tie.Need-shared-slice-read-b Inv-loop μ-loop
-shared-slice-read-b c = inside-within _ _ (c .before .before .loop .inv .0)
-
-add-new : tie.Need-add-new Inv-loop μ-loop
-add-new c = omega (arith, inside-within _ _ (c .before .before .before .loop .inv .0))
-
-new-requires : tie.Need-new-requires Inv-loop μ-loop
-new-requires c κs = search needs
-
 cursor-is-requires : tie.Need-cursor-is-requires Inv-loop μ-loop
 cursor-is-requires c κs =
     let inv = c .before .before .before .before .loop .inv in
@@ -51,9 +39,6 @@ returns : tie.Need-returns Inv-loop μ-loop
 returns c =
     let inv = c .before .before .before .before .before .loop .inv in
     c .cursor-is .ensures _ (new-left _ _ _ _ (c .before .new .ensures) (inside-content _ _ (inv .0))) ∙ sym (inv .2)
-
-shared-slice-read-if2 : tie.Need-shared-slice-read-if2 Inv-loop μ-loop
-shared-slice-read-if2 c = search needs
 
 returns-2 : tie.Need-returns-2 Inv-loop μ-loop
 returns-2 c =
@@ -66,12 +51,6 @@ returns-3 c =
     let d = c .before .before .before .before .before in
     let inv = d .before .loop .inv in
     ends-early _ _ (inv .0) _ _ (d .loop-test .taken) (c .if3 .taken) ∙ sym (inv .2)
-
-add-k : tie.Need-add-k Inv-loop μ-loop
-add-k c = omega arith
-
-loop-less : tie.Need-loop-less Inv-loop μ-loop
-loop-less c = omega arith
 
 loop-again : tie.Need-loop-again Inv-loop μ-loop
 loop-again c =
@@ -86,12 +65,6 @@ loop-again c =
       inv .2 ∙ e .0 ∙ ap (λ (n : ℕ). same (contentFrom (now (a .s)) n) (drop (k + 1) (now (a .name)))) (add-assoc (a .i) k 1),
     )
 
-add-result : tie.Need-add-result Inv-loop μ-loop
-add-result c = omega (arith, inside-within _ _ (c .before .loop .inv .0))
-
-shared-slice-read-result : tie.Need-shared-slice-read-result Inv-loop μ-loop
-shared-slice-read-result c = inside-within _ _ (c .before .before .loop .inv .0)
-
 returns-4 : tie.Need-returns-4 Inv-loop μ-loop
 returns-4 c =
     let d = c .before in
@@ -100,23 +73,7 @@ returns-4 c =
 
 pub is-name-spec : {M : Type 1} → statement M
 is-name-spec =
-    tie.close
-    (tie.spec
-    Inv-loop
-    μ-loop
-    loop-holds
-    add-b
-    shared-slice-read-b
-    add-new
-    new-requires
-    cursor-is-requires
-    returns
-    shared-slice-read-if2
-    returns-2
-    returns-3
-    add-k
-    loop-less
-    loop-again
-    add-result
-    shared-slice-read-result
-    returns-4)
+    tie.close (tie.spec Inv-loop μ-loop loop-holds (λ c. omega (arith, inside-within _ _ (c .before .loop .inv .0)))
+    (λ c. inside-within _ _ (c .before .before .loop .inv .0)) (λ c. omega (arith, inside-within _ _ (c .before .before .before .loop .inv .0)))
+    (λ c κs. search needs) cursor-is-requires returns (λ c. search needs) returns-2 returns-3 (λ c. omega arith) (λ c. omega arith) loop-again
+    (λ c. omega (arith, inside-within _ _ (c .before .loop .inv .0))) (λ c. inside-within _ _ (c .before .before .loop .inv .0)) returns-4)

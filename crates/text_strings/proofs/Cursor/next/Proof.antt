@@ -10,12 +10,6 @@ use Rattle.text_strings.proofs.Cursor.next.Lts as lts
 use Rattle.text_strings.proofs.from_escape.Reads as from-escape-reads
 use Rattle.text_strings.proofs.read_escape.Reads as read-escape-reads
 
-array-read-byte : tie.Need-array-read-byte
-array-read-byte c = search needs
-
-add-t16 : tie.Need-add-t16
-add-t16 c = search needs
-
 returns : tie.Need-returns
 returns c = (λ x l. gives-held _ _ x l (c .if1 .taken), λ _. omega arith)
 
@@ -24,12 +18,6 @@ shared-slice-read-byte c = byte-within _ _ (c .before .if1 .left) _ (c .before .
 
 returns-2 : tie.Need-returns-2
 returns-2 c = (λ x l. gives-end _ _ (c .before .before .if1 .left) x l (c .if2 .taken), λ e. false-true e)
-
-read-escape-requires : tie.Need-read-escape-requires
-read-escape-requires c κs = search needs
-
-from-escape-requires : tie.Need-from-escape-requires
-from-escape-requires c κs = search needs
 
 returns-3 : tie.Need-returns-3
 returns-3 c = (
@@ -50,15 +38,5 @@ returns-4 c = (
 
 pub next-spec : {M : Type 1} → statement M
 next-spec =
-    tie.close
-    (tie.spec
-    array-read-byte
-    add-t16
-    returns
-    shared-slice-read-byte
-    returns-2
-    read-escape-requires
-    from-escape-requires
-    returns-3
-    add-t20
-    returns-4)
+    tie.close (tie.spec (λ c. search needs) (λ c. search needs) returns shared-slice-read-byte returns-2 (λ c κs. search needs) (λ c κs. search needs)
+    returns-3 add-t20 returns-4)

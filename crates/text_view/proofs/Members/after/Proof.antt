@@ -23,4 +23,5 @@ returns : tie.Need-returns
 returns c = λ fs p q l first ends. gives-member _ _ fs l p q _ (λ ts r h. c .after-value .ensures _ _ true ts r p q h (first .place) ends)
 
 pub after-spec : {M : Type 1} → statement M
-after-spec = tie.close (tie.spec after-value-requires returns)
+after-spec =
+    tie.close (tie.spec after-value-requires returns)

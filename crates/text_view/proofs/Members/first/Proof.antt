@@ -4,15 +4,6 @@ use Rattle.text_view.proofs.Cursors.{gives-head, gives-no-head}
 use Rattle.text_view.proofs.Members.first.Statement.{statement}
 use Rattle.text_view.proofs.Members.first.Tie as tie
 
-peek-item-requires : tie.Need-peek-item-requires
-peek-item-requires c κs = search needs
-
-enum-known-first : tie.Need-enum-known-first
-enum-known-first c = search needs
-
-enum-told : tie.Need-enum-told
-enum-told c = search needs
-
 returns : tie.Need-returns
 returns c =
     let d = c .before .before .before in
@@ -24,4 +15,5 @@ returns-2 c =
     λ x l. gives-no-head _ _ x l (rw (c .enum-told .given .1) at (d .peek-item .ensures (l .trees) (l .rest) (l .derives)))
 
 pub first-spec : {M : Type 1} → statement M
-first-spec = tie.close (tie.spec peek-item-requires enum-known-first enum-told returns returns-2)
+first-spec =
+    tie.close (tie.spec (λ c κs. search needs) (λ c. search needs) (λ c. search needs) returns returns-2)

@@ -1,20 +1,13 @@
 -- `text_view::value::after_value` meets its contract: spaces, and a comma or the end mark. Assumes nothing.
 use borrow.Author.Needs.{needs}
-use native.Mathlib.Omega.{arith}
 use Rattle.text_view.proofs.Steps.{item-taken, item-next, some-next, gives-comma, gives-last}
 use Rattle.text_view.proofs.value.after_value.Statement.{statement}
 use Rattle.text_view.proofs.value.after_value.Tie as tie
-
-skip-spaces-requires : tie.Need-skip-spaces-requires
-skip-spaces-requires c κs = search needs
 
 shared-slice-read-if1 : tie.Need-shared-slice-read-if1
 shared-slice-read-if1 c =
     let d = c .before in
     some-next _ _ (d .before .before .pre) _ (d .skip-spaces .ensures .0) (d .skip-spaces .ensures .1 .1)
-
-add-result : tie.Need-add-result
-add-result c = search needs
 
 returns : tie.Need-returns
 returns c =
@@ -33,4 +26,5 @@ returns-2 c =
     (item-taken _ at depth object p v place _ ends _ (e .1 .1) ts rest h)
 
 pub after-value-spec : {M : Type 1} → statement M
-after-value-spec = tie.close (tie.spec skip-spaces-requires shared-slice-read-if1 add-result returns returns-2)
+after-value-spec =
+    tie.close (tie.spec (λ c κs. search needs) shared-slice-read-if1 (λ c. search needs) returns returns-2)

@@ -21,9 +21,6 @@ string-end-requires c κs = key-inside _ _ _ (c .if1 .left) (c .before .before .
 skip-spaces-requires : tie.Need-skip-spaces-requires
 skip-spaces-requires c κs = c .string-end .ensures .within
 
-add-skip-spaces : tie.Need-add-skip-spaces
-add-skip-spaces c = search needs
-
 skip-spaces-requires-2 : tie.Need-skip-spaces-requires-2
 skip-spaces-requires-2 c κs =
     let a = c .before .before .before .before in
@@ -42,12 +39,4 @@ returns-2 c =
 
 pub item-value-spec : {M : Type 1} → statement M
 item-value-spec =
-    tie.close
-    (tie.spec
-    returns
-    add-string-end
-    string-end-requires
-    skip-spaces-requires
-    add-skip-spaces
-    skip-spaces-requires-2
-    returns-2)
+    tie.close (tie.spec returns add-string-end string-end-requires skip-spaces-requires (λ c. search needs) skip-spaces-requires-2 returns-2)

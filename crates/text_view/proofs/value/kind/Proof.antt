@@ -38,13 +38,4 @@ returns-7 c =
 
 pub kind-spec : {M : Type 1} → statement M
 kind-spec =
-    tie.close
-    (tie.spec
-    shared-slice-read-match
-    returns
-    returns-2
-    returns-3
-    returns-4
-    returns-5
-    returns-6
-    returns-7)
+    tie.close (tie.spec shared-slice-read-match returns returns-2 returns-3 returns-4 returns-5 returns-6 returns-7)

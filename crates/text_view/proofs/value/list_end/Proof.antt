@@ -20,4 +20,5 @@ returns : tie.Need-returns
 returns c = let e = c .skip-spaces .ensures in λ depth object rest h. empty-ends _ _ _ (e .0) (e .1 .1) depth object rest h
 
 pub list-end-spec : {M : Type 1} → statement M
-list-end-spec = tie.close (tie.spec skip-spaces-requires add-result returns)
+list-end-spec =
+    tie.close (tie.spec skip-spaces-requires add-result returns)

@@ -32,9 +32,6 @@ no-mark c e = c .if1 .left (e ∙ sym (c .before .end-mark .ensures))
 shared-slice-read-if1 : tie.Need-shared-slice-read-if1
 shared-slice-read-if1 c = let p = c .before .before .before .pre in started-within _ _ _ _ (p .trees) (p .rest) (start (c .before) _ _ (p .here))
 
-end-mark-requires : tie.Need-end-mark-requires
-end-mark-requires c κs = search needs
-
 returns : tie.Need-returns
 returns c =
     let d = c .before .before .before in
@@ -54,11 +51,4 @@ returns-2 c =
 
 pub peek-item-spec : {M : Type 1} → statement M
 peek-item-spec =
-    tie.close
-    (tie.spec
-    skip-spaces-requires
-    shared-slice-read-if1
-    end-mark-requires
-    returns
-    item-value-requires
-    returns-2)
+    tie.close (tie.spec skip-spaces-requires shared-slice-read-if1 (λ c κs. search needs) returns item-value-requires returns-2)

@@ -1,96 +1,65 @@
--- `text_view::value::read_item` meets its contract: spaces, the end mark or an item, and what follows the item. Assumes nothing.
+-- `text_view::value::read_item` meets its contract: what looking for an item gives, and what follows the item or the end mark. Assumes nothing.
 use borrow.Author.Needs.{needs}
-use Prim.Native.Nat.{ℕ, _<_}
-use mathlib.Core.Path.{_≡_, sym, _∙_}
-use mathlib.Core.List.{List}
-use native.Mathlib.Omega.{arith}
 use denote.Ref.{now}
-use lib.ListN.{getD}
-use Rattle.text_view.specs.Listed.{Tree, endMark, ListAt, ItemAt}
-use Rattle.text_view.proofs.Items.{Started, started}
-use Rattle.text_view.proofs.Steps.{list-within, started-within, gives-end, some-item, item-readable}
+use Rattle.text_view.specs.Listed.{ItemAt, Peeks}
+use Rattle.text_view.specs.declared.value.Peek.the-variants.{At as PeekAt}
+use Rattle.text_view.proofs.Steps.{seen-place, seen-readable, seen-none, gives-end}
 use Rattle.text_view.proofs.value.read_item.Statement.{statement}
 use Rattle.text_view.proofs.value.read_item.Tie as tie
 
-skip-spaces-requires : tie.Need-skip-spaces-requires
-skip-spaces-requires c κs =
-    let a = c .before in
-    let p = a .pre in
-    omega (arith, list-within (now (a .args .s)) (a .args .at) (a .args .depth) (a .args .object) (p .trees) (p .rest) (p .here))
-
--- what stands at the first byte after spaces
-start : (c : tie.After-skip-spaces) → let a = c .before .before .args in
-    (ts : List (Tree (a .object))) (r : List ℕ) → ListAt (now (a .s)) (a .at) (a .depth) (a .object) ts r
-    → Started (now (a .s)) (c .skip-spaces .result) (a .depth) (a .object) ts r
-start c ts r h = started _ _ _ _ (c .before .before .args .at) ts r (c .skip-spaces .ensures .1 .1) h
-
--- an item stands there where the end mark does not
-no-mark : (c : tie.Else1) → let d = c .before .before .before in
-    getD (now (d .before .before .args .s)) (d .skip-spaces .result) 0 ≡ endMark (d .before .before .args .object) → ⊥
-no-mark c e = c .if1 .left (e ∙ sym (c .before .end-mark .ensures))
-
-shared-slice-read-if1 : tie.Need-shared-slice-read-if1
-shared-slice-read-if1 c = let p = c .before .before .before .pre in started-within _ _ _ _ (p .trees) (p .rest) (start (c .before) _ _ (p .here))
-
-end-mark-requires : tie.Need-end-mark-requires
-end-mark-requires c κs = search needs
-
-add-t12 : tie.Need-add-t12
-add-t12 c = search needs
-
-returns : tie.Need-returns
-returns c =
-    let d = c .before .before .before in
-    λ ts r h. gives-end _ _ _ _ _ ts r (d .skip-spaces .ensures .0) (c .if1 .taken ∙ c .before .end-mark .ensures) (start d ts r h)
-
-item-value-requires : tie.Need-item-value-requires
-item-value-requires c κs =
-    let d = c .before .before .before in
-    let p = d .before .before .pre in
-    some-item _ _ _ _ (no-mark c) (p .trees) (p .rest) (start d _ _ (p .here))
+-- what looking for an item saw: the item and its value
+seen : (c : tie.After-first) → let d = c .before .before .before .before in
+    Peeks (now (d .args .s)) (d .args .at) (d .args .depth) (d .args .object) (d .pre .trees) (PeekAt (c .first .given .0 .0) (c .first .given .0 .1 .0))
+seen c = let p = c .before .before .before .before .pre in rw (c .first .given .1) at (c .before .before .peek-item .ensures (p .trees) (p .rest) (p .here))
 
 skip-requires : tie.Need-skip-requires
 skip-requires c κs =
-    let d = c .before .before .before .before in
-    let p = d .before .before .pre in
-    item-readable _ _ _ _ (no-mark (c .before)) _ (c .item-value .ensures) (p .trees) (p .rest) (start d _ _ (p .here))
+    let d = c .before .before .before .before .before in
+    seen-readable (now (d .args .s)) (d .args .at) (d .args .depth) (d .args .object) _ _ (d .pre .trees) (seen (c .before))
 
--- where the item and its value stand
-place : (c : tie.After-item-value) → let d = c .before .before .before .before in let a = d .before .before .args in
-    ItemAt (now (a .s)) (a .at) (a .object) (d .skip-spaces .result) (c .item-value .result)
+-- where they stand
+place : (c : tie.After-first) → let a = c .before .before .before .before .args in
+    ItemAt (now (a .s)) (a .at) (a .object) (c .first .given .0 .0) (c .first .given .0 .1 .0)
 place c =
-    let e = c .before .before .before .before .skip-spaces .ensures in
-    record { reached = e .0; start = e .1 .1; more = no-mark (c .before); value = c .item-value .ensures }
+    let d = c .before .before .before .before in
+    seen-place (now (d .args .s)) (d .args .at) (d .args .depth) (d .args .object) _ _ (d .pre .trees) (seen c)
 
 after-value-requires : tie.Need-after-value-requires
 after-value-requires c κs =
-    let d = c .before in
+    let e = c .before .before in
     record {
       at = _;
       depth = _;
       object = _;
-      list = d .before .before .before .before .before .before .pre;
+      list = e .before .before .before .before .pre;
       first = _;
       value = _;
-      place = place d;
+      place = place e;
       ends = c .skip .ensures;
     }
 
+list-end-requires : tie.Need-list-end-requires
+list-end-requires c κs =
+    let d = c .before .before in
+    let a = d .before .before .args in
+    let p = d .before .before .pre in
+    seen-none (now (a .s)) (a .at) (a .depth) (a .object) (p .trees) (p .rest) (p .here)
+    (rw (c .enum-told .given .1) at (d .peek-item .ensures (p .trees) (p .rest) (p .here)))
+
+returns : tie.Need-returns
+returns c =
+    let d = c .before in
+    λ ts r h. c .after-value .ensures _ _ _ ts r _ _ h (place (d .before .before)) (d .skip .ensures)
+
 returns-2 : tie.Need-returns-2
 returns-2 c =
-    let d = c .before in
-    λ ts r h. c .after-value .ensures _ _ _ ts r _ _ h (place (d .before)) (d .skip .ensures)
+    let e = c .before in
+    let a = e .before .before .before .before .args in
+    λ ts r h.
+    gives-end (now (a .s)) (a .at) (a .depth) (a .object) _ ts r h (rw (e .enum-told .given .1) at (e .before .before .peek-item .ensures ts r h))
+    (c .list-end .ensures _ _ r)
 
 pub read-item-spec : {M : Type 1} → statement M
 read-item-spec =
-    tie.close
-    (tie.spec
-    skip-spaces-requires
-    shared-slice-read-if1
-    end-mark-requires
-    add-t12
-    returns
-    item-value-requires
-    skip-requires
-    after-value-requires
+    tie.close (tie.spec (λ c κs. search needs) (λ c. search needs) skip-requires after-value-requires (λ c. search needs) list-end-requires returns
     returns-2)

@@ -4,11 +4,9 @@ use Rattle.text_view.proofs.Values.{root-at}
 use Rattle.text_view.proofs.value.root.Statement.{statement}
 use Rattle.text_view.proofs.value.root.Tie as tie
 
-skip-spaces-requires : tie.Need-skip-spaces-requires
-skip-spaces-requires c κs = search needs
-
 returns : tie.Need-returns
 returns c = let e = c .skip-spaces .ensures .1 in (λ d t p. root-at _ d _ t (e .1) p, e)
 
 pub root-spec : {M : Type 1} → statement M
-root-spec = tie.close (tie.spec skip-spaces-requires returns)
+root-spec =
+    tie.close (tie.spec (λ c κs. search needs) returns)

@@ -24,9 +24,6 @@ string-end-requires c κs = string-inside _ _ (c .before .before .before .pre) (
 number-requires : tie.Need-number-requires
 number-requires c κs = omega (arith, scalar-within _ _ (c .before .before .before .pre))
 
-token-end-requires : tie.Need-token-end-requires
-token-end-requires c κs = search needs
-
 returns : tie.Need-returns
 returns c = ends-four _ _ (c .before .before .before .pre) (c .match .keys1)
 
@@ -45,16 +42,5 @@ returns-4 c =
 
 pub scalar-end-spec : {M : Type 1} → statement M
 scalar-end-spec =
-    tie.close
-    (tie.spec
-    shared-slice-read-match
-    add-result
-    add-result-2
-    add-string-end
-    string-end-requires
-    number-requires
-    token-end-requires
-    returns
-    returns-2
-    returns-3
-    returns-4)
+    tie.close (tie.spec shared-slice-read-match add-result add-result-2 add-string-end string-end-requires number-requires (λ c κs. search needs)
+    returns returns-2 returns-3 returns-4)

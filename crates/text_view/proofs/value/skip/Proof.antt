@@ -27,11 +27,4 @@ returns-2 c = scalar-ends _ _ _ (c .before .match .rest .1) _ (c .scalar-end .en
 
 pub skip-spec : {M : Type 1} → statement M
 skip-spec =
-    tie.close
-    (tie.spec
-    shared-slice-read-match
-    add-skip-nested
-    skip-nested-requires
-    scalar-end-requires
-    returns
-    returns-2)
+    tie.close (tie.spec shared-slice-read-match add-skip-nested skip-nested-requires scalar-end-requires returns returns-2)

@@ -73,23 +73,5 @@ returns c = counted-done _ _ _ _ (omega (arith, c .loop-test .left)) (c .before 
 
 pub skip-nested-spec : {M : Type 1} → statement M
 skip-nested-spec =
-    tie.close
-    (tie.spec
-    Inv-loop
-    μ-loop
-    loop-holds
-    shared-slice-read-b
-    add-string-end
-    string-end-requires
-    loop-less
-    loop-again
-    add-i
-    add-open
-    loop-less-2
-    loop-again-2
-    sub-open
-    loop-less-3
-    loop-again-3
-    loop-less-4
-    loop-again-4
-    returns)
+    tie.close (tie.spec Inv-loop μ-loop loop-holds shared-slice-read-b add-string-end string-end-requires loop-less loop-again add-i add-open
+    loop-less-2 loop-again-2 sub-open loop-less-3 loop-again-3 loop-less-4 loop-again-4 returns)

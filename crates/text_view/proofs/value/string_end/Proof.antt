@@ -5,7 +5,8 @@ use mathlib.Core.Path.{sym, _∙_}
 use native.Mathlib.Omega.{arith}
 use denote.Ref.{now}
 use lib.ListN.{length}
-use Rattle.text_view.proofs.Passing.{inside-within, run-fits, Reaches, reaches-start, reaches-run, reaches-end}
+use Rattle.text_strings.proofs.Cursors.{inside-within}
+use Rattle.text_view.proofs.Passing.{run-fits, Reaches, reaches-start, reaches-run, reaches-end}
 use Rattle.text_view.proofs.value.string_end.Statement.{statement}
 use Rattle.text_view.proofs.value.string_end.Tie as tie
 
@@ -42,14 +43,4 @@ returns c = reaches-end _ _ _ (c .before .before .before .loop .inv) _ (c .strin
 
 pub string-end-spec : {M : Type 1} → statement M
 string-end-spec =
-    tie.close
-    (tie.spec
-    Inv-loop
-    μ-loop
-    loop-holds
-    unmarked-left-requires
-    add-i
-    loop-less
-    loop-again
-    string-rest-requires
-    returns)
+    tie.close (tie.spec Inv-loop μ-loop loop-holds unmarked-left-requires add-i loop-less loop-again string-rest-requires returns)

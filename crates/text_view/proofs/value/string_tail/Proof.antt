@@ -3,7 +3,8 @@
 use Prim.Native.Nat.{_-_}
 use native.Mathlib.Omega.{arith}
 use lib.ListN.{length}
-use Rattle.text_view.proofs.Passing.{inside-within, escape-here, Reaches, reaches-start, reaches-byte, reaches-char, reaches-close}
+use Rattle.text_strings.proofs.Cursors.{inside-within, escape-here}
+use Rattle.text_view.proofs.Passing.{Reaches, reaches-start, reaches-byte, reaches-char, reaches-close}
 use Rattle.text_view.proofs.value.string_tail.Statement.{statement}
 use Rattle.text_view.proofs.value.string_tail.Tie as tie
 
@@ -47,17 +48,5 @@ loop-again-2 c = reaches-byte _ _ _ (c .before .before .before .loop .inv) (c .b
 
 pub string-tail-spec : {M : Type 1} → statement M
 string-tail-spec =
-    tie.close
-    (tie.spec
-    Inv-loop
-    μ-loop
-    loop-holds
-    shared-slice-read-b
-    add-result
-    returns
-    escape-end-requires
-    loop-less
-    loop-again
-    add-i
-    loop-less-2
+    tie.close (tie.spec Inv-loop μ-loop loop-holds shared-slice-read-b add-result returns escape-end-requires loop-less loop-again add-i loop-less-2
     loop-again-2)

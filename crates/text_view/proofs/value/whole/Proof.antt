@@ -4,34 +4,24 @@ use Prim.Native.Nat.{ℕ, _+_}
 use mathlib.Core.Path.{_≡_, ap, _∙_}
 use native.Mathlib.Omega.{arith}
 use denote.Ref.{now}
-use lib.Dec.{eqb}
-use lib.ListN.{getD}
 use Rattle.text_json.specs.Content.{decimal}
-use Rattle.text_numbers.proofs.Numerals.{signs-most}
 use Rattle.text_view.proofs.Values.{within}
-use Rattle.text_view.proofs.Numbers.{number-parts, int-value, no-int}
+use Rattle.text_view.proofs.Numbers.{number-parts, int-value, after-sign, always-digits}
 use Rattle.text_view.proofs.value.whole.Statement.{statement}
 use Rattle.text_view.proofs.value.whole.Tie as tie
 
 shared-slice-read-negative : tie.Need-shared-slice-read-negative
 shared-slice-read-negative c = let p = c .before .before .pre in within _ _ (p .depth) _ (p .here)
 
-sign-size-requires : tie.Need-sign-size-requires
-sign-size-requires c κs = search needs
-
 add-int-part : tie.Need-add-int-part
 add-int-part c =
-    let a = c .before .before .before .args in
     let p = c .before .before .before .pre in
-    let f = c .sign-size .ensures in
-    omega (arith, within (now (a .s)) (a .at) (p .depth) _ (p .here), signs-most (eqb (getD (now (a .s)) (a .at) 0) 0x2D))
+    omega (arith, after-sign _ _ (p .depth) _ (p .here) _ (c .sign-size .ensures))
 
 int-part-requires : tie.Need-int-part-requires
 int-part-requires c κs =
-    let a = c .before .before .before .args in
     let p = c .before .before .before .pre in
-    let f = c .sign-size .ensures in
-    omega (arith, within (now (a .s)) (a .at) (p .depth) _ (p .here), signs-most (eqb (getD (now (a .s)) (a .at) 0) 0x2D))
+    after-sign _ _ (p .depth) _ (p .here) _ (c .sign-size .ensures)
 
 -- the digits that are required are those that were read
 magnitude : (c : tie.After-known-told) → c .before .value .given .0 .1 .0 ≡ decimal (c .before .before .before .before .before .before .before .pre .digits)
@@ -43,17 +33,11 @@ magnitude c =
     int-value _ _ _ (ap (λ (n : ℕ). a .at + n) (d .before .sign-size .ensures)) _ _ (k .1 .1) _ _ (p .small)
     (rw (c .before .value .given .1) at (d .int-part .ensures))
 
-enum-known-value : tie.Need-enum-known-value
-enum-known-value c = search needs
-
 cast-t11 : tie.Need-cast-t11
 cast-t11 c =
     let f = magnitude c in
     let h = c .before .before .before .before .before .before .before .pre .small in
     omega arith
-
-enum-told : tie.Need-enum-told
-enum-told c = search needs
 
 returns : tie.Need-returns
 returns c =
@@ -67,21 +51,9 @@ returns c =
 returns-2 : tie.Need-returns-2
 returns-2 c =
     let d = c .before .before in
-    let a = d .before .before .before .before .args in
-    λ x n ds v. let k = number-parts (now (a .s)) (a .at) x n ds v in
-    no-int _ _ _ (ap (λ (m : ℕ). a .at + m) (d .before .sign-size .ensures)) _ _ (k .1 .1) _
-    (rw (c .enum-told .given .1) at (d .int-part .ensures))
+    λ x n ds v. always-digits _ _ x n ds v _ (d .before .sign-size .ensures) _ (rw (c .enum-told .given .1) at (d .int-part .ensures))
 
 pub whole-spec : {M : Type 1} → statement M
 whole-spec =
-    tie.close
-    (tie.spec
-    shared-slice-read-negative
-    sign-size-requires
-    add-int-part
-    int-part-requires
-    enum-known-value
-    cast-t11
-    enum-told
-    returns
-    returns-2)
+    tie.close (tie.spec shared-slice-read-negative (λ c κs. search needs) add-int-part int-part-requires (λ c. search needs) cast-t11
+    (λ c. search needs) returns returns-2)

@@ -5,26 +5,13 @@ use Rattle.reference_digests.specs.Algorithms.{numbered}
 use Rattle.reference_digests.proofs.algorithm.Algorithm.from_byte.Statement.{statement}
 use Rattle.reference_digests.proofs.algorithm.Algorithm.from_byte.Tie as tie
 
-returns : tie.Need-returns
-unfolding numbered
-returns c = rw (c .match .keys1)
-
-returns-2 : tie.Need-returns-2
-unfolding numbered
-returns-2 c = rw (c .match .keys2)
-
-returns-3 : tie.Need-returns-3
-unfolding numbered
-returns-3 c = rw (c .match .keys3)
-
 returns-4 : tie.Need-returns-4
 unfolding numbered
-returns-4 c = let b = c .before .args .b in simp (
-  numbered,
-  ne-eqb b 1 (c .match .rest .0 .0 .1),
-  ne-eqb b 2 (c .match .rest .0 .1),
-  ne-eqb b 3 (c .match .rest .1),
-)
+returns-4 c =
+    let rest = c .match .rest in
+    simp (numbered, ne-eqb _ _ (rest .0 .0 .1), ne-eqb _ _ (rest .0 .1), ne-eqb _ _ (rest .1))
 
 pub from-byte-spec : {M : Type 1} → statement M
-from-byte-spec = tie.close (tie.spec returns returns-2 returns-3 returns-4)
+unfolding numbered
+from-byte-spec =
+    tie.close (tie.spec (λ c. rw (c .match .keys1)) (λ c. rw (c .match .keys2)) (λ c. rw (c .match .keys3)) returns-4)
