@@ -2,6 +2,7 @@
 use answer::Answer;
 use lookup_outcome::Failure;
 use lookup_outcome::Outcome;
+use manifest::MOST_ENTRIES;
 use reference::LayerIndex;
 ghost use mathlib.Core.Path.{_≡_};
 ghost use mathlib.Core.List.{List, map};
@@ -38,7 +39,7 @@ pub fn write_layers(
         → Resolves (lowest (layerQuestions (outcome ds (map (endOf room) (drop objects refs))) (length (now (out .entry)))))
         (outcome ds (map (endOf room) (drop objects refs))) (now (out .entry)) r (now (out .exit))) ⌝ }
 {
-    let mut numbers = [0u16; 64];
+    let mut numbers = [0u16; MOST_ENTRIES];
     let count = keys.len() - objects;
     match lookup_outcome::check_all(b, keys, next, objects, present, &mut numbers) {
         Outcome::Fails(layer, f) => failed(out, layer, f),

@@ -20,7 +20,7 @@ fn show_place(json: &[u8]) {
 }
 
 fn show(json: &[u8]) {
-    let mut out = [0u8; 16384];
+    let mut out = [0u8; text::MOST_BYTES];
     let a = text::canonical(json, &mut out);
     io::print_decimal(1, a.number as u64);
     if text::is_canonical(json) {
@@ -28,7 +28,7 @@ fn show(json: &[u8]) {
     }
     io::write_all(1, b" ");
     let n = a.value;
-    if n <= 16384 {
+    if n <= text::MOST_BYTES {
         io::write_all(1, &out[..n]);
     }
     show_place(json);

@@ -62,6 +62,7 @@ use Rattle.test_cases.specs.Cases.{holds, every, numberRead, elsewhere, 
 use Rattle.test_cases.specs.Cases.{allZero}
 use Rattle.test_cases.specs.Cases.{reports, emptyStore, idWith, accepting, guardLoad, otherLoad, plainLoad, cases}
 
+-- Every case holds.
 pub all-hold : every cases ≡ true
 unfolding same leq within table leadIn lead utf8From utf8 encode between isSpace isDigit isExp isSign isHex hexValue isUnescaped isShort shortValue
     elements members andThen spaces readWord digitsOf afterDigits readSomeDigits readInt readFrac readSigned readExp readUnsigned readNumber

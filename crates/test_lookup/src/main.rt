@@ -9,6 +9,9 @@ use test_lines::State;
 ghost use Prim.Native.Nat.{_≤_, _*_};
 ghost use lib.ListN.{length};
 
+// The longest output buffer that a line may ask for.
+const MOST_OUTPUT: usize = 4096;
+
 // Resolves with a layer list that is written into `list`, and this output buffer.
 fn resolve_into(
     hex: &[u8],
@@ -45,7 +48,7 @@ fn with_list(hex: &[u8], store: &[u8], used: usize, place: usize, out: &mut [u8]
 
 // How long the output buffer is, a space, and the layer list.
 fn with_buffer(words: &[u8], store: &[u8], used: usize, place: usize) {
-    let mut space = [FILL; 4096];
+    let mut space = [FILL; MOST_OUTPUT];
     let out: &mut [u8] = &mut space;
     let end = lines::find(words, 0, b' ');
     if end == words.len() {

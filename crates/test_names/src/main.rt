@@ -2,6 +2,7 @@
 // common, whether an alias of a layer stands in both with different objects, and, where the first layer of the second is an alias, the index of that
 // alias's object in the first and what the object is; else `-`. A line that is no pair of good manifests is `bad`.
 use manifest::Checked;
+use manifest::MOST_NAMES;
 use manifest::Places;
 use manifest_aliases::Object;
 use reference::LayerIndex;
@@ -9,6 +10,9 @@ use reference::layer::Layer;
 ghost use Prim.Native.Nat.{_≤_};
 ghost use lib.ListN.{length};
 ghost use Rattle.manifest.specs.Opened.{Opens};
+
+// The most bytes that a manifest may have.
+const MOST_BYTES: usize = 16384;
 
 fn say(yes: bool) {
     if yes {
@@ -22,9 +26,9 @@ fn say(yes: bool) {
 fn show_shared(s: &[u8], p: Places, t: &[u8], q: Places)
     requires { ⌜ Opens (now s) p × Opens (now t) q ⌝ }
 {
-    let mut names = [0u16; 4096];
-    let mut spare = [0u16; 4096];
-    let mut heads = [0u32; 4096];
+    let mut names = [0u16; MOST_NAMES];
+    let mut spare = [0u16; MOST_NAMES];
+    let mut heads = [0u32; MOST_NAMES];
     let n = manifest_aliases::sort_self(s, p, &mut names, &mut spare);
     manifest_aliases::fill_heads(s, &names[..n], &mut heads);
     let shared = manifest_aliases::shares_self(s, &names[..n], &heads, t, q);
@@ -35,10 +39,10 @@ fn show_shared(s: &[u8], p: Places, t: &[u8], q: Places)
 fn show_conflict(s: &[u8], p: Places, t: &[u8], q: Places)
     requires { ⌜ Opens (now s) p × Opens (now t) q ⌝ }
 {
-    let mut names = [0u16; 4096];
-    let mut spare = [0u16; 4096];
-    let mut keys = [0u16; 16384];
-    let mut heads = [0u32; 4096];
+    let mut names = [0u16; MOST_NAMES];
+    let mut spare = [0u16; MOST_NAMES];
+    let mut keys = [0u16; MOST_BYTES];
+    let mut heads = [0u32; MOST_NAMES];
     let n = manifest_aliases::sort_contents(s, p, &mut names, &mut spare, &mut keys);
     manifest_aliases::fill_heads(s, &names[..n], &mut heads);
     let conflict = manifest_aliases::conflicts(s, &names[..n], &heads, &keys, t, q);
