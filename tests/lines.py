@@ -1,5 +1,5 @@
-"""What store_lines.py and lookup_lines.py share: the lines that `test_lines` reads, what a program prints for each by the implementation in
-reference/, images for them, and comparing with the files that are stored beside a program."""
+"""What store_lines.py and lookup_lines.py share: the lines that the program `test_store` reads, what it prints for each by the implementation in
+reference/, images for them, and comparing with the files that are stored beside it."""
 
 import json
 import os
@@ -7,15 +7,20 @@ import sys
 
 HERE = os.path.dirname(os.path.abspath(__file__))
 sys.path.insert(0, os.path.join(HERE, "reference"))
+from lookup import resolve  # noqa: E402
+from policy import judge  # noqa: E402
 from store import Image, load, read_id, record  # noqa: E402
 
-INPUT = 131072  # bytes that a program takes
+INPUT = 262144  # bytes that the program takes
 BUFFER = 32768  # the longest buffer
+REPORT = 8192  # the longest report buffer
+OUTPUT = 4096  # the longest output buffer
+LIST = 2048  # the longest layer list
 FILL = 0xEE
 DIGITS = {"sha224": 56, "sha256": 64, "sha384": 96}
 
 
-# ---- What a program prints
+# ---- What the program prints
 
 
 class Refused(Exception):
@@ -23,11 +28,12 @@ class Refused(Exception):
 
 
 class Bench:
-    """A buffer and its used count, worked on line by line: the numbers of the loads, and what the program's own call answers each time."""
+    """A buffer and its used count, worked on line by line: the numbers of the loads, and the answers of the judges and the resolves."""
 
     def __init__(self):
         self.buffer, self.used, self.numbers, self.calls = bytearray(), 0, [], []
-        self.works = [(b"new ", self.new), (b"load ", self.load), (b"put ", self.put), (b"used ", self.set_used)]
+        self.works = [(b"new ", self.new), (b"load ", self.load), (b"put ", self.put), (b"used ", self.set_used), (b"judge ", self.judge),
+                      (b"resolve ", self.resolve)]
 
     def new(self, words):
         size = decimal(words)
@@ -62,6 +68,25 @@ class Bench:
             raise Refused
         after = self.buffer[self.used :]
         return [self.buffer[: self.used].hex().encode(), b"%d" % (len(after) - after.count(FILL))]
+
+    def judge(self, words):
+        size = decimal(words)
+        if size > REPORT:
+            raise Refused
+        number, pairs, written = judge(self.buffer, self.used, size)
+        self.calls.append((number, written))
+        return [b"%d %d" % (number, pairs), written.hex().encode(), b"0"]
+
+    def resolve(self, words):
+        place, words = split(words)
+        place = decimal(place)
+        size, digits = split(words)
+        size, layer_list = decimal(size), pairs(digits)
+        if size > OUTPUT or len(layer_list) > LIST:
+            raise Refused
+        number, value, written = resolve(self.buffer, self.used, layer_list, place, size)
+        self.calls.append((number, value, written))
+        return [b"%d %d" % (number, value), written.hex().encode(), b"0"]
 
     def answer(self, line):
         """What the program prints for a line."""
@@ -135,7 +160,7 @@ def made(given_id, manifest):
 
 
 class Lines:
-    """The lines, the number that each load among them has to get, and what each of the program's own calls has to answer."""
+    """The lines, the number that each load among them has to get, and what each judge and each resolve has to answer."""
 
     def __init__(self):
         self.lines, self.numbers, self.calls = [], [], []
@@ -166,19 +191,23 @@ class Lines:
         self.used(len(data))
 
 
-def main(script, program, bench, made_here, call):
+def main(script, program, *parts):
     """Compares: the numbers and answers written out by hand with those of the reference, and both with the files stored beside the program."""
-    given = b"".join(line + b"\n" for line in made_here.lines)
+    made_here = [line for part in parts for line in part.lines]
+    numbers = [number for part in parts for number in part.numbers]
+    calls = [call for part in parts for call in part.calls]
+    bench = Bench()
+    given = b"".join(line + b"\n" for line in made_here)
     wanted = b"".join(a + b"\n" for line in given.split(b"\n")[:-1] for a in bench.answer(line))
     if len(given) > INPUT:
         sys.exit("%s: %d bytes are more than the program takes" % (script, len(given)))
-    if bench.numbers != made_here.numbers:
-        k = next(k for k, (x, y) in enumerate(zip(bench.numbers, made_here.numbers)) if x != y)
-        line = [line for line in made_here.lines if line.startswith(b"load ") and b" " in line[5:]][k]
-        sys.exit("%s: the reference gives %d and not %d: %r" % (script, bench.numbers[k], made_here.numbers[k], line[:400]))
-    if bench.calls != made_here.calls:
-        k = next(k for k, (x, y) in enumerate(zip(bench.calls, made_here.calls)) if x != y)
-        sys.exit("%s: %s %d: the reference gives %r and not %r" % (script, call, k, bench.calls[k], made_here.calls[k]))
+    if bench.numbers != numbers:
+        k = next(k for k, (x, y) in enumerate(zip(bench.numbers, numbers)) if x != y)
+        line = [line for line in made_here if line.startswith(b"load ") and b" " in line[5:]][k]
+        sys.exit("%s: the reference gives %d and not %d: %r" % (script, bench.numbers[k], numbers[k], line[:400]))
+    if bench.calls != calls:
+        k = next(k for k, (x, y) in enumerate(zip(bench.calls, calls)) if x != y)
+        sys.exit("%s: judge or resolve %d: the reference gives %r and not %r" % (script, k, bench.calls[k], calls[k]))
     for kind, data in (("stdin", given), ("stdout", wanted)):
         path = os.path.join(HERE, "..", "crates", program, kind)
         if sys.argv[1:] == ["--write"]:
@@ -187,5 +216,5 @@ def main(script, program, bench, made_here, call):
         with open(path, "rb") as f:
             if f.read() != data:
                 sys.exit("%s: crates/%s/%s is not what %s.py makes" % (script, program, kind, script))
-    print("%s: %d lines of %s, %d of them loads and %d %ss, are those made here"
-          % (script, len(made_here.lines), program, len(bench.numbers), len(bench.calls), call))
+    print("%s: %d lines of %s, %d of them loads and %d judges and resolves, are those made here"
+          % (script, len(made_here), program, len(bench.numbers), len(bench.calls)))

@@ -1,38 +1,15 @@
-"""The lines that the program `test_lookup` reads, case by case, and what it has to print by the implementation in reference/.
-
-    lookup_lines.py           compares crates/test_lookup/stdin and stdout with these
-    lookup_lines.py --write   writes both files
+"""The lines of the program `test_store` that resolve, case by case, which store_lines.py has before its own, where there is no buffer yet, and after them.
 
 The number that each load gets, and the number, the value and the output of each resolve, are written out here beside it, from document 01's
 words."""
 
 import lines
-from lines import DIGITS, KA, KHA, V, Refused, decimal, layer, made, name, pairs, split, text
-from lookup import resolve
+from lines import DIGITS, KA, KHA, OUTPUT, V, layer, made, name, text
 
-OUTPUT = 4096  # the longest output buffer
-LIST = 2048  # the longest layer list
 ROOMY = 64 * 49  # long enough for any output
 A, B = "a" * 56, "b" * 56
 FIRST, SECOND = KA * 22, KA * 21 + KHA  # they differ in byte 66 only
 LONG = "p" * 64
-
-
-class Bench(lines.Bench):
-    def __init__(self):
-        super().__init__()
-        self.works.append((b"resolve ", self.resolve))
-
-    def resolve(self, words):
-        place, words = split(words)
-        place = decimal(place)
-        size, digits = split(words)
-        size, layer_list = decimal(size), pairs(digits)
-        if size > OUTPUT or len(layer_list) > LIST:
-            raise Refused
-        number, value, written = resolve(self.buffer, self.used, layer_list, place, size)
-        self.calls.append((number, value, written))
-        return [b"%d %d" % (number, value), written.hex().encode(), b"0"]
 
 
 def entries(layers):
@@ -61,7 +38,6 @@ class Lines(lines.Lines):
 def digests(b):
     """Layers by their digests: the entries of the output, their order and repeats; exact fits."""
     one, two, three = layer("1"), layer("2", "sha256"), layer("3", "sha384")
-    b.resolve(16, 0, 0, [])  # before any buffer
     b.new(2000)
     b.resolve(16, 0, 0, [])
     b.load(0, name("a", "0"))  # no layers, and an empty list of them
@@ -344,11 +320,18 @@ def bad_lines(b):
     b.new(100)
     for line in (b"resolve", b"resolve ", b"resolve 0", b"resolve 0 ", b"resolve 0 1", b"resolve  1 ", b"resolve 0  ", b"resolve x 1 ", b"resolve 0 x ",
                  b"resolve 0 -1 ", b"resolve 0 1 0", b"resolve 0 1 0g", b"resolve 0 1 0A", b"resolve 0 1  ", b"resolve 0 4097 ", b"resolve 0 0 " + b"0" * 4098,
-                 b"resolve 18446744073709551616 0 ", b"resolve 0 18446744073709551616 ", b"judge 0", b"show ", b""):
+                 b"resolve 18446744073709551616 0 ", b"resolve 0 18446744073709551616 ", b"resolved 0 0 ", b"show ", b""):
         b.line(line)
     b.resolve(16, 0, 0, [])
     b.resolve(15, 0, 0, b"\0" * 2048)
     b.resolve(16, 0, 0, [], size=4096)
+
+
+def first_lines():
+    """Before any buffer."""
+    b = Lines()
+    b.resolve(16, 0, 0, [])
+    return b
 
 
 def all_lines():
@@ -356,6 +339,3 @@ def all_lines():
     for part in (digests, aliases, names, own_names, undefined, endless, absent, first_failing, bad_lists, places, damaged, full, bad_lines):
         part(b)
     return b
-
-
-lines.main("lookup_lines", "test_lookup", Bench(), all_lines(), "resolve")

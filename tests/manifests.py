@@ -1,4 +1,4 @@
-"""Compares the program `test_manifests` with an independent implementation of questions 7 to 9 on generated manifests, good
+"""Compares the program `test_reading` with an independent implementation of questions 7 to 9 on generated manifests, good
 ones, ones that break one rule and ones that break several. Called with the program's path."""
 
 import json
@@ -11,7 +11,8 @@ sys.path.insert(0, os.path.join(os.path.dirname(os.path.abspath(__file__)), "ref
 from manifest import FIELDS, number  # noqa: E402
 
 COUNT = 200000
-INPUT = 65000  # bytes that one run of the program takes
+INPUT = 131072  # bytes that one run of the program takes
+ASKED = b"number "  # what a line begins with
 
 rand = random.Random(20260102)
 below = rand.randrange
@@ -100,7 +101,7 @@ def manifest():
 
 
 def answers(program, texts):
-    run = subprocess.run([program], input=b"".join(t + b"\n" for t in texts), stdout=subprocess.PIPE, check=True)
+    run = subprocess.run([program], input=b"".join(ASKED + t + b"\n" for t in texts), stdout=subprocess.PIPE, check=True)
     return [int(n) for n in run.stdout.split()]
 
 
@@ -121,14 +122,15 @@ def main():
     for i in range(COUNT):
         v = manifest()
         t = json.dumps(v, ensure_ascii=bool(below(2)), indent=None).encode()
-        if size + len(t) + 1 > INPUT or i == COUNT - 1:
+        needed = len(ASKED) + len(t) + 1
+        if size + needed > INPUT or i == COUNT - 1:
             for n in compare(program, texts, values):
                 seen[n] += 1
             texts, values, size = [], [], 0
         if len(t) <= 16384:
             texts.append(t)
             values.append(v)
-            size += len(t) + 1
+            size += needed
     for n in compare(program, texts, values):
         seen[n] += 1
     print("manifests: %d manifests alike: %s"

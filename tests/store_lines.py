@@ -3,29 +3,15 @@
     store_lines.py           compares crates/test_store/stdin and stdout with these
     store_lines.py --write   writes both files
 
-The number that each load gets, and the number and the pairs of each judge, are written out here beside it, from document 01's words."""
+The number that each load gets, and the number and the pairs of each judge, are written out here beside it, from document 01's words. The lines
+that resolve are those of lookup_lines.py."""
 
 import lines
-from lines import DIGITS, KA, KHA, V, Refused, decimal, layer, made, name, text
-from policy import judge
+import lookup_lines
+from lines import DIGITS, KA, KHA, REPORT, V, layer, made, name, text
 from store import number_bytes
 
-REPORT = 8192  # the longest report buffer
 ROOMY = 2 * 64 * 63  # long enough for any report
-
-
-class Bench(lines.Bench):
-    def __init__(self):
-        super().__init__()
-        self.works.append((b"judge ", self.judge))
-
-    def judge(self, words):
-        size = decimal(words)
-        if size > REPORT:
-            raise Refused
-        number, pairs, written = judge(self.buffer, self.used, size)
-        self.calls.append((number, written))
-        return [b"%d %d" % (number, pairs), written.hex().encode(), b"0"]
 
 
 class Lines(lines.Lines):
@@ -413,4 +399,4 @@ def all_lines():
     return b
 
 
-lines.main("store_lines", "test_store", Bench(), all_lines(), "judge")
+lines.main("store_lines", "test_store", lookup_lines.first_lines(), all_lines(), lookup_lines.all_lines())

@@ -1,4 +1,3 @@
-pub mod Comparing
 pub mod Entries
 pub mod Listing
 pub mod Reading

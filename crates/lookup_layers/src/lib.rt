@@ -1,12 +1,12 @@
 // The layer list that resolve is lent: a run of entries, each the byte of an algorithm and a digest.
 use reference_digests::algorithm::Algorithm;
 use reference_digests::algorithm::Known;
+use reference_digests::digest;
 ghost use mathlib.Core.Path.{_≡_};
 ghost use mathlib.Core.List.{List};
 ghost use mathlib.Core.Option.{some};
 ghost use Prim.Native.Nat.{_<_};
 ghost use lib.ListN.{length};
-ghost use Rattle.laws.specs.Order.{same};
 ghost use Rattle.lookup_layers.specs.Layers.{LayerDigest, isList, isListed, layersIn};
 ghost use Rattle.lookup_layers.specs.Reading.{Reads, SomeList};
 
@@ -61,22 +61,6 @@ pub fn is_list(s: &[u8]) -> bool
     true
 }
 
-// The bytes a and b are the same.
-fn equal(a: &[u8], b: &[u8]) -> bool
-    ensures { λ r. ⌜ r ≡ same (now (a .entry)) (now (b .entry)) ⌝ }
-{
-    if a.len() != b.len() {
-        return false;
-    }
-    let mut all = true;
-    let mut i = 0;
-    while i < a.len() {
-        all &= a[i] == b[i];
-        i += 1;
-    }
-    all
-}
-
 // The layer with that algorithm and digest is in the layer list s.
 pub fn has(s: &[u8], a: Algorithm, digest: &[u8]) -> bool
     requires { ⌜ SomeList (now s) ⌝ }
@@ -93,7 +77,7 @@ pub fn has(s: &[u8], a: Algorithm, digest: &[u8]) -> bool
                 next,
             } => {
                 if algorithm.byte() == a.byte() {
-                    if equal(&s[from..next], digest) {
+                    if digest::equal(&s[from..next], digest) {
                         return true;
                     }
                 }

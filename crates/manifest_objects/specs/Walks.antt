@@ -1,45 +1,16 @@
 -- The walks over a group of aliases and over an array of strings: what they require, and what they have written.
-use Prim.Native.Nat.{ℕ, _+_, _^_, _<_, _≤_}
+use Prim.Native.Nat.{ℕ, _+_, _<_, _≤_}
 use mathlib.Core.Path.{_≡_}
-use mathlib.Core.List.{List, map, _++_}
-use mathlib.Core.Bool.{true}
-use lib.ListN.{length, take, drop, getD}
-use Rattle.text_content.specs.Value.{Values, Fields, array, object}
-use Rattle.text_view.specs.Place.{ValueAt}
-use Rattle.reference.specs.References.{Layer, layer, no-layer}
-use Rattle.manifest_entries.specs.Entries.{allPass, count}
-use Rattle.manifest_entries.specs.declared.entry.Entry.the-variants.{Text}
+use mathlib.Core.List.{List, _++_}
+use lib.ListN.{length, take, getD}
+use Rattle.text_content.specs.Value.{Values}
+use Rattle.reference.specs.References.{Layer, no-layer}
+use Rattle.manifest_entries.specs.Entries.{count}
 use Rattle.manifest_fields.specs.Accessors.{texts}
 use Rattle.manifest_repeat.specs.Names.{Collectable, GroupAt}
 use Rattle.manifest.specs.Manifest.{Alias, aliasesTo}
 use Rattle.manifest.specs.Names.{keysOf, objects}
-use Rattle.manifest_objects.specs.Objects.{AllStand, Listed}
-
--- what the strings of an array say as references to layers
-unfoldable pub said : Values → List Layer
-said vs = map layer (texts vs)
-
--- an object of at most 64 members in a text that stands from `start` on in some bytes, and space for the positions of its keys
-pub record PlaceableGroup (s : List ℕ) (start at depth : ℕ) (keys : List ℕ) : Type 0 where
-  pub fields : Fields
-  pub here : ValueAt s at depth (object fields)
-  pub few : length (keysOf fields) ≤ 64
-  pub space : 64 ≤ length keys
-  pub short : start + length s < 2 ^ 63
-
--- an array of at most 64 strings there, and space for their positions
-pub record PlaceableList (s : List ℕ) (start at depth : ℕ) (keys : List ℕ) : Type 0 where
-  pub values : Values
-  pub here : ValueAt s at depth (array values)
-  pub strings : allPass Text true values ≡ true
-  pub few : count values ≤ 64
-  pub space : 64 ≤ length keys
-  pub short : start + length s < 2 ^ 63
-
--- At the first r positions of `after` stand the references ls, in any bytes in which s stands from `start` on; the other positions are as they were.
-pub record Placed (s : List ℕ) (start : ℕ) (before after : List ℕ) (r : ℕ) (ls : List Layer) : Type 0 where
-  pub rest : drop r after ≡ drop r before
-  pub stand : (b : List ℕ) (m : ℕ) → s ≡ take m (drop start b) → AllStand b (take r after) ls
+use Rattle.manifest_objects.specs.Objects.{Listed}
 
 -- an array of strings whose positions fit behind the first n of `names`, as does the number o of their object behind those of `owners`
 pub record Listable (s : List ℕ) (at depth o : ℕ) (names owners : List ℕ) (n : ℕ) : Type 0 where

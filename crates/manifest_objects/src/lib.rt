@@ -5,8 +5,6 @@ use manifest_fields::member::Found;
 use manifest_index::Range;
 use reference::layer::Layer;
 use reference_digests::algorithm::Algorithm;
-use text_view::Element;
-use text_view::Elements;
 use text_view::Member;
 use text_view::Members;
 ghost use mathlib.Core.Path.{_≡_};
@@ -18,10 +16,10 @@ ghost use Rattle.text_content.specs.Value.{Values, Fields, array, object};
 ghost use Rattle.text_view.specs.Place.{ValueAt};
 ghost use Rattle.manifest_index.specs.Index.{SomeNameIndex};
 ghost use Rattle.manifest.specs.Manifest.{aliasesOf, layers, contents};
-ghost use Rattle.manifest.specs.Names.{keysOf, objects};
+ghost use Rattle.manifest.specs.Names.{objects};
 ghost use Rattle.manifest.specs.Opened.{Opens, Denotes};
 ghost use Rattle.manifest_objects.specs.Objects.{StandsAt, SomeReference, isAliasOf, AllStand, Listed, NameStands, SomeName, Named};
-ghost use Rattle.manifest_objects.specs.Walks.{PlaceableGroup, PlaceableList, Placed, said, Listable, AddsListed, ListableGroup};
+ghost use Rattle.manifest_objects.specs.Walks.{Listable, AddsListed, ListableGroup};
 
 // The reference that stands from position k of b on.
 pub fn read(b: &[u8], k: usize) -> Layer
@@ -52,27 +50,6 @@ pub fn is_alias_of(b: &[u8], k: usize, a: Algorithm, signer: &[u8]) -> bool
     }
 }
 
-// Writes the positions of the keys of the group at position `at` of s at the start of `keys`, as positions in the bytes in which s stands from `start`
-// on, and answers how many there are.
-fn place_keys(s: &[u8], start: usize, at: usize, depth: usize, keys: &mut [usize]) -> usize
-    requires { ⌜ PlaceableGroup (now s) start at depth (now keys) ⌝ }
-    ensures { λ r. ⌜ (r ≤ 64) × (length (now (keys .exit)) ≡ length (now (keys .entry))) × ((fs : Fields) → ValueAt (now (s .entry)) at depth (object fs)
-        → Placed (now (s .entry)) start (now (keys .entry)) (now (keys .exit)) r (keysOf fs)) ⌝ }
-{
-    let mut left = Members::new(s, at, depth);
-    let mut n = 0;
-    loop {
-        match left.next(s) {
-            Member::End => return n,
-            Member::At { key, rest, .. } => {
-                keys[n] = start + key + 1;
-                n += 1;
-                left = rest;
-            }
-        }
-    }
-}
-
 // Writes the positions of the objects of `contents`, which are its keys, at the start of `keys`, and answers how many there are.
 pub fn place_objects(b: &[u8], start: usize, end: usize, p: Places, keys: &mut [usize]) -> usize
     requires { ⌜ (start ≤ end) × (end ≤ length (now b)) × Opens (take (end - start) (drop start (now b))) p × (64 ≤ length (now keys)) ⌝ }
@@ -80,30 +57,7 @@ pub fn place_objects(b: &[u8], start: usize, end: usize, p: Places, keys: &mut [
         × AllStand (now (b .entry)) (take r (now (keys .exit))) (objects (take (end - start) (drop start (now (b .entry))))) ⌝ }
 {
     let objects = p.contents;
-    match objects {
-        Found::Missing => 0,
-        Found::At(at) => place_keys(&b[start..end], start, at, 6, keys),
-    }
-}
-
-// The same of the strings of the array at position `at` of s.
-fn place_strings(s: &[u8], start: usize, at: usize, depth: usize, keys: &mut [usize]) -> usize
-    requires { ⌜ PlaceableList (now s) start at depth (now keys) ⌝ }
-    ensures { λ r. ⌜ (r ≤ 64) × (length (now (keys .exit)) ≡ length (now (keys .entry))) × ((vs : Values) → ValueAt (now (s .entry)) at depth (array vs)
-        → Placed (now (s .entry)) start (now (keys .entry)) (now (keys .exit)) r (said vs)) ⌝ }
-{
-    let mut left = Elements::new(s, at, depth);
-    let mut n = 0;
-    loop {
-        match left.next(s) {
-            Element::End => return n,
-            Element::At(q, rest) => {
-                keys[n] = start + q + 1;
-                n += 1;
-                left = rest;
-            }
-        }
-    }
+    manifest_strings::place(&b[start..end], start, objects, 6, true, keys)
 }
 
 // Writes the positions of the layers at the start of `keys`, and answers how many there are.
@@ -113,10 +67,7 @@ pub fn place_layers(b: &[u8], start: usize, end: usize, p: Places, keys: &mut [u
         × AllStand (now (b .entry)) (take r (now (keys .exit))) (layers (take (end - start) (drop start (now (b .entry))))) ⌝ }
 {
     let list = p.layers;
-    match list {
-        Found::Missing => 0,
-        Found::At(at) => place_strings(&b[start..end], start, at, 7, keys),
-    }
+    manifest_strings::place(&b[start..end], start, list, 7, false, keys)
 }
 
 // Puts the positions of the strings of an array behind the first n of `names`, and for each the number of their object into `owners`; answers how many

@@ -1,48 +1,22 @@
 // The rules of a launch policy one by one: their strings are found in one walk, each is read once, and then matched with images. Which of them have an
 // alias that it asks for is looked up before, in an index of all their own aliases.
 use manifest::Places;
-use manifest_fields::member::Found;
 use manifest_view::matching::signer_matches;
 use reference::rule::Manifest;
 use reference::rule::Rule;
 use reference_digests::algorithm::Algorithm;
-use text_view::Element;
-use text_view::Elements;
 ghost use mathlib.Core.Path.{_≡_};
 ghost use mathlib.Core.List.{List};
 ghost use Prim.Native.Nat.{ℕ, _≤_};
 ghost use lib.ListN.{length, take};
 ghost use Rattle.laws.specs.Any.{anyOf};
-ghost use Rattle.text_content.specs.Value.{Values, array};
-ghost use Rattle.text_view.specs.Place.{ValueAt};
 ghost use Rattle.reference.specs.Matches.{manifestMatches, matches as matchesBy};
 ghost use Rattle.reference.specs.Readings.{ManifestAt, manifestForm};
 ghost use Rattle.reference.specs.References.{Rule as PolicyRule, Signer, accepts, image-id};
 ghost use Rattle.manifest.specs.Asks.{asksFor};
 ghost use Rattle.manifest.specs.Manifest.{rules};
 ghost use Rattle.manifest.specs.Opened.{Opens, ReadsRule, SomeRule};
-ghost use Rattle.manifest_rules.specs.RulePlaces.{RuleAt, SomeRuleAt, RulesAt, saidRules, PlaceableRules};
-
-// Writes the positions of the strings of the array at position q of s at the start of `at`, each behind its quotation mark, and answers how many there
-// are.
-fn place_strings(s: &[u8], q: usize, at: &mut [usize]) -> usize
-    requires { ⌜ PlaceableRules (now s) q (now at) ⌝ }
-    ensures { λ r. ⌜ (r ≤ 64) × (length (now (at .exit)) ≡ length (now (at .entry)))
-        × ((vs : Values) → ValueAt (now (s .entry)) q 6 (array vs) → RulesAt (now (s .entry)) (take r (now (at .exit))) (saidRules vs)) ⌝ }
-{
-    let mut left = Elements::new(s, q, 6);
-    let mut n = 0;
-    loop {
-        match left.next(s) {
-            Element::End => return n,
-            Element::At(k, rest) => {
-                at[n] = k + 1;
-                n += 1;
-                left = rest;
-            }
-        }
-    }
-}
+ghost use Rattle.manifest_rules.specs.RulePlaces.{RuleAt, SomeRuleAt, RulesAt};
 
 // Writes the positions of the rules at the start of `at`, in the text's order, and answers how many there are.
 pub fn place(s: &[u8], p: Places, at: &mut [usize]) -> usize
@@ -51,10 +25,7 @@ pub fn place(s: &[u8], p: Places, at: &mut [usize]) -> usize
         × RulesAt (now (s .entry)) (take r (now (at .exit))) (rules (now (s .entry))) ⌝ }
 {
     let list = p.accepts;
-    match list {
-        Found::Missing => 0,
-        Found::At(q) => place_strings(s, q, at),
-    }
+    manifest_strings::place(s, 0, list, 6, false, at)
 }
 
 // The rule that stands from position k of s on.

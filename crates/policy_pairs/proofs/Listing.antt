@@ -46,12 +46,6 @@ module _ (p : ℕ → ℕ → Bool) (g : ℕ) where
       go : length (pairsWith p g (suc o) m) ≤ m → length (pairsWith p g o (suc m)) ≤ suc m
       go ih = by-test (p g o) (λ e. rw (with-taken o m e) (omega arith)) (λ e. rw (with-left o m e) (omega arith))
 
-  -- Where no place passes there is no pair.
-  pub with-none : (o m : ℕ) → ((x : ℕ) → p g x ≡ false) → pairsWith p g o m ≡ []
-  unfolding pairsWith
-  with-none o zero h = refl
-  with-none o (suc m) h = with-left o m (h o) ∙ with-none (suc o) m h
-
   -- The next pair is the last so far.
   pub with-next-taken : (o : ℕ) → p g o ≡ true → pairsWith p g 0 (o + 1) ≡ pairsWith p g 0 o ++ pair g o ∷ []
   unfolding pairsWith

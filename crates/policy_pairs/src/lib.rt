@@ -3,27 +3,35 @@ use policy_marks::Table;
 use policy_marks::has;
 ghost use mathlib.Core.Path.{_≡_};
 ghost use mathlib.Core.List.{_++_};
-ghost use Prim.Native.Nat.{_*_, _≤_, _<_};
+ghost use Prim.Native.Nat.{ℕ, _*_, _≤_, _<_};
 ghost use lib.ListN.{length, drop};
 ghost use Rattle.policy_marks.specs.Pairs.{pairsWith, pairsIn, isReported, reportOf};
-ghost use Rattle.policy_marks.specs.Words.{guardsIn, rowsIn};
+ghost use Rattle.policy_marks.specs.Words.{guardsIn, rowsIn, rowOf, rowsOf};
+
+// The pair of images g and o is reported, by the words of a closed table that has both: g is a guard, o another image, and there is no mark for the two.
+fn is_reported(guards: u64, rows: &[u64; 64], g: usize, o: usize) -> bool
+    requires { ⌜ (g < 64) × (o < 64) ⌝ }
+    ensures { λ r. ⌜ ((n : ℕ) → n ≤ length (now (rows .entry)) → g < n → o < n → r ≡ isReported (rowOf n guards) (rowsOf n (now (rows .entry))) g o) ⌝ }
+{
+    if !has(guards, g) {
+        return false;
+    }
+    if g == o {
+        return false;
+    }
+    !has(rows[g], o)
+}
 
 // How many pairs guard g of a closed table is reported in.
 fn count_row(t: Table, g: usize) -> usize
     requires { ⌜ (t .count ≤ 64) × (g < t .count) ⌝ }
     ensures { λ r. ⌜ r ≡ length (pairsWith (isReported (guardsIn t) (rowsIn t)) g 0 (t .count)) ⌝ }
 {
-    if !has(t.guards, g) {
-        return 0;
-    }
-    let row = t.rows[g];
     let mut n = 0;
     let mut o = 0;
     while o < t.count {
-        if o != g {
-            if !has(row, o) {
-                n += 1;
-            }
+        if is_reported(t.guards, &t.rows, g, o) {
+            n += 1;
         }
         o += 1;
     }
@@ -50,20 +58,13 @@ fn write_row(t: Table, g: usize, out: &mut [u8]) -> usize
     ensures { λ r. ⌜ r ≡ 2 * length (pairsWith (isReported (guardsIn t) (rowsIn t)) g 0 (t .count)) ⌝ }
     ensures { λ r. ⌜ now (out .exit) ≡ reportOf (pairsWith (isReported (guardsIn t) (rowsIn t)) g 0 (t .count)) ++ drop r (now (out .entry)) ⌝ }
 {
-    let guards = t.guards;
-    if !has(guards, g) {
-        return 0;
-    }
-    let row = t.rows[g];
     let mut n = 0;
     let mut o = 0;
     while o < t.count {
-        if g != o {
-            if !has(row, o) {
-                out[n] = g as u8;
-                out[n + 1] = o as u8;
-                n += 2;
-            }
+        if is_reported(t.guards, &t.rows, g, o) {
+            out[n] = g as u8;
+            out[n + 1] = o as u8;
+            n += 2;
         }
         o += 1;
     }

@@ -24,6 +24,22 @@ pub fn is_digest(a: Algorithm, digits: usize, hex: bool) -> bool
     if digits == a.hex_digits() { hex } else { false }
 }
 
+// Two runs of bytes, as those of two digests, are the same. Every byte is compared, without a branch, so that the compiler makes vector code of it.
+pub fn equal(a: &[u8], b: &[u8]) -> bool
+    ensures { λ r. ⌜ r ≡ same (now (a .entry)) (now (b .entry)) ⌝ }
+{
+    if a.len() != b.len() {
+        return false;
+    }
+    let mut all = true;
+    let mut i = 0;
+    while i < a.len() {
+        all &= a[i] == b[i];
+        i += 1;
+    }
+    all
+}
+
 // One byte by two digits.
 fn byte_of(high: u8, low: u8) -> u8
     requires { ⌜ (isLowerHex high ≡ true) × (isLowerHex low ≡ true) ⌝ }

@@ -1,4 +1,3 @@
-pub mod Comparing
 pub mod Ids
 pub mod Reading
 pub mod Records

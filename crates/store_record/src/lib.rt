@@ -1,6 +1,7 @@
 // The records of a store: one record read, and the survey of all records.
 use reference_digests::algorithm::Algorithm;
 use reference_digests::algorithm::Known;
+use reference_digests::digest;
 use store_varint::Number;
 ghost use mathlib.Core.Path.{_≡_};
 ghost use mathlib.Core.Bool.{false, _&&_};
@@ -38,7 +39,7 @@ impl Record {
         }
         let start = self.signer;
         let end = self.manifest;
-        equal(signer, &s[start..end])
+        digest::equal(signer, &s[start..end])
     }
 
     // The record's ID is that one.
@@ -51,25 +52,8 @@ impl Record {
         }
         let start = self.manifest;
         let end = self.text;
-        equal(manifest, &s[start..end])
+        digest::equal(manifest, &s[start..end])
     }
-}
-
-// Two runs of bytes are equal.
-fn equal(a: &[u8], b: &[u8]) -> bool
-    ensures { λ r. ⌜ r ≡ same (now (a .entry)) (now (b .entry)) ⌝ }
-{
-    if a.len() != b.len() {
-        return false;
-    }
-    let mut i = 0;
-    while i < a.len() {
-        if a[i] != b[i] {
-            return false;
-        }
-        i += 1;
-    }
-    true
 }
 
 // A record, or none that is whole.

@@ -1,14 +1,15 @@
-// What the programs over stored lines share: a buffer that is worked on line by line, reading the words of a line, and printing.
+// What the programs over stored lines share: reading the words of a line, printing, and a buffer that is worked on line by line.
 //
 //   new N              a buffer of N bytes, each 0xEE, with used count 0
-//   load ID MANIFEST   loads an image; prints the number and the new used count, which is kept where the number is 0
 //   put OFFSET HEX     writes bytes into the buffer, each as two hexadecimal digits
 //   used N             sets the used count
 //   show               prints the bytes up to the used count, and on a line of its own how many after them are not 0xEE any more
 //
 // A line that is none of these, or that asks for bytes which the buffer does not have, prints `bad`. What is printed is tested; no contract speaks of it.
-ghost use Prim.Native.Nat.{_≤_, _<_, _*_};
-ghost use lib.ListN.{length};
+ghost use mathlib.Core.Path.{_≡_};
+ghost use Prim.Native.Nat.{ℕ, _≤_, _<_, _*_};
+ghost use lib.ListN.{length, getD};
+ghost use Rattle.test_lines.specs.Words.{placeAfter, numberOf, arePairs, digitValue, byteAt};
 
 // The byte that a new buffer is filled with.
 pub const FILL: u8 = 0xEE;
@@ -34,6 +35,7 @@ pub fn print_bad() {
 
 // Where the line goes on after a word that it begins with; 0 where it does not begin with it.
 pub fn after(line: &[u8], word: &[u8]) -> usize
+    ensures { λ r. ⌜ r ≡ placeAfter (now (line .entry)) (now (word .entry)) ⌝ }
     ensures { λ r. ⌜ r ≤ length (now (line .entry)) ⌝ }
 {
     if line.len() < word.len() {
@@ -50,7 +52,9 @@ pub fn after(line: &[u8], word: &[u8]) -> usize
 }
 
 // The number that all of s spells in decimal digits. It is read as long as it cannot leave 64 bits.
-pub fn decimal(s: &[u8]) -> Number {
+pub fn decimal(s: &[u8]) -> Number
+    ensures { λ r. ⌜ r ≡ numberOf (now (s .entry)) ⌝ }
+{
     if s.len() == 0 {
         return Number::Bad;
     }
@@ -58,10 +62,7 @@ pub fn decimal(s: &[u8]) -> Number {
     let mut i = 0;
     while i < s.len() {
         let b = s[i];
-        if b < b'0' {
-            return Number::Bad;
-        }
-        if b'9' < b {
+        if !text_json::bytes::is_digit(b) {
             return Number::Bad;
         }
         if TENTH < n {
@@ -73,34 +74,13 @@ pub fn decimal(s: &[u8]) -> Number {
     Number::Is(n)
 }
 
-fn is_hex(b: u8) -> bool {
-    (b'0' <= b && b <= b'9') || (b'a' <= b && b <= b'f')
-}
-
-// The value of a hexadecimal digit; 0 for any other byte.
-fn digit(b: u8) -> u8
-    ensures { λ r. ⌜ r < 16 ⌝ }
+// All bytes are lower-case hexadecimal digits, and each digit has a second one.
+pub fn are_pairs(hex: &[u8]) -> bool
+    ensures { λ r. ⌜ r ≡ arePairs (now (hex .entry)) ⌝ }
 {
-    if b < b'0' {
-        return 0;
-    }
-    if b <= b'9' {
-        return b - b'0';
-    }
-    if b < b'a' {
-        return 0;
-    }
-    if b <= b'f' {
-        return b - b'a' + 10;
-    }
-    0
-}
-
-// All bytes are hexadecimal digits, and each digit has a second one.
-pub fn are_pairs(hex: &[u8]) -> bool {
     let mut i = 0;
     while i < hex.len() {
-        if !is_hex(hex[i]) {
+        if !reference_parts::part::is_lower_hex(hex[i] as u32) {
             return false;
         }
         i += 1;
@@ -108,9 +88,24 @@ pub fn are_pairs(hex: &[u8]) -> bool {
     hex.len() % 2 == 0
 }
 
+// The value of a lower-case hexadecimal digit; 0 for any other byte.
+fn digit(b: u8) -> u8
+    ensures { λ r. ⌜ (r ≡ digitValue b) × (r < 16) ⌝ }
+{
+    if text_json::bytes::is_digit(b) {
+        return b - b'0';
+    }
+    if text_json::bytes::between(0x61, 0x66, b as u32) {
+        return b - b'a' + 10;
+    }
+    0
+}
+
 // Writes bytes that are given by two hexadecimal digits each.
 pub fn write_pairs(hex: &[u8], out: &mut [u8])
     requires { ⌜ length (now out) * 2 ≤ length (now hex) ⌝ }
+    ensures { λ _. ⌜ length (now (out .exit)) ≡ length (now (out .entry)) ⌝ }
+    ensures { λ _. ⌜ ((k : ℕ) → k < length (now (out .entry)) → getD (now (out .exit)) k 0 ≡ byteAt (now (hex .entry)) k) ⌝ }
 {
     let mut i = 0;
     while i < out.len() {
@@ -140,13 +135,13 @@ fn count_changed(s: &[u8]) -> usize {
     n
 }
 
-fn print_bytes(s: &[u8]) {
+// Each byte in two hexadecimal digits.
+pub fn print_bytes(s: &[u8]) {
     let mut i = 0;
     while i < s.len() {
         io::print_hex(1, s[i] as u64, 2);
         i += 1;
     }
-    io::write_all(1, b"\n");
 }
 
 // Two numbers of an answer, on a line.
@@ -164,6 +159,7 @@ pub fn show(s: &[u8], used: usize) {
         return;
     }
     print_bytes(&s[0..used]);
+    io::write_all(1, b"\n");
     io::print_decimal(1, count_changed(&s[used..]) as u64);
     io::write_all(1, b"\n");
 }
@@ -201,19 +197,6 @@ fn put(words: &[u8], store: &mut [u8]) {
     }
 }
 
-// `load`: an Image ID, a space, and a manifest. Answers the used count after it.
-fn load(words: &[u8], store: &mut [u8], used: usize) -> usize {
-    let space = lines::find(words, 0, b' ');
-    if space == words.len() {
-        print_bad();
-        return used;
-    }
-    let from = space + 1;
-    let a = store::load(&words[0..space], &words[from..], store, used);
-    print_two(a.number, a.value);
-    if a.number == 0 { a.value } else { used }
-}
-
 // `used`: the new used count, which may be more than the store has.
 fn set_used(words: &[u8], used: usize) -> usize {
     match decimal(words) {
@@ -227,10 +210,6 @@ fn set_used(words: &[u8], used: usize) -> usize {
 
 // A line that works on the store; answers the used count after it.
 fn work(line: &[u8], store: &mut [u8], used: usize) -> usize {
-    let loaded = after(line, b"load ");
-    if 0 < loaded {
-        return load(&line[loaded..], store, used);
-    }
     let written = after(line, b"put ");
     if 0 < written {
         put(&line[written..], store);

@@ -8,10 +8,10 @@ use Rattle.test_lines.proofs.print_bytes.Statement.{statement}
 use Rattle.test_lines.proofs.print_bytes.Tie as tie
 
 abbrev Inv-loop : tie.InvT-loop
-Inv-loop s i₀ t3 i = i ≤ length s
+Inv-loop s i₀ i = i ≤ length s
 
 abbrev μ-loop : tie.MeasureT-loop
-μ-loop s i₀ t3 i = length s - i
+μ-loop s i₀ i = length s - i
 
 cast-print-hex : tie.Need-cast-print-hex Inv-loop μ-loop
 cast-print-hex c = omega (arith, c .shared-slice-known2 .given (c .before .before .loop .i))
@@ -19,4 +19,4 @@ cast-print-hex c = omega (arith, c .shared-slice-known2 .given (c .before .befor
 pub print-bytes-spec : {M : Type 1} → statement M
 print-bytes-spec =
     tie.close (tie.spec Inv-loop μ-loop (λ c. search needs) (λ c. search needs) cast-print-hex (λ c κs. search needs) (λ c. search needs)
-    (λ c. search needs) (λ c. search needs) (λ c. search needs) (λ c κs. search needs) (λ c. search needs))
+    (λ c. search needs) (λ c. search needs) (λ c. search needs))

@@ -17,14 +17,14 @@ few c =
 write-requires : tie.Need-write-requires
 write-requires c κs = let a = c .before .before .before in (a .pre, omega (arith, digest-bounds (a .args .a) .1))
 
-sub-print-bytes : tie.Need-sub-print-bytes
-sub-print-bytes c = let f = few (c .before .before .before) in omega arith
+sub-print-digest : tie.Need-sub-print-digest
+sub-print-digest c = let f = few (c .before .before .before) in omega arith
 
-part-print-bytes-start : tie.Need-part-print-bytes-start
-part-print-bytes-start c = let f = few (c .before .before .before .before) in omega arith
+part-print-digest-start : tie.Need-part-print-digest-start
+part-print-digest-start c = let f = few (c .before .before .before .before) in omega arith
 
-part-print-bytes-end : tie.Need-part-print-bytes-end
-part-print-bytes-end c = let f = few (c .before .before .before .before) in omega arith
+part-print-digest-end : tie.Need-part-print-digest-end
+part-print-digest-end c = let f = few (c .before .before .before .before) in omega arith
 
 sub-show-is : tie.Need-sub-show-is
 sub-show-is c = let f = few (c .before .before .before .before .before .before) in omega arith
@@ -77,7 +77,7 @@ show-is-requires-3 c κs =
 
 pub show-digest-spec : {M : Type 1} → statement M
 show-digest-spec =
-    tie.close (tie.spec (λ c κs. search needs) (λ c. search needs) write-requires sub-print-bytes part-print-bytes-start part-print-bytes-end
+    tie.close (tie.spec (λ c κs. search needs) (λ c. search needs) write-requires sub-print-digest part-print-digest-start part-print-digest-end
     (λ c κs. search needs) sub-show-is part-show-is-start part-show-is-end show-is-requires sub-show-is-2 part-show-is-start-2 part-show-is-end-2
     show-is-requires-2 (λ c. search needs) change-last-requires sub-show-is-3 part-show-is-start-3 part-show-is-end-3 show-is-requires-3
     (λ c. search needs))

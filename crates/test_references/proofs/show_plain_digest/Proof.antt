@@ -17,16 +17,16 @@ few c =
 write-plain-requires : tie.Need-write-plain-requires
 write-plain-requires c κs = let a = c .before .before .before in (a .pre, omega (arith, digest-bounds (a .args .a) .1))
 
-sub-print-bytes : tie.Need-sub-print-bytes
-sub-print-bytes c = let f = few (c .before .before .before) in omega arith
+sub-print-digest : tie.Need-sub-print-digest
+sub-print-digest c = let f = few (c .before .before .before) in omega arith
 
-part-print-bytes-start : tie.Need-part-print-bytes-start
-part-print-bytes-start c = let f = few (c .before .before .before .before) in omega arith
+part-print-digest-start : tie.Need-part-print-digest-start
+part-print-digest-start c = let f = few (c .before .before .before .before) in omega arith
 
-part-print-bytes-end : tie.Need-part-print-bytes-end
-part-print-bytes-end c = let f = few (c .before .before .before .before) in omega arith
+part-print-digest-end : tie.Need-part-print-digest-end
+part-print-digest-end c = let f = few (c .before .before .before .before) in omega arith
 
 pub show-plain-digest-spec : {M : Type 1} → statement M
 show-plain-digest-spec =
-    tie.close (tie.spec (λ c κs. search needs) (λ c. search needs) write-plain-requires sub-print-bytes part-print-bytes-start part-print-bytes-end
+    tie.close (tie.spec (λ c κs. search needs) (λ c. search needs) write-plain-requires sub-print-digest part-print-digest-start part-print-digest-end
     (λ c κs. search needs) (λ c. search needs))

@@ -1,0 +1,3 @@
+pub mod Founds
+pub mod Items
+pub mod Placing
