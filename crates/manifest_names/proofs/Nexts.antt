@@ -20,8 +20,10 @@ use Rattle.manifest_fields.specs.FieldTests.{countFields, everyMember, namesPas
 use Rattle.manifest_entries.specs.declared.entry.Entry.the-variants.{Text}
 use Rattle.manifest_fields.proofs.Ruling.{array-of, its-entries}
 use Rattle.manifest_entries.proofs.Entries.{is-text}
-use Rattle.manifest_repeat.proofs.Collecting.{texts-more, count-more as element-counted, pass-both as element-passes}
-use Rattle.manifest_repeat.proofs.Grouping.{few-entries, count-more as member-counted, pass-both as member-passes}
+use Rattle.manifest_entries.proofs.Counting.{count-more as element-counted}
+use Rattle.manifest_fields.proofs.Tallying.{count-more as member-counted}
+use Rattle.manifest_repeat.proofs.Collecting.{texts-more, pass-both as element-passes}
+use Rattle.manifest_repeat.proofs.Grouping.{few-entries, pass-both as member-passes}
 use Rattle.manifest_heads.specs.Contents.{namedUnder, namedIn}
 use Rattle.manifest_repeat.specs.Names.{Collectable}
 use Rattle.manifest_names.specs.Groups.{AliasList}

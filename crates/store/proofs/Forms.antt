@@ -2,6 +2,7 @@
 use Prim.Native.Nat.{ℕ, _≤_}
 use mathlib.Core.Path.{_≡_, sym, ap, subst, _∙_}
 use mathlib.Core.List.{List}
+use mathlib.Core.Logic.{_⊎_}
 use borrow.Author.Tests.{eqb-true, eqb-false}
 use lib.Dec.{eqb}
 use lib.ListN.{length, take}
@@ -10,14 +11,14 @@ use Rattle.laws.proofs.Order.{by-test}
 use Rattle.text.specs.Answer.{form, canonicalNumber, canonicalLength, canonicalBytes}
 use Rattle.text.specs.Question.{textNumber}
 use Rattle.text.proofs.Forms.{form-again}
-use Rattle.text.proofs.Outcome.{number-unbounded, form-first}
+use Rattle.text.proofs.Outcome.{number-in-space, form-first}
 use Rattle.manifest.specs.Number.{manifestTextNumber}
 use Rattle.manifest.proofs.Questions.{refused-as-text}
 use Rattle.manifest.proofs.Canonical.{form-number}
 use Rattle.store_record.specs.Image.{Image}
-use Rattle.store.specs.Load.{imageOf, imageQuestions, loadNumber, loadUsed, loadBytes}
+use Rattle.store.specs.Load.{imageOf, imageQuestions, loadNumber}
 use Rattle.store.specs.Loading.{Loads}
-use Rattle.store.proofs.Steps.{refused-number, good-number, load-answers}
+use Rattle.store.proofs.Steps.{loads-as, refused-number, good-number}
 
 -- The first bytes of a buffer into which a text's form was written are that form.
 pub form-there : (s out after : List ℕ) (m n : ℕ) → after ≡ canonicalBytes s out → n ≡ canonicalLength s (length out)
@@ -25,10 +26,11 @@ pub form-there : (s out after : List ℕ) (m n : ℕ) → after ≡ canonicalByt
 form-there s out after m n b l e z = rw (b, l) (form-first s out (sym e ∙ z))
 
 module _ (id manifest buffer : List ℕ) (used : ℕ) where
-  -- A text that gets one of 1 to 6 is refused by that number, whatever the length m of the buffer for its form, if it is not below a text's largest.
-  pub refused-text : (m : ℕ) → 16384 ≤ m → (canonicalNumber manifest m ≡ 0 → ⊥) → canonicalNumber manifest m ≡ loadNumber id manifest buffer used
+  -- A text that gets one of 1 to 6 is refused by that number, whatever the length m of the buffer for its form, if there is space for it.
+  pub refused-text : (m : ℕ) → (length manifest ≤ m) ⊎ (16384 ≤ m) → (canonicalNumber manifest m ≡ 0 → ⊥)
+      → canonicalNumber manifest m ≡ loadNumber id manifest buffer used
   refused-text m h e =
-      let n = number-unbounded manifest m h in
+      let n = number-in-space manifest m h in
       let t = refused-as-text manifest (λ z. e (n ∙ z)) in
       n ∙ sym t ∙ refused-number id manifest buffer used (λ z. e (n ∙ sym t ∙ z))
 
@@ -53,9 +55,8 @@ module _ (id manifest buffer : List ℕ) (used : ℕ) where
         sym (refused-number id (form manifest) buffer used (λ z. h (sym n ∙ z))) ∙ n ∙ refused-number id manifest buffer used h)
 
     -- and so are its used count and the bytes that it leaves.
-    pub form-answers : {r : Answer} {after : List ℕ} {t : List ℕ} → t ≡ form manifest → Loads (loadNumber id t buffer used) (imageOf id t) buffer used r after
-        → (r .number ≡ loadNumber id manifest buffer used)
-        × ((r .value ≡ loadUsed id manifest buffer used) × (after ≡ loadBytes id manifest buffer used))
-    form-answers {r} {after} {t} f l =
-        load-answers id manifest buffer used (ap (λ (m : List ℕ). loadNumber id m buffer used) f ∙ number-same)
+    pub form-loads : {r : Answer} {after : List ℕ} {t : List ℕ} → t ≡ form manifest → Loads (loadNumber id t buffer used) (imageOf id t) buffer used r after
+        → Loads (loadNumber id manifest buffer used) (imageOf id manifest) buffer used r after
+    form-loads {r} {after} {t} f l =
+        loads-as (ap (λ (m : List ℕ). loadNumber id m buffer used) f ∙ number-same)
         (subst (λ (x : Image). Loads (loadNumber id t buffer used) x buffer used r after) (ap (imageOf id) f ∙ image-same) l)

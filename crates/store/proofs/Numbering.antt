@@ -2,7 +2,7 @@
 use Prim.Native.Nat.{ℕ, _+_, _-_, _≤_, _<_}
 use mathlib.Core.Path.{_≡_, refl, sym, ap, _∙_}
 use mathlib.Core.List.{List}
-use mathlib.Core.Bool.{Bool, true, false, or-false, or-true}
+use mathlib.Core.Bool.{Bool, true, false, not, _||_, or-false, or-true}
 use mathlib.Core.Option.{Option, none, some}
 use native.Mathlib.Omega.{arith}
 use borrow.Author.Tests.{lt-ltb, le-ltb, le-leb, lt-leb, eqb-true, eqb-false, ltb-true, ltb-false}
@@ -18,14 +18,15 @@ use Rattle.manifest.specs.declared.Places.{Places}
 use Rattle.manifest.proofs.Asking.{nothing-asked, asked-first, asked-next, asked-none}
 use Rattle.manifest.proofs.Questions.{good-as-text}
 use Rattle.store_record.specs.Image.{Image}
-use Rattle.store_record.specs.Ids.{hasId, shareId}
+use Rattle.store_record.specs.Ids.{hasId, shareId, idTwice}
 use Rattle.store_record.specs.Record.{headSize, recordOf}
 use Rattle.store_record.specs.Store.{mostImages, storeOf, readRecords}
 use Rattle.store_record.specs.Reading.{heldIn, imagesIn}
 use Rattle.store_record.specs.declared.Survey.{Survey}
 use Rattle.store_record.proofs.Records.{head-length, record-short}
 use Rattle.store_record.proofs.Stores.{store-read}
-use Rattle.store_keys.specs.Clash.{clash}
+use Rattle.store_record.proofs.Walks.{pair-few}
+use Rattle.store_keys.specs.Clash.{clash, anyClash}
 use Rattle.store_keys.specs.Signed.{one}
 use Rattle.store_conflict.proofs.Clashing.{Single, single, clash-form}
 use Rattle.store_open.specs.Held.{isBroken, among}
@@ -71,6 +72,12 @@ module _ (a : Algorithm) (signer digest text : List ℕ) where
               (record { algorithm = a; signer = signer; manifest = digest; ids = refl; signer-size = d .signer-size; manifest-size = d .digest-size })
               h,
         )
+
+-- Of fewer than two images no two have an ID in common, and no two clash.
+pub few-apart : (b : List ℕ) (v : Survey) → v .count ≤ length (v .records) → v .count < 2
+    → true ≡ not (idTwice (imagesIn b v) || anyClash (imagesIn b v))
+unfolding idTwice anyClash
+few-apart b v f h = rw (pair-few b v f shareId h, pair-few b v f clash h)
 
 -- 14, of records that fill the bytes, after which `left` are free
 module _ (b : List ℕ) (bytes : (j : ℕ) → getD b j 0 < 256) (xs : List Image) (e : readRecords mostImages b ≡ some xs) (left : ℕ) (x : Image) where

@@ -31,11 +31,12 @@ use Rattle.store_record.specs.Record.{recordOf}
 use Rattle.store_record.specs.Store.{mostImages, storeOf, readRecords}
 use Rattle.store_record.proofs.Stores.{store-read}
 use Rattle.store_keys.specs.Clash.{clash}
+use Rattle.store_conflict.specs.Lent.{ClashSpace}
 use Rattle.store_open.proofs.Holding.{first-bytes, held-in-use}
 use Rattle.store_open.specs.Held.{held, areUnsound, isBroken, among}
 use Rattle.store.specs.Load.{imageOf, isNoId, noSpace, storeQuestions, imageQuestions, loadQuestions, loadNumber, usedAfter, bytesAfter, loadUsed}
 use Rattle.store.specs.Load.{loadBytes}
-use Rattle.store.specs.Loading.{Loads}
+use Rattle.store.specs.Loading.{NameArrays, Loads}
 use Rattle.store_append.specs.Append.{imageWith, Fits}
 use Rattle.answer.specs.declared.Answer.{Answer}
 
@@ -50,6 +51,16 @@ module _ {x : Image} {buffer : List ℕ} {used : ℕ} {r : Answer} {after : List
   -- An answer's number may be told in another way.
   pub loads-as : m ≡ n → Loads m x buffer used r after → Loads n x buffer used r after
   loads-as e l = subst (λ (k : ℕ). Loads k x buffer used r after) e l
+
+-- The arrays that a load lends serve for the names of a manifest of that size, with one for their heads and one for their keys.
+pub clash-space : {size : ℕ} {names spare heads keys : List ℕ} → NameArrays names spare → length heads ≡ 4096 → size ≤ length keys
+    → ClashSpace size names spare heads keys
+clash-space a h k =
+    record {
+      names = record { space = omega (arith, a .names-size); sorting = omega (arith, a .names-size, a .spare-size) };
+      heads-space = omega (arith, a .names-size, h);
+      keys-space = k;
+    }
 
 module _ (size : ℕ) (x : Image) where
   -- Where nothing can be read, a question of the store applies.

@@ -1,7 +1,8 @@
 -- What the steps of a load are given, and what they answer.
-use Prim.Native.Nat.{ℕ, _-_}
+use Prim.Native.Nat.{ℕ, _≤_}
 use mathlib.Core.Path.{_≡_}
 use mathlib.Core.List.{List}
+use mathlib.Core.Logic.{_⊎_}
 use lib.ListN.{length}
 use Rattle.answer.specs.declared.Answer.{Answer}
 use Rattle.text.specs.Answer.{form}
@@ -9,6 +10,10 @@ use Rattle.manifest.specs.Opened.{Opens}
 use Rattle.manifest.specs.declared.Places.{Places}
 use Rattle.store_record.specs.Image.{Image}
 use Rattle.store.specs.Load.{usedAfter, bytesAfter}
+
+-- space for the canonical form of a manifest, unless that is too long for any
+pub record FormSpace (manifest form : List ℕ) : Type 0 where
+  pub fits : (length manifest ≤ length form) ⊎ (16384 ≤ length form)
 
 -- a good manifest that is its own canonical form, opened
 pub record Readied (text : List ℕ) (p : Places) : Type 0 where

@@ -1,6 +1,6 @@
 -- What the loops over a store's images ask of one image. Assumes nothing.
 use Prim.Native.Nat.{ℕ, zero, suc}
-use mathlib.Core.Path.{_≡_, refl, sym, ap, _∙_}
+use mathlib.Core.Path.{_≡_, refl, sym, ap, subst, _∙_}
 use mathlib.Core.Bool.{Bool, true, false, _&&_, _||_, or-false}
 use mathlib.Core.List.{List, [], _∷_, map}
 use lib.Dec.{eqb}
@@ -13,7 +13,9 @@ use Rattle.reference_digests.specs.Algorithms.{byteOf}
 use Rattle.reference_digests.specs.declared.algorithm.Algorithm.{Algorithm}
 use Rattle.manifest_heads.specs.Contents.{shareName}
 use Rattle.manifest.specs.Manifest.{selfNames, contents}
-use Rattle.manifest.specs.Names.{conflict}
+use Rattle.manifest.specs.Names.{conflict, SelfSorted, ContentsSorted}
+use Rattle.manifest_heads.specs.Placed.{SomeNames}
+use Rattle.manifest.proofs.Groups.{some-names, contents-names}
 use Rattle.store_record.specs.Image.{Image}
 use Rattle.store_record.specs.Reading.{between, heldIn, imagesIn}
 use Rattle.store_record.specs.declared.Record.{Record}
@@ -22,10 +24,24 @@ use Rattle.store_names.specs.Shared.{signedAs, haveShared}
 use Rattle.laws.proofs.Pairs.{pair-map, pair-or}
 use Rattle.store_keys.specs.Clash.{clash, anyClash}
 use Rattle.store_keys.specs.Signed.{one, signedBy, isSigned, sharesWith, conflictsWith, namesClash, layersClash}
-use Rattle.store_conflict.specs.Asked.{clashesIn}
+use Rattle.store_conflict.specs.Asked.{SortedAliases, clashesIn}
 use Rattle.store_conflict.specs.declared.Aliases.{Aliases}
 use Rattle.store_conflict.specs.declared.Aliases.the-variants.{Own, Layers}
 use Rattle.store_conflict.proofs.Clashing.{single, clash-split, clash-parts, names-ones, layers-one}
+
+-- The sorted aliases that are asked about are some sorted names, as filling in their heads requires them.
+pub asked-names : (w : Aliases) (s names keys : List ℕ) → SortedAliases w s names keys → SomeNames s names
+asked-names Own s names keys m = some-names m
+asked-names Layers s names keys m = contents-names m
+
+module _ {w : Aliases} {s names : List ℕ} (keys : List ℕ) where
+  -- The sorted aliases of the image itself are those that are asked about, where it is these,
+  pub own-asked : w ≡ Own → SelfSorted s names → SortedAliases w s names keys
+  own-asked e m = subst (λ (x : Aliases). SortedAliases x s names keys) (sym e) m
+
+  -- and those of its layers, where it is those.
+  pub layers-asked : w ≡ Layers → ContentsSorted s names keys → SortedAliases w s names keys
+  layers-asked e m = subst (λ (x : Aliases). SortedAliases x s names keys) (sym e) m
 
 module _ (b : List ℕ) (r : Record) (a : Algorithm) (signer : List ℕ) where
   -- A record's image is signed by a signer, if the record's ID is.

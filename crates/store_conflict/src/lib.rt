@@ -11,7 +11,7 @@ ghost use Prim.Native.Nat.{_+_, _≤_, _<_};
 ghost use lib.ListN.{length, take, drop, getD};
 ghost use Rattle.laws.specs.Any.{anyOf, anyPair};
 ghost use Rattle.manifest_heads.specs.Heads.{HeadsOf};
-ghost use Rattle.manifest.specs.Names.{ContentsSorted};
+ghost use Rattle.manifest.specs.Names.{NameSpace};
 ghost use Rattle.manifest.specs.Opened.{Opens};
 ghost use Rattle.store_record.specs.Reading.{between, heldIn, imagesIn, noRecord, RecordIn, Fills};
 ghost use Rattle.store_names.specs.Opened.{OpenedStore};
@@ -56,7 +56,7 @@ fn clashes_in(
 }
 
 // Some image of the store from index i on clashes with s in these aliases.
-pub fn any_clashes_in(
+fn any_clashes_in(
     which: Aliases,
     s: &[u8],
     names: &[u16],
@@ -100,9 +100,28 @@ pub fn has_signer(b: &[u8], v: Survey, a: Algorithm, signer: &[u8], i: ImageInde
     false
 }
 
-// Puts the positions of the aliases of layers of the manifest s, sorted by name, at the start of `sorted`, with their heads and the positions of their
-// keys; answers how many there are. It takes no part of the store, so that its callers' copy of that is the only one.
-pub fn sort_layers(
+// Puts the positions of the aliases of the manifest s that are asked about, sorted by name, at the start of `sorted`, and for those of layers the
+// positions of their keys into `keys`; answers how many there are.
+fn sort_names(
+    which: Aliases,
+    s: &[u8],
+    p: Places,
+    sorted: &mut [u16],
+    spare: &mut [u16],
+    keys: &mut [u16],
+) -> usize
+    requires { ⌜ Opens (now s) p × NameSpace (now sorted) (now spare) × (length (now s) ≤ length (now keys)) ⌝ }
+    ensures { λ r. ⌜ (r ≤ length (now (sorted .exit))) × SortedAliases which (now (s .entry)) (take r (now (sorted .exit))) (now (keys .exit)) ⌝ }
+{
+    match which {
+        Aliases::Own => manifest_aliases::sort_self(s, p, sorted, spare),
+        Aliases::Layers => manifest_aliases::sort_contents(s, p, sorted, spare, keys),
+    }
+}
+
+// The same, with the heads of the names. It takes no part of the store, so that its caller's copy of that is the only one.
+fn sort_asked(
+    which: Aliases,
     s: &[u8],
     p: Places,
     sorted: &mut [u16],
@@ -110,13 +129,49 @@ pub fn sort_layers(
     heads: &mut [u32],
     keys: &mut [u16],
 ) -> usize
-    requires { ⌜ Opens (now s) p × ClashSpace (now sorted) (now spare) (now heads) (now keys) ⌝ }
-    ensures { λ r. ⌜ (r ≤ length (now (sorted .exit))) × ContentsSorted (now (s .entry)) (take r (now (sorted .exit))) (now (keys .exit))
+    requires { ⌜ Opens (now s) p × ClashSpace (length (now s)) (now sorted) (now spare) (now heads) (now keys) ⌝ }
+    ensures { λ r. ⌜ (r ≤ length (now (sorted .exit))) × SortedAliases which (now (s .entry)) (take r (now (sorted .exit))) (now (keys .exit))
         × HeadsOf (now (s .entry)) (take r (now (sorted .exit))) (now (heads .exit)) ⌝ }
 {
-    let n = manifest_aliases::sort_contents(s, p, sorted, spare, keys);
+    let n = sort_names(which, s, p, sorted, spare, keys);
     manifest_aliases::fill_heads(s, &sorted[..n], heads);
     n
+}
+
+// Some image of the store from index i on clashes with the image of that algorithm and signer with the manifest s, in the aliases that are asked
+// about. What the arrays hold is overwritten.
+pub fn any_clashes_with(
+    which: Aliases,
+    s: &[u8],
+    p: Places,
+    a: Algorithm,
+    signer: &[u8],
+    b: &[u8],
+    v: Survey,
+    places: [Places; MOST_IMAGES],
+    i: ImageIndex,
+    sorted: &mut [u16],
+    spare: &mut [u16],
+    heads: &mut [u32],
+    keys: &mut [u16],
+) -> bool
+    requires { ⌜ Opens (now s) p × OpenedStore (now b) v places × ClashSpace (length (now s)) (now sorted) (now spare) (now heads) (now keys) ⌝ }
+    ensures { λ r. ⌜ r ≡ anyOf (clashesIn which a (now (signer .entry)) (now (s .entry))) (drop (i .0) (imagesIn (now (b .entry)) v)) ⌝ }
+{
+    let n = sort_asked(which, s, p, sorted, spare, heads, keys);
+    any_clashes_in(
+        which,
+        s,
+        &sorted[..n],
+        heads,
+        keys,
+        a,
+        signer,
+        b,
+        v,
+        places,
+        i,
+    )
 }
 
 // The store's image with index i has an alias of a layer for another object than a later image of its signer.
@@ -130,7 +185,7 @@ fn conflicts_later(
     heads: &mut [u32],
     keys: &mut [u16],
 ) -> bool
-    requires { ⌜ OpenedStore (now b) v all × (i .0 < v .count) × ClashSpace (now sorted) (now spare) (now heads) (now keys) ⌝ }
+    requires { ⌜ OpenedStore (now b) v all × (i .0 < v .count) × ClashSpace 16384 (now sorted) (now spare) (now heads) (now keys) ⌝ }
     ensures { λ r. ⌜ r ≡ anyOf (layersClash (heldIn (now (b .entry)) (getD (v .records) (i .0) noRecord))) (drop (i .0 + 1) (imagesIn (now (b .entry)) v)) ⌝ }
 {
     let k = i.0;
@@ -147,19 +202,20 @@ fn conflicts_later(
     let p = all[k];
     let s = &b[start..end];
     let signer = &b[from..to];
-    let n = sort_layers(s, p, sorted, spare, heads, keys);
-    any_clashes_in(
+    any_clashes_with(
         Aliases::Layers,
         s,
-        &sorted[..n],
-        heads,
-        keys,
+        p,
         a,
         signer,
         b,
         v,
         all,
         next,
+        sorted,
+        spare,
+        heads,
+        keys,
     )
 }
 
@@ -173,7 +229,7 @@ pub fn any_conflict(
     heads: &mut [u32],
     keys: &mut [u16],
 ) -> bool
-    requires { ⌜ OpenedStore (now b) v places × ClashSpace (now sorted) (now spare) (now heads) (now keys) ⌝ }
+    requires { ⌜ OpenedStore (now b) v places × ClashSpace 16384 (now sorted) (now spare) (now heads) (now keys) ⌝ }
     ensures { λ r. ⌜ r ≡ anyPair layersClash (imagesIn (now (b .entry)) v) ⌝ }
 {
     let mut i = 0;

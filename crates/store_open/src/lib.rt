@@ -31,7 +31,7 @@ pub struct Opened {
 }
 
 // Opens each manifest of a store, until one is found that is not canonical or gets one of 1 to 9. What the arrays hold is overwritten.
-fn open_all(b: &[u8], v: Survey, names: &mut [u16], spare: &mut [u16]) -> Fit
+pub fn open_all(b: &[u8], v: Survey, names: &mut [u16], spare: &mut [u16]) -> Fit
     requires { ⌜ Fills (now b) v × NameSpace (now names) (now spare) ⌝ }
     ensures { λ r. ⌜ r .all ≡ not (anyOf isUnfit (imagesIn (now (b .entry)) v)) ⌝ }
     ensures { λ r. ⌜ (r .all ≡ true → OpenedStore (now (b .entry)) v (r .places)) ⌝ }
@@ -61,7 +61,7 @@ fn open_all(b: &[u8], v: Survey, names: &mut [u16], spare: &mut [u16]) -> Fit
 }
 
 // No ID stands twice, and no two images clash. What the arrays hold is overwritten.
-fn are_apart(
+pub fn are_apart(
     b: &[u8],
     v: Survey,
     places: [Places; MOST_IMAGES],
@@ -71,7 +71,7 @@ fn are_apart(
     heads: &mut [u32],
     keys: &mut [u16],
 ) -> bool
-    requires { ⌜ OpenedStore (now b) v places × (length (now at) ≡ 4096) × ClashSpace (now sorted) (now spare) (now heads) (now keys) ⌝ }
+    requires { ⌜ OpenedStore (now b) v places × (length (now at) ≡ 4096) × ClashSpace 16384 (now sorted) (now spare) (now heads) (now keys) ⌝ }
     ensures { λ r. ⌜ r ≡ not (idTwice (imagesIn (now (b .entry)) v) || anyClash (imagesIn (now (b .entry)) v)) ⌝ }
 {
     if store_ids::id_twice(b, v) {
@@ -90,7 +90,7 @@ pub fn open(
     heads: &mut [u32],
     keys: &mut [u16],
 ) -> Opened
-    requires { ⌜ (length (now at) ≡ 4096) × ClashSpace (now sorted) (now spare) (now heads) (now keys) ⌝ }
+    requires { ⌜ (length (now at) ≡ 4096) × ClashSpace 16384 (now sorted) (now spare) (now heads) (now keys) ⌝ }
     ensures { λ r. ⌜ r .sound ≡ not (isBroken (length (now (b .entry))) (readRecords mostImages (now (b .entry)))) ⌝ }
     ensures { λ r. ⌜ (r .sound ≡ true → OpenedStore (now (b .entry)) (r .survey) (r .places)) ⌝ }
 {

@@ -1,10 +1,11 @@
 -- What checking says of the answers of canonical and is_canonical.
 use Prim.Native.Nat.{ℕ, _<_, _≤_}
 use mathlib.Core.Path.{_≡_, refl, sym, ap, _∙_}
+use mathlib.Core.Logic.{_⊎_, ⊎-elim}
 use mathlib.Core.List.{List, [], _++_}
 use mathlib.Core.Bool.{Bool, true, false}
 use native.Mathlib.Omega.{arith}
-use borrow.Author.Tests.{eq-eqb, ne-eqb, lt-ltb, le-ltb, eqb-true}
+use borrow.Author.Tests.{eq-eqb, ne-eqb, lt-ltb, le-ltb, eqb-true, ltb-false}
 use lib.Dec.{ltb, eqb}
 use lib.ListN.{length, take, drop}
 use lib.Seq.{take-at}
@@ -151,14 +152,14 @@ number-small s m =
 pub zero-taken : (s : List ℕ) (m : ℕ) → canonicalNumber s m ≡ 0 → textNumber s ≡ 0
 zero-taken s m h = by-test (eqb (textNumber s) 0) (λ e. eqb-true (textNumber s) 0 e) (λ e. rw e at (rw (canonical-lowest s m) at h))
 
--- 20 is never given with a buffer as long as a text can be
-pub number-unbounded : (s : List ℕ) (m : ℕ) → 16384 ≤ m → canonicalNumber s m ≡ textNumber s
-number-unbounded s m h =
+-- 20 is never given with a buffer as long as the text, or as long as a text can be
+pub number-in-space : (s : List ℕ) (m : ℕ) → (length s ≤ m) ⊎ (16384 ≤ m) → canonicalNumber s m ≡ textNumber s
+number-in-space s m h =
     canonical-lowest s m
     ∙ by-test (eqb (textNumber s) 0)
     (λ e. let z = eqb-true (textNumber s) 0 e in
     let p = taken s z in
-    rw (e, le-ltb m (length (form s)) (omega (arith, form-short s p, p .short))) (sym z))
+    rw (e, le-ltb m (length (form s)) (⊎-elim (λ k. omega (arith, form-short s p, k)) (λ k. omega (arith, form-short s p, p .short, k)) h)) (sym z))
     (λ e. rw e)
 
 -- where 0 is given, the form stands at the start of the buffer, and its length is told
@@ -175,6 +176,20 @@ length-small s m =
     by-test (eqb (canonicalNumber s m) 0)
     (λ e. rw (e, canonicalLength) (let p = taken s (zero-taken s m (eqb-true (canonicalNumber s m) 0 e)) in omega (arith, form-short s p, p .short)))
     (λ e. rw (e, canonicalLength) (omega arith))
+
+-- The length that canonical tells is at most that of the buffer.
+pub length-within : (s : List ℕ) (m : ℕ) → canonicalLength s m ≤ m
+unfolding canonicalLength
+length-within s m =
+    by-test (eqb (canonicalNumber s m) 0)
+    (λ e. rw (e, canonicalLength) (fits (eqb-true (canonicalNumber s m) 0 e)))
+    (λ e. rw (e, canonicalLength) (omega arith))
+  where
+    fits : canonicalNumber s m ≡ 0 → length (form s) ≤ m
+    fits h =
+        by-test (ltb m (length (form s)))
+        (λ f. absurd (omega (arith, rw (eq-eqb (textNumber s) 0 (zero-taken s m h), f) at (rw (canonical-lowest s m) at h))))
+        (λ f. ltb-false m (length (form s)) f)
 
 -- the length that is told of a text that is taken is that of its form
 pub accepted-length : (s : List ℕ) (n : ℕ) (c : Bool) → checked s ≡ Accepted n c → n ≡ length (form s)

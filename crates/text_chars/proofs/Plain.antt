@@ -7,8 +7,8 @@ use native.Mathlib.Omega.{arith}
 use mathlib.Core.Path.{_≡_, refl, ap, sym, _∙_}
 use mathlib.Core.List.{List, [], _∷_, _++_}
 use mathlib.Core.Bool.{Bool, true, false, not, _&&_, or-false, and-true, and-assoc, and-eq-true-iff}
-use borrow.Author.Tests.{leb-true, eqb-false, ne-eqb, not-true}
-use lib.Dec.{leb, eqb}
+use borrow.Author.Tests.{leb-true, lt-leb, eqb-false, ne-eqb, not-true}
+use lib.Dec.{leb, eqb, leb·zero, leb·suc-zero, leb·suc-suc}
 use lib.ListN.{length, take, drop, getD, length-drop, length-take, drop-of-length-le}
 use lib.Seq.{take-suc, getD-drop, getD-take, drop-drop}
 use Rattle.text_json.specs.Read.{Read, readChars, char}
@@ -116,14 +116,14 @@ unfolding plainLength
 plain-one b xs e = rw (e, plainLength)
 
 -- n plain bytes, and those that follow
-pub plain-past : (n : ℕ) (xs : List ℕ) → n ≤ length xs → every isPlain (take n xs) ≡ true → plainLength xs ≡ n + plainLength (drop n xs)
-unfolding every
-plain-past zero xs h e = rw zero-add
-plain-past (suc n) [] h e = absurd (omega arith)
-plain-past (suc n) (x ∷ xs) h e =
-    let p = and-eq-true-iff (isPlain x) (every isPlain (take n xs)) .0 e in
-    let rest = plain-past n xs (omega arith) (p .1) in
-    plain-one x xs (p .0) ∙ omega arith
+plain-past : (n : ℕ) (xs : List ℕ) → n ≤ plainLength xs → plainLength xs ≡ n + plainLength (drop n xs)
+unfolding plainLength
+plain-past zero xs h = rw zero-add
+plain-past (suc n) [] h = absurd (omega arith)
+plain-past (suc n) (x ∷ xs) h =
+    by-test (isPlain x)
+    (λ e. let o = plain-one x xs e in let rest = plain-past n xs (omega arith) in o ∙ omega arith)
+    (λ e. absurd (omega (arith, plain-none x xs e)))
 
 -- A list begins with at most as many plain bytes as it has bytes.
 pub plain-fits : (xs : List ℕ) → plainLength xs ≤ length xs
@@ -132,6 +132,20 @@ plain-fits [] = omega arith
 plain-fits (x ∷ xs) =
     let rest = plain-fits xs in
     by-test (isPlain x) (λ e. rw (plain-one x xs e) (omega arith)) (λ e. rw (plain-none x xs e) (omega arith))
+
+-- A list of fewer than `n` bytes does not begin with `n` plain ones.
+pub run-short : (n : ℕ) (xs : List ℕ) → length xs < n → false ≡ leb n (plainLength xs)
+run-short n xs h = sym (lt-leb n (plainLength xs) (omega (arith, plain-fits xs)))
+
+-- A list of at least `n` bytes begins with `n` plain ones exactly if each of its first `n` bytes is plain.
+pub run-enough : (n : ℕ) (xs : List ℕ) → n ≤ length xs → every isPlain (take n xs) ≡ leb n (plainLength xs)
+unfolding every
+run-enough zero xs h = sym (leb·zero (plainLength xs))
+run-enough (suc n) [] h = absurd (omega arith)
+run-enough (suc n) (x ∷ xs) h =
+    by-test (isPlain x)
+    (λ e. rw (plain-one x xs e, e, leb·suc-suc n (plainLength xs)) (run-enough n xs (omega arith)))
+    (λ e. rw (plain-none x xs e, e, leb·suc-zero n))
 
 -- each byte of a run is plain
 pub plain-at : (n : ℕ) (xs : List ℕ) → n < plainLength xs → Itself (getD xs n 0)
@@ -156,17 +170,17 @@ ends-here s i h e = rw (drop-next s i h) (plain-none _ _ e)
 pub goes-on : (s : List ℕ) (i : ℕ) → i < length s → isPlain (getD s i 0) ≡ true → i + plainLength (drop i s) ≡ i + 1 + plainLength (drop (i + 1) s)
 goes-on s i h e = let o = ap plainLength (drop-next s i h) ∙ plain-one (getD s i 0) (drop (i + 1) s) e in omega arith
 
--- Where `n` plain bytes stand, the run of plain bytes ends where the run from the position after them ends.
-pub goes-far : (s : List ℕ) (i n : ℕ) → i + n ≤ length s → every isPlain (take n (drop i s)) ≡ true
-    → i + plainLength (drop i s) ≡ i + n + plainLength (drop (i + n) s)
-goes-far s i n h e =
-    let l : n ≤ length (drop i s) = rw (length-drop i s) (omega arith) in
-    let o = rw (drop-drop n i s) at (plain-past n (drop i s) l e) in
-    omega arith
-
 -- A run of plain bytes that begins at a position of a text ends within the text.
 pub end-fits : (s : List ℕ) (i : ℕ) → i ≤ length s → i + plainLength (drop i s) ≤ length s
 end-fits s i h = let o = rw (length-drop i s) at (plain-fits (drop i s)) in omega arith
+
+-- Where `n` plain bytes stand, the position after them is within the text, and the run of plain bytes ends where the run from there ends.
+pub goes-far : (s : List ℕ) (i n : ℕ) → i ≤ length s → leb n (plainLength (drop i s)) ≡ true
+    → (i + n ≤ length s) × (i + plainLength (drop i s) ≡ i + n + plainLength (drop (i + n) s))
+goes-far s i n h e =
+    let l = leb-true n (plainLength (drop i s)) e in
+    let o = rw (drop-drop n i s) at (plain-past n (drop i s) l) in
+    (omega (arith, end-fits s i h), omega arith)
 
 -- chars that are not refused, after others
 pub add-plain : (f : Bool) (n m : ℕ) (x : Read Weight) → add f n (add false m x) ≡ add f (n + m) x

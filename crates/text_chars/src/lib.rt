@@ -19,7 +19,6 @@ ghost use Rattle.text_json.specs.Read.{readChars, char, escape, prepend, readSt
 ghost use Rattle.text_json.specs.Content.{isSurrogate, anyControl, escaped, refusedString};
 ghost use Rattle.text_json.specs.Scan.{ScansToken};
 ghost use Rattle.text_json.specs.Size.{contentSize, stringSize, Within, Closed};
-ghost use Rattle.text_json.specs.Bytes.{isPlain};
 ghost use Rattle.text_chars.specs.Measure.{Hexes, Escapes, Lows, plainLength, every, isNot, isUnmarked};
 
 // Four hexadecimal digits: their number, or the position of the first byte that is no digit.
@@ -170,14 +169,14 @@ pub fn one_escape(s: &[u8], at: usize) -> Escape
     }
 }
 
-// The sixteen bytes at `at` are 20 (hex) or more. A fixed count of tests with no branch between them is done at once by the processor.
-fn none_below_space(s: &[u8], at: usize) -> bool
-    requires { ⌜ at + 16 ≤ length (now s) ⌝ }
-    ensures { λ r. ⌜ r ≡ every (leb 0x20) (take 16 (drop at (now (s .entry)))) ⌝ }
+// The `count` bytes at `at` are 20 (hex) or more.
+fn none_below_space(s: &[u8], at: usize, count: usize) -> bool
+    requires { ⌜ at + count ≤ length (now s) ⌝ }
+    ensures { λ r. ⌜ r ≡ every (leb 0x20) (take count (drop at (now (s .entry)))) ⌝ }
 {
     let mut all = true;
     let mut n = 0;
-    while n < 16 {
+    while n < count {
         all &= 0x20 <= s[at + n];
         n += 1;
     }
@@ -206,15 +205,18 @@ pub fn unmarked(s: &[u8], at: usize, count: usize) -> bool
     none_is(s, at, count, b'"') & none_is(s, at, count, b'\\')
 }
 
-// The sixteen bytes at `at` are plain.
-fn plain16(s: &[u8], at: usize) -> bool
-    requires { ⌜ at + 16 ≤ length (now s) ⌝ }
-    ensures { λ r. ⌜ r ≡ every isPlain (take 16 (drop at (now (s .entry)))) ⌝ }
+// At least `count` plain bytes stand from `at` on.
+fn plain_left(s: &[u8], at: usize, count: usize) -> bool
+    requires { ⌜ at ≤ length (now s) ⌝ }
+    ensures { λ r. ⌜ r ≡ leb count (plainLength (drop at (now (s .entry)))) ⌝ }
 {
-    none_below_space(s, at)
-        & none_is(s, at, 16, b'"')
-        & none_is(s, at, 16, b'\\')
-        & none_is(s, at, 16, 0x7F)
+    if s.len() - at < count {
+        return false;
+    }
+    none_below_space(s, at, count)
+        & none_is(s, at, count, b'"')
+        & none_is(s, at, count, b'\\')
+        & none_is(s, at, count, 0x7F)
 }
 
 // Where the plain bytes from `at` on end, one byte at a time.
@@ -232,19 +234,27 @@ fn plain_tail(s: &[u8], at: usize) -> usize
     i
 }
 
-// Where the plain bytes from `at` on end, sixteen bytes at a time while that many are left.
+// Where the plain bytes from `at` on end: eight at once if there are that many, then one byte at a time.
+fn plain_rest(s: &[u8], at: usize) -> usize
+    requires { ⌜ at ≤ length (now s) ⌝ }
+    ensures { λ r. ⌜ r ≡ at + plainLength (drop at (now (s .entry))) ⌝ }
+{
+    if plain_left(s, at, 8) {
+        return plain_tail(s, at + 8);
+    }
+    plain_tail(s, at)
+}
+
+// Where the plain bytes from `at` on end, sixteen at a time while there are that many.
 pub fn plain_end(s: &[u8], at: usize) -> usize
     requires { ⌜ at ≤ length (now s) ⌝ }
     ensures { λ r. ⌜ r ≡ at + plainLength (drop at (now (s .entry))) ⌝ }
 {
     let mut i = at;
-    while 16 <= s.len() - i {
-        if !plain16(s, i) {
-            return plain_tail(s, i);
-        }
+    while plain_left(s, i, 16) {
         i += 16;
     }
-    plain_tail(s, i)
+    plain_rest(s, i)
 }
 
 // The chars of a string and its closing quotation mark.

@@ -4,7 +4,6 @@ use mathlib.Core.Path.{_≡_, sym, ap, subst, _∙_}
 use mathlib.Core.List.{List, _∷_, _++_}
 use mathlib.Core.Bool.{true, false}
 use native.Mathlib.Omega.{arith}
-use mathlib.Core.Logic.{_⊎_, ⊎-elim}
 use denote.Enum.Declared.{tagOf}
 use lib.ListN.{length, take, drop, getD}
 use Rattle.laws.specs.Order.{leq, same}
@@ -82,29 +81,23 @@ compared s k l r p q f =
     subst (Ordered x y) (sym (f x y (inside-content s (k + 1) p) (inside-content s (l + 1) q))) (ordered x y)
 
 module _ {xs ys : List ℕ} where
-  -- Where the comparison answers `Greater`, the first content comes after the second.
-  pub greater : {r : Order} → Ordered xs ys r → tag r ≡ 2 → leq xs ys ≡ false
-  greater (is-less a b) e = absurd (omega arith)
-  greater (is-equal a) e = absurd (omega arith)
-  greater (is-greater a) e = a
+  unequal : (xs ≡ ys → ⊥) → same ys xs ≡ false
+  unequal n = by-test (same ys xs) (λ e. absurd (n (sym (same-eq ys xs e)))) (λ e. e)
 
-  -- Where it answers `Less` or `Equal`, the first content does not come after the second.
-  pub not-greater : {r : Order} → Ordered xs ys r → (tag r ≡ 0) ⊎ (tag r ≡ 1) → leq xs ys ≡ true
-  not-greater (is-less a b) e = a
-  not-greater (is-equal a) e = ap (leq xs) (sym a) ∙ leq-refl xs
-  not-greater (is-greater a) e = ⊎-elim (λ z. absurd (omega arith)) (λ z. absurd (omega arith)) e
+  -- Where the comparison answers `Less`, the contents are not equal, and the first does not come after the second.
+  pub less : {r : Order} → Ordered xs ys r → tag r ≡ 0 → (same ys xs ≡ false) × (leq xs ys ≡ true)
+  less (is-less a b) e = (unequal b, a)
+  less (is-equal a) e = absurd (omega arith)
+  less (is-greater a) e = absurd (omega arith)
 
-  -- Where it answers `Equal`, the contents are equal.
-  pub equal : {r : Order} → Ordered xs ys r → tag r ≡ 1 → same xs ys ≡ true
+  -- Where it answers `Equal`, the contents are equal, and so the first does not come after the second.
+  pub equal : {r : Order} → Ordered xs ys r → tag r ≡ 1 → (same ys xs ≡ true) × (leq xs ys ≡ true)
   equal (is-less a b) e = absurd (omega arith)
-  equal (is-equal a) e = ap (same xs) (sym a) ∙ same-refl xs
+  equal (is-equal a) e = (ap (same ys) a ∙ same-refl ys, ap (leq xs) (sym a) ∙ leq-refl xs)
   equal (is-greater a) e = absurd (omega arith)
 
-  -- Where it answers `Less` or `Greater`, the contents are not equal.
-  pub not-equal : {r : Order} → Ordered xs ys r → (tag r ≡ 0) ⊎ (tag r ≡ 2) → same xs ys ≡ false
-  not-equal o e = by-test (same xs ys) (λ z. absurd (differ o e (same-eq xs ys z))) (λ z. z)
-    where
-      differ : {r : Order} → Ordered xs ys r → (tag r ≡ 0) ⊎ (tag r ≡ 2) → xs ≡ ys → ⊥
-      differ (is-less a b) e z = b z
-      differ (is-equal a) e z = ⊎-elim (λ y. omega arith) (λ y. omega arith) e
-      differ (is-greater a) e z = false-true (sym a ∙ ap (leq xs) (sym z) ∙ leq-refl xs)
+  -- Where it answers `Greater`, the first content comes after the second, so they are not equal.
+  pub greater : {r : Order} → Ordered xs ys r → tag r ≡ 2 → (same ys xs ≡ false) × (leq xs ys ≡ false)
+  greater (is-less a b) e = absurd (omega arith)
+  greater (is-equal a) e = absurd (omega arith)
+  greater (is-greater a) e = (unequal (λ z. false-true (sym a ∙ ap (leq xs) (sym z) ∙ leq-refl xs)), a)

@@ -15,9 +15,11 @@ use Rattle.text_json.specs.Syntax.{Member, members}
 use Rattle.text_json.specs.Content.{unescape}
 use Rattle.text_content.specs.Fault.{mark, among, repeated}
 use Rattle.text_strings.specs.InString.{contentFrom, keyLe}
+use Rattle.text_keys.specs.Keys.{risingKeys}
 use Rattle.text_keys.specs.Repeats.{leftIf, sameLeft, equalLeft, repeatLeft, Places, no-places, place-at}
 use Rattle.text_keys.proofs.Keys.{keys-order}
 use Rattle.text_keys.proofs.Merges.{opened}
+use Rattle.text_keys.proofs.Orders.{rising-sorted}
 
 -- the most that is left from a key that is equal to the one right before it; k stands before the list
 unfoldable pub nextFrom : List ℕ → ℕ → List ℕ → ℕ
@@ -127,16 +129,18 @@ module _ (s : List ℕ) where
       next-insert k (sort-rising (keyLe s) (keys-order s) ks)
       ∙ (λ i. max (equal-sort k ks i) (next-sort ks i))
 
-  -- one step from a key to the next
-  pub next-step : (most : ℕ) (keys : List ℕ) (i : ℕ) → i + 1 < length keys
-      → max (max most (sameLeft s (getD keys i 0) (getD keys (i + 1) 0))) (nextLeft s (drop (i + 1) keys)) ≡ max most (nextLeft s (drop i keys))
+  -- Of keys in rising order, the most bytes left from one that is equal to an earlier one are those from one that is equal to the one right before it.
+  pub next-rising : (keys : List ℕ) → risingKeys s keys ≡ true → nextLeft s keys ≡ repeatLeft s keys
+  next-rising keys e = ap (nextLeft s) (sym (rising-sorted s keys e)) ∙ next-sort keys
+
+  -- One key more is compared with the next one: the larger of `most` and what this one tells stands for all keys that are passed.
+  pub next-step : (keys : List ℕ) (i most n r : ℕ) → i + 1 < length keys → r ≡ max most n → n ≡ sameLeft s (getD keys i 0) (getD keys (i + 1) 0)
+      → max most (nextLeft s (drop i keys)) ≡ nextLeft s keys → max r (nextLeft s (drop (i + 1) keys)) ≡ nextLeft s keys
   unfolding nextFrom nextLeft
-  next-step most keys i h =
-      rw (opened keys i (omega arith), opened keys (i + 1) h)
-      (regroup most (sameLeft s (getD keys i 0) (getD keys (i + 1) 0)) (nextFrom s (getD keys (i + 1) 0) (drop (i + 1 + 1) keys)))
-    where
-      regroup : (a b c : ℕ) → max (max a b) c ≡ max a (max b c)
-      regroup a b c = omega arith
+  next-step keys i most n r h e f k =
+      let o : nextLeft s (drop i keys) ≡ max (sameLeft s (getD keys i 0) (getD keys (i + 1) 0)) (nextLeft s (drop (i + 1) keys)) =
+      rw (opened keys i (omega arith), opened keys (i + 1) h) in
+      omega arith
 
   -- a list of one key at most
   pub next-short : (keys : List ℕ) → length keys ≤ 1 → nextLeft s keys ≡ 0

@@ -3,6 +3,7 @@
 use text_order::Order;
 ghost use mathlib.Core.Path.{_≡_};
 ghost use mathlib.Core.List.{List};
+ghost use mathlib.Core.Bool.{true};
 ghost use Prim.Native.Nat.{ℕ, _+_, _≤_, max};
 ghost use lib.ListN.{length, take, drop};
 ghost use Rattle.laws.specs.Sort.{sort, merge};
@@ -23,9 +24,16 @@ pub fn order_keys(s: &[u8], keys: &mut [u16], spare: &mut [u16]) -> Ordered
     ensures { λ _. ⌜ now (keys .exit) ≡ sort (keyLe (now (s .entry))) (now (keys .entry)) ⌝ }
     ensures { λ r. ⌜ (r .left ≡ repeatLeft (now (s .entry)) (now (keys .entry))) × (r .rising ≡ risingKeys (now (s .entry)) (now (keys .entry))) ⌝ }
 {
-    let rising = sort_unless_rising(s, keys, spare);
+    let found = check_order(s, keys);
+    if found.rising {
+        return found;
+    }
+    merge_sort(s, keys, spare);
     let left = repeat_left(s, keys);
-    Ordered { left, rising }
+    Ordered {
+        left,
+        rising: false,
+    }
 }
 
 // Sorts the keys by their contents; equal keys keep their order. What `spare` holds is overwritten.
@@ -33,35 +41,56 @@ pub fn sort_keys(s: &[u8], keys: &mut [u16], spare: &mut [u16])
     requires { ⌜ KeysAt (now s) (now keys) × (length (now keys) ≤ length (now spare)) ⌝ }
     ensures { λ _. ⌜ now (keys .exit) ≡ sort (keyLe (now (s .entry))) (now (keys .entry)) ⌝ }
 {
-    sort_unless_rising(s, keys, spare);
-}
-
-// Sorts the keys where they are not in rising order, and answers whether they were: those of a text in canonical form are.
-fn sort_unless_rising(s: &[u8], keys: &mut [u16], spare: &mut [u16]) -> bool
-    requires { ⌜ KeysAt (now s) (now keys) × (length (now keys) ≤ length (now spare)) ⌝ }
-    ensures { λ _. ⌜ now (keys .exit) ≡ sort (keyLe (now (s .entry))) (now (keys .entry)) ⌝ }
-    ensures { λ r. ⌜ r ≡ risingKeys (now (s .entry)) (now (keys .entry)) ⌝ }
-{
-    let rising = in_order(s, keys);
-    if !rising {
+    let found = check_order(s, keys);
+    if !found.rising {
         merge_sort(s, keys, spare);
     }
-    rising
 }
 
-// No key comes after the next one.
-fn in_order(s: &[u8], keys: &[u16]) -> bool
+// The keys as they stand, each compared once with the next one: whether none comes after the next one and, if so, which one repeats an
+// earlier one. Those of a text in canonical form are in order.
+fn check_order(s: &[u8], keys: &[u16]) -> Ordered
     requires { ⌜ KeysAt (now s) (now keys) ⌝ }
-    ensures { λ r. ⌜ r ≡ risingKeys (now (s .entry)) (now (keys .entry)) ⌝ }
+    ensures { λ r. ⌜ r .rising ≡ risingKeys (now (s .entry)) (now (keys .entry)) ⌝ }
+    ensures { λ r. ⌜ (r .rising ≡ true → r .left ≡ repeatLeft (now (s .entry)) (now (keys .entry))) ⌝ }
 {
+    let mut most = 0;
     let mut at = 0;
     while at + 1 < keys.len() {
-        if !not_after(s, keys[at], keys[at + 1]) {
-            return false;
+        let pair = check_pair(s, keys[at], keys[at + 1]);
+        if !pair.rising {
+            return pair;
         }
+        most = larger(most, pair.left);
         at += 1;
     }
-    true
+    Ordered {
+        left: most,
+        rising: true,
+    }
+}
+
+// Two keys, the one at k in front of the one at l: whether the first does not come after the second, and how much of the text is left
+// from the second on where they are equal, else 0.
+fn check_pair(s: &[u8], k: u16, l: u16) -> Ordered
+    requires { ⌜ Inside (now s) (k + 1) × Inside (now s) (l + 1) ⌝ }
+    ensures { λ r. ⌜ (r .left ≡ sameLeft (now (s .entry)) k l) × (r .rising ≡ keyLe (now (s .entry)) k l) ⌝ }
+{
+    let at = l as usize;
+    match text_order::compare(s, (k as usize) + 1, s, at + 1) {
+        Order::Less => Ordered {
+            left: 0,
+            rising: true,
+        },
+        Order::Equal => Ordered {
+            left: s.len() - at,
+            rising: true,
+        },
+        Order::Greater => Ordered {
+            left: 0,
+            rising: false,
+        },
+    }
 }
 
 // Sorts each half, and merges the two.
@@ -110,7 +139,8 @@ fn merge_back(s: &[u8], left: &[u16], keys: &mut [u16])
     let mut at = 0;
     while i < left.len() {
         if j < keys.len() {
-            if !not_after(s, left[i], keys[j]) {
+            let pair = check_pair(s, left[i], keys[j]);
+            if !pair.rising {
                 keys[at] = keys[j];
                 j += 1;
                 at += 1;
@@ -123,17 +153,6 @@ fn merge_back(s: &[u8], left: &[u16], keys: &mut [u16])
     }
 }
 
-// The key at k does not come after the one at l.
-fn not_after(s: &[u8], k: u16, l: u16) -> bool
-    requires { ⌜ Inside (now s) (k + 1) × Inside (now s) (l + 1) ⌝ }
-    ensures { λ r. ⌜ r ≡ keyLe (now (s .entry)) k l ⌝ }
-{
-    match text_order::compare(s, (k as usize) + 1, s, (l as usize) + 1) {
-        Order::Greater => false,
-        _ => true,
-    }
-}
-
 // How much of the text is left from the first key on that is equal to an earlier one, 0 if there is none. Of sorted keys, equal ones
 // stand side by side in the order in which they stand in the text.
 pub fn repeat_left(s: &[u8], keys: &[u16]) -> usize
@@ -143,22 +162,11 @@ pub fn repeat_left(s: &[u8], keys: &[u16]) -> usize
     let mut most = 0;
     let mut i = 0;
     while i + 1 < keys.len() {
-        most = larger(most, left_if_same(s, keys[i], keys[i + 1]));
+        let pair = check_pair(s, keys[i], keys[i + 1]);
+        most = larger(most, pair.left);
         i += 1;
     }
     most
-}
-
-// How much of the text is left from the key at l on, 0 if it differs from the one at k.
-fn left_if_same(s: &[u8], k: u16, l: u16) -> usize
-    requires { ⌜ Inside (now s) (k + 1) × Inside (now s) (l + 1) ⌝ }
-    ensures { λ r. ⌜ r ≡ sameLeft (now (s .entry)) k l ⌝ }
-{
-    let at = l as usize;
-    match text_order::compare(s, at + 1, s, (k as usize) + 1) {
-        Order::Equal => s.len() - at,
-        _ => 0,
-    }
 }
 
 fn larger(a: usize, b: usize) -> usize

@@ -1,7 +1,7 @@
 -- Runs of bytes that are alike in two texts and end no string: comparing goes on behind them.
 -- Assumes nothing.
 use Prim.Native.Nat.{ℕ, zero, suc, _+_, _-_, _<_, _≤_}
-use mathlib.Core.Path.{_≡_, sym, ap, subst₂, _∙_}
+use mathlib.Core.Path.{_≡_, refl, sym, ap, subst₂, _∙_}
 use mathlib.Core.List.{List, [], _∷_, _++_}
 use mathlib.Core.Bool.{Bool, true, false, _&&_, and-eq-true-iff}
 use native.Mathlib.Omega.{arith}
@@ -16,7 +16,8 @@ use Rattle.text_chars.proofs.Plain.{unmarked-at}
 use Rattle.laws.specs.Order.{same}
 use Rattle.laws.proofs.Order.{by-test, same-eq}
 use Rattle.text_strings.specs.InString.{InString, Inside}
-use Rattle.text_order.specs.Compare.{alike}
+use Rattle.text_order.specs.Compare.{order, alike}
+use Rattle.text_order.specs.declared.Order.{Order}
 use Rattle.text_strings.proofs.Cursors.{inside-next}
 use Rattle.text_order.proofs.Orders.{Tracks, both-plain}
 
@@ -67,6 +68,16 @@ module _ (n : ℕ) (xs ys : List ℕ) where
 -- what the two loops that compare keep at i and j
 abbrev pub Both : (P Q : List ℕ → Type 0) (s : List ℕ) (i : ℕ) (t : List ℕ) (j : ℕ) → Type 0
 Both P Q s i t j = Inside s i × Inside t j × Tracks P Q (InString s i) (InString t j)
+
+module _ (s t : List ℕ) (i j : ℕ) where
+  -- Where nothing is passed, the order is the one from the start.
+  pub both-start : Inside s i → Inside t j → Both (InString s i) (InString t j) s i t j
+  both-start p q = (p, q, λ x y u v. (x, y, u, v, refl))
+
+  -- What is the order of the contents from the places reached on is the order of the whole contents.
+  pub told : {P Q : List ℕ → Type 0} {r : Order} → Both P Q s i t j
+      → ((x y : List ℕ) → InString s i x → InString t j y → r ≡ order x y) → (x y : List ℕ) → P x → Q y → r ≡ order x y
+  told b f x y p q = let k = b .2 x y p q in f (k .0) (k .1) (k .2) (k .3) ∙ sym (k .4)
 
 -- n bytes that are alike
 module _ (s t : List ℕ) (i j n : ℕ) (e : alike n (drop i s) (drop j t) ≡ true) where

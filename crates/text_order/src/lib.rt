@@ -75,35 +75,65 @@ fn compare_bytes(s: &[u8], i: usize, t: &[u8], j: usize) -> Order
     }
 }
 
-// The same sixteen bytes stand at i of s and at j of t.
-fn same16(s: &[u8], i: usize, t: &[u8], j: usize) -> bool
-    requires { ⌜ (i + 16 ≤ length (now s)) × (j + 16 ≤ length (now t)) ⌝ }
-    ensures { λ r. ⌜ r ≡ same (take 16 (drop i (now (s .entry)))) (take 16 (drop j (now (t .entry)))) ⌝ }
+// The same `count` bytes stand at i of s and at j of t. Where `count` is a numeral the compiler unrolls the loop, and the tests are
+// done at once.
+fn same_run(s: &[u8], i: usize, t: &[u8], j: usize, count: usize) -> bool
+    requires { ⌜ (i + count ≤ length (now s)) × (j + count ≤ length (now t)) ⌝ }
+    ensures { λ r. ⌜ r ≡ same (take count (drop i (now (s .entry)))) (take count (drop j (now (t .entry)))) ⌝ }
 {
     let mut all = true;
     let mut n = 0;
-    while n < 16 {
+    while n < count {
         all &= s[i + n] == t[j + n];
         n += 1;
     }
     all
 }
 
-// At i of s and at j of t the same sixteen bytes stand, none of them a quotation mark or a backslash.
-fn alike16(s: &[u8], i: usize, t: &[u8], j: usize) -> bool
+// At i of s and at j of t the same `count` bytes stand, none of them a quotation mark or a backslash.
+fn alike_run(s: &[u8], i: usize, t: &[u8], j: usize, count: usize) -> bool
     requires { ⌜ (i ≤ length (now s)) × (j ≤ length (now t)) ⌝ }
-    ensures { λ r. ⌜ r ≡ alike 16 (drop i (now (s .entry))) (drop j (now (t .entry))) ⌝ }
+    ensures { λ r. ⌜ r ≡ alike count (drop i (now (s .entry))) (drop j (now (t .entry))) ⌝ }
 {
-    if s.len() - i < 16 {
+    if s.len() - i < count {
         return false;
     }
-    if t.len() - j < 16 {
+    if t.len() - j < count {
         return false;
     }
-    if !same16(s, i, t, j) {
+    if !same_run(s, i, t, j, count) {
         return false;
     }
-    text_chars::unmarked(s, i, 16)
+    text_chars::unmarked(s, i, count)
+}
+
+// The order of two strings' contents from position i of s and position j of t on: told at once by their first bytes where these differ
+// and neither begins an escape.
+fn compare_first(s: &[u8], i: usize, t: &[u8], j: usize) -> Order
+    requires { ⌜ Inside (now s) i × Inside (now t) j ⌝ }
+    ensures { λ r. ⌜ ((x y : List ℕ) → InString (now (s .entry)) i x → InString (now (t .entry)) j y → r ≡ order x y) ⌝ }
+{
+    let x = s[i];
+    let y = t[j];
+    if x == y {
+        return compare_bytes(s, i, t, j);
+    }
+    if either_escapes(x, y) {
+        return compare_bytes(s, i, t, j);
+    }
+    differ(x, y)
+}
+
+// The order of two strings' contents from position i of s and position j of t on: eight bytes at once if they are alike, then byte by
+// byte.
+fn compare_rest(s: &[u8], i: usize, t: &[u8], j: usize) -> Order
+    requires { ⌜ Inside (now s) i × Inside (now t) j ⌝ }
+    ensures { λ r. ⌜ ((x y : List ℕ) → InString (now (s .entry)) i x → InString (now (t .entry)) j y → r ≡ order x y) ⌝ }
+{
+    if alike_run(s, i, t, j, 8) {
+        return compare_bytes(s, i + 8, t, j + 8);
+    }
+    compare_bytes(s, i, t, j)
 }
 
 // The order of two strings' contents from position i of s and position j of t on: sixteen bytes at a time while they are alike. Most
@@ -113,13 +143,13 @@ pub fn compare(s: &[u8], i: usize, t: &[u8], j: usize) -> Order
     ensures { λ r. ⌜ ((x y : List ℕ) → InString (now (s .entry)) i x → InString (now (t .entry)) j y → r ≡ order x y) ⌝ }
 {
     if s[i] != t[j] {
-        return compare_bytes(s, i, t, j);
+        return compare_first(s, i, t, j);
     }
     let mut k = 0;
-    while alike16(s, i + k, t, j + k) {
+    while alike_run(s, i + k, t, j + k, 16) {
         k += 16;
     }
-    compare_bytes(s, i + k, t, j + k)
+    compare_rest(s, i + k, t, j + k)
 }
 
 // One of the bytes begins an escape.

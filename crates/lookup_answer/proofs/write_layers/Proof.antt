@@ -1,5 +1,5 @@
--- `lookup::write_layers` meets its contract: the number and the value of the first layer that fails are told, and else the digests are written if there is
--- space. Assumes nothing.
+-- `lookup_answer::write_layers` meets its contract: the number and the value of the first layer that fails are told, and else the digests are written
+-- if there is space. Assumes nothing.
 use Prim.Native.Nat.{_-_, _≤_}
 use mathlib.Core.Path.{_≡_, refl, sym, subst}
 use mathlib.Core.List.{List, map}

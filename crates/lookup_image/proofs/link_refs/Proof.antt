@@ -1,4 +1,4 @@
--- `lookup::link_refs` meets its contract: the references are marked and indexed, and then linked. Assumes nothing.
+-- `lookup_image::link_refs` meets its contract: the references are marked and indexed, and then linked. Assumes nothing.
 use Prim.Native.Nat.{ℕ, _≤_}
 use mathlib.Core.Path.{_≡_, sym, _∙_}
 use mathlib.Core.List.{List}

@@ -1,4 +1,4 @@
--- `lookup::resolve_in` meets its contract: the references of the store and of the image are placed and linked, and the digests of the layers are written.
+-- `lookup_image::resolve_in` meets its contract: the references of the store and of the image are placed and linked, and the digests of the layers are written.
 -- Assumes nothing.
 use Prim.Native.Nat.{ℕ, _≤_}
 use mathlib.Core.Path.{_≡_, refl, sym, ap}

@@ -1,4 +1,4 @@
--- `lookup_table::index_refs` meets its contract. The loop's invariant: the aliases among the first e references are in the index. The measure is how many
+-- `lookup_index::index_refs` meets its contract. The loop's invariant: the aliases among the first e references are in the index. The measure is how many
 -- references are left. Assumes nothing.
 use Prim.Native.Nat.{_-_, _≤_}
 use mathlib.Core.Path.{_≡_}

@@ -1,4 +1,4 @@
--- `lookup_table::mark` meets its contract, for each kind of reference. Assumes nothing.
+-- `lookup_index::mark` meets its contract, for each kind of reference. Assumes nothing.
 use Rattle.lookup_index.proofs.Marking.{marks-digest, marks-bad, marks-alias}
 use borrow.Author.Needs.{needs}
 use Rattle.lookup_index.proofs.mark.Statement.{statement}

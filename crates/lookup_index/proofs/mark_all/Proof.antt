@@ -1,4 +1,4 @@
--- `lookup_table::mark_all` meets its contract. The loop's invariant: the first e references are marked. The measure is how many are left.
+-- `lookup_index::mark_all` meets its contract. The loop's invariant: the first e references are marked. The measure is how many are left.
 -- Assumes nothing.
 use Prim.Native.Nat.{_-_, _≤_, _<_}
 use mathlib.Core.Path.{_≡_, refl, _∙_}

@@ -1,4 +1,4 @@
--- `lookup_table::tabulate` meets its contract: what is marked as an alias has a name, and stands in the index. Assumes nothing.
+-- `lookup_index::tabulate` meets its contract: what is marked as an alias has a name, and stands in the index. Assumes nothing.
 use mathlib.Core.Path.{_≡_, _∙_}
 use native.Mathlib.Omega.{arith}
 use borrow.Author.Needs.{needs}

@@ -1,4 +1,4 @@
--- `manifest::names::conflicts` meets its contract: the names of the group `contents` are looked up, and their keys compared. Assumes nothing.
+-- `manifest_aliases::conflicts` meets its contract: the names of the group `contents` are looked up, and their keys compared. Assumes nothing.
 use mathlib.Core.Path.{_∙_}
 use Rattle.manifest_fields.specs.Accessors.{contentsField, contentsOf}
 use Rattle.manifest_heads.specs.Contents.{namedIn}

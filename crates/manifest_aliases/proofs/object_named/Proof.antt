@@ -1,4 +1,4 @@
--- `manifest::names::object_named` meets its contract: the key under which the name stands is read as a layer reference. Assumes nothing.
+-- `manifest_aliases::object_named` meets its contract: the key under which the name stands is read as a layer reference. Assumes nothing.
 use borrow.Author.Needs.{needs}
 use mathlib.Core.Path.{subst}
 use native.Mathlib.Omega.{arith}

@@ -1,4 +1,4 @@
--- `manifest::names::object_of` meets its contract: what was read is an alias, and its name is looked up. Assumes nothing.
+-- `manifest_aliases::object_of` meets its contract: what was read is an alias, and its name is looked up. Assumes nothing.
 use borrow.Author.Needs.{needs}
 use Prim.Native.Nat.{ℕ}
 use mathlib.Core.List.{List}

@@ -1,4 +1,4 @@
--- `manifest::names::shares_self` meets its contract: the names of the group `self` are looked up. Assumes nothing.
+-- `manifest_aliases::shares_self` meets its contract: the names of the group `self` are looked up. Assumes nothing.
 use Rattle.manifest_fields.specs.Accessors.{selfField, selfOf}
 use Rattle.manifest.specs.Manifest.{manifestOf, selfNames}
 use Rattle.manifest.proofs.Groups.{self-grouped, some-names}

@@ -1,4 +1,4 @@
--- `manifest::names::sort_contents` meets its contract: the names of the group `contents` are sorted. Assumes nothing.
+-- `manifest_aliases::sort_contents` meets its contract: the names of the group `contents` are sorted. Assumes nothing.
 use borrow.Author.Needs.{needs}
 use Rattle.manifest.proofs.Groups.{contents-space, contents-sorted}
 use Rattle.manifest_aliases.proofs.sort_contents.Statement.{statement}

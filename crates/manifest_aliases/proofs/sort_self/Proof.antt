@@ -1,4 +1,4 @@
--- `manifest::names::sort_self` meets its contract: the names of the group `self` are sorted. Assumes nothing.
+-- `manifest_aliases::sort_self` meets its contract: the names of the group `self` are sorted. Assumes nothing.
 use borrow.Author.Needs.{needs}
 use mathlib.Core.Path.{sym, _∙_}
 use lib.Seq.{length-take-le}

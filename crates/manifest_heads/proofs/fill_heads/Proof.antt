@@ -1,4 +1,4 @@
--- `manifest_names::headed::fill_heads` meets its contract. The loop's invariant: the heads of the first k names are there. The measure is how many names
+-- `manifest_heads::fill_heads` meets its contract. The loop's invariant: the heads of the first k names are there. The measure is how many names
 -- are left. Assumes nothing.
 use Prim.Native.Nat.{_-_, _≤_}
 use mathlib.Core.Path.{_≡_, refl}

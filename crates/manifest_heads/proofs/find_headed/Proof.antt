@@ -1,4 +1,4 @@
--- `manifest_names::headed::find_headed` meets its contract. The loop's invariant: the content is none of the names outside of what is left. The measure is
+-- `manifest_heads::find_headed` meets its contract. The loop's invariant: the content is none of the names outside of what is left. The measure is
 -- how much is left. Assumes nothing.
 use borrow.Author.Needs.{needs}
 use Prim.Native.Nat.{ℕ, _+_, _-_, _<_, _≤_, _/_}

@@ -1,4 +1,4 @@
--- `manifest_names::headed::has_headed` meets its contract. Assumes nothing.
+-- `manifest_heads::has_headed` meets its contract. Assumes nothing.
 use mathlib.Core.Path.{sym}
 use borrow.Author.Needs.{needs}
 use Rattle.manifest_heads.proofs.Searching.{stands}

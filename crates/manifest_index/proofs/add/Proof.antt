@@ -1,4 +1,4 @@
--- `manifest::index::add` meets its contract: the name is put into the index. Assumes nothing.
+-- `manifest_index::add` meets its contract: the name is put into the index. Assumes nothing.
 use borrow.Author.Needs.{needs}
 use Rattle.manifest_index.proofs.add.Statement.{statement}
 use Rattle.manifest_index.proofs.add.Tie as tie

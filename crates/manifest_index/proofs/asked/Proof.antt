@@ -1,4 +1,4 @@
--- `manifest::index::asked` meets its contract: an alias is looked up, any other rule asks for none. Assumes nothing.
+-- `manifest_index::asked` meets its contract: an alias is looked up, any other rule asks for none. Assumes nothing.
 use mathlib.Core.Path.{subst}
 use borrow.Author.Needs.{needs}
 use denote.Ref.{now}

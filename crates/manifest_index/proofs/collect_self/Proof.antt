@@ -1,4 +1,4 @@
--- `manifest::index::collect_self` meets its contract: the names of the group `self` are collected. Assumes nothing.
+-- `manifest_index::collect_self` meets its contract: the names of the group `self` are collected. Assumes nothing.
 use borrow.Author.Needs.{needs}
 use native.Mathlib.Omega.{arith}
 use denote.Ref.{now}

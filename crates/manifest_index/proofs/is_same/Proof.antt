@@ -1,4 +1,4 @@
--- `manifest::index::is_same` meets its contract: the contents at the two positions are compared. Assumes nothing.
+-- `manifest_index::is_same` meets its contract: the contents at the two positions are compared. Assumes nothing.
 use borrow.Author.Needs.{needs}
 use Rattle.text_index.specs.Index.{entryText}
 use Rattle.manifest_index.specs.Index.{nameAt}

@@ -1,4 +1,4 @@
--- `manifest::index::place_self` meets its contract. The loop's invariant: the positions of the first i aliases are written. The measure is how many are
+-- `manifest_index::place_self` meets its contract. The loop's invariant: the positions of the first i aliases are written. The measure is how many are
 -- left. Assumes nothing.
 use Prim.Native.Nat.{_+_, _-_, _≤_, _<_}
 use mathlib.Core.Path.{_≡_}

@@ -1,4 +1,4 @@
--- `manifest::rules::manifest_matches` meets its contract: the digest is compared with the bytes, the alias was looked up before.
+-- `manifest_rules::manifest_matches` meets its contract: the digest is compared with the bytes, the alias was looked up before.
 -- Assumes nothing.
 use mathlib.Core.Path.{subst, _∙_}
 use borrow.Author.Needs.{needs}

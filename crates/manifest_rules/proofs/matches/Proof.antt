@@ -1,4 +1,4 @@
--- `manifest::rules::matches` meets its contract: the parts of the rule are compared one after the other.
+-- `manifest_rules::matches` meets its contract: the parts of the rule are compared one after the other.
 -- Assumes nothing.
 use mathlib.Core.Path.{sym, ap, _∙_}
 use borrow.Author.Needs.{needs}

@@ -1,4 +1,4 @@
--- `manifest::rules::place` meets its contract: the strings of `accepts` are placed. Assumes nothing.
+-- `manifest_rules::place` meets its contract: the strings of `accepts` are placed. Assumes nothing.
 use borrow.Author.Needs.{needs}
 use native.Mathlib.Omega.{arith}
 use Rattle.manifest_rules.proofs.RulePlaces.{placed-count, placeable-rules, rules-placed}

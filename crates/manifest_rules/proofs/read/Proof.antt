@@ -1,4 +1,4 @@
--- `manifest::rules::read` meets its contract: what was read there stands for the rule that stands there. Assumes nothing.
+-- `manifest_rules::read` meets its contract: what was read there stands for the rule that stands there. Assumes nothing.
 use Rattle.manifest_rules.proofs.read.Statement.{statement}
 use Rattle.manifest_rules.proofs.read.Tie as tie
 

@@ -1,4 +1,4 @@
--- `policy_marks::judge_table` meets its contract.
+-- `policy_judge::judge_table` meets its contract.
 use Prim.Native.Nat.{_*_}
 use mathlib.Core.Path.{_≡_, refl, ap, _∙_}
 use mathlib.Core.List.{List, _++_}

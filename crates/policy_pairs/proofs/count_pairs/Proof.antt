@@ -1,4 +1,4 @@
--- `policy_marks::count_pairs` meets its contract. The loop's invariant: the pairs of the first g images are counted. The measure is how many are left.
+-- `policy_pairs::count_pairs` meets its contract. The loop's invariant: the pairs of the first g images are counted. The measure is how many are left.
 use Prim.Native.Nat.{_-_, _≤_}
 use mathlib.Core.Path.{_≡_, refl, ap, _∙_}
 use native.Mathlib.Omega.{arith}

@@ -1,4 +1,4 @@
--- `policy_marks::write_pairs` meets its contract. The loop's invariant: the pairs of the first g images are written. The measure is how many are left.
+-- `policy_pairs::write_pairs` meets its contract. The loop's invariant: the pairs of the first g images are written. The measure is how many are left.
 use Prim.Native.Nat.{ℕ, _+_, _*_, _-_, _≤_}
 use mathlib.Core.Path.{refl, sym, ap, subst, _∙_}
 use mathlib.Core.List.{_++_}

@@ -1,4 +1,4 @@
--- `policy_table::matched` meets its contract. The loop's invariant: the word has the marks of the images from j on. The measure is j.
+-- `policy_rows::matched` meets its contract. The loop's invariant: the word has the marks of the images from j on. The measure is j.
 use Prim.Native.Nat.{ℕ, _+_, _-_, _*_, _^_, _<_}
 use mathlib.Core.Path.{_≡_, sym, _∙_}
 use mathlib.Core.Bool.{true, false}

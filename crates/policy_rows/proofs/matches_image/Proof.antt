@@ -1,4 +1,4 @@
--- `policy_table::matches_image` meets its contract: the image of a record has one ID.
+-- `policy_rows::matches_image` meets its contract: the image of a record has one ID.
 use mathlib.Core.Path.{_∙_}
 use Rattle.store_record.specs.Reading.{between}
 use Rattle.policy_rows.proofs.Joining.{matches-held}

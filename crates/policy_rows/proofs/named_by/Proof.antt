@@ -1,4 +1,4 @@
--- `policy_table::named_by` meets its contract: the names that the rule asks for stand together in the index.
+-- `policy_rows::named_by` meets its contract: the names that the rule asks for stand together in the index.
 use Prim.Native.Nat.{_-_, _/_}
 use mathlib.Core.Path.{_∙_}
 use native.Mathlib.Omega.{arith}

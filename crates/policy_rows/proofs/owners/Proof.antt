@@ -1,4 +1,4 @@
--- `policy_table::owners` meets its contract. The loop's invariant: the word has the images of the first i numbers. The measure is how many are left.
+-- `policy_rows::owners` meets its contract. The loop's invariant: the word has the images of the first i numbers. The measure is how many are left.
 use Prim.Native.Nat.{_-_, _<_}
 use native.Mathlib.Omega.{arith}
 use borrow.Author.Needs.{needs}

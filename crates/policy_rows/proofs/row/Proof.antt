@@ -1,4 +1,4 @@
--- `policy_table::row` meets its contract. The loop's invariant: the word has a mark for each image that one of the first j rules matches. The measure is
+-- `policy_rows::row` meets its contract. The loop's invariant: the word has a mark for each image that one of the first j rules matches. The measure is
 -- how many rules are left.
 use Prim.Native.Nat.{_-_, _≤_, _<_}
 use mathlib.Core.Path.{_∙_}

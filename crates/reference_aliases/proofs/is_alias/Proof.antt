@@ -1,4 +1,4 @@
--- `reference::alias::is_alias` meets its contract.
+-- `reference_aliases::is_alias` meets its contract.
 -- Assumes nothing.
 use mathlib.Core.Path.{ap, sym, _∙_}
 use Rattle.reference_parts.proofs.Parts.{is-not-last}

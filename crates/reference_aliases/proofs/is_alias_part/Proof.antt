@@ -1,4 +1,4 @@
--- `reference::alias::is_alias_part` meets its contract.
+-- `reference_aliases::is_alias_part` meets its contract.
 -- Assumes nothing.
 use mathlib.Core.Path.{ap, sym, _∙_}
 use mathlib.Core.Bool.{not}

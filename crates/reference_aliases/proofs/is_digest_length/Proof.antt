@@ -1,4 +1,4 @@
--- `reference::alias::is_digest_length` meets its contract.
+-- `reference_aliases::is_digest_length` meets its contract.
 -- Assumes nothing.
 use mathlib.Core.Path.{sym, _∙_}
 use Rattle.reference_aliases.proofs.Named.{known-length, other-length, lengths-known}

@@ -1,4 +1,4 @@
--- `reference::alias::is_name_length` meets its contract: the tests that were made say which case of the definition holds.
+-- `reference_aliases::is_name_length` meets its contract: the tests that were made say which case of the definition holds.
 -- Assumes nothing.
 use mathlib.Core.Path.{sym, ap, _∙_}
 use mathlib.Core.Bool.{Bool, not, _&&_}

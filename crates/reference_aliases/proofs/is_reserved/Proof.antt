@@ -1,4 +1,4 @@
--- `reference::alias::is_reserved` meets its contract: the words are tried one after the other.
+-- `reference_aliases::is_reserved` meets its contract: the words are tried one after the other.
 -- Assumes nothing.
 use Rattle.reference_aliases.proofs.Named.{or-taken, or-left}
 use Rattle.reference_aliases.specs.Aliases.{isReserved}

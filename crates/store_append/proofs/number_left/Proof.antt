@@ -1,4 +1,4 @@
--- `store::number_left` meets its contract: the questions are asked in the order of their numbers.
+-- `store_append::number_left` meets its contract: the questions are asked in the order of their numbers.
 use mathlib.Core.Path.{refl, sym, _∙_}
 use native.Mathlib.Omega.{arith}
 use borrow.Author.Needs.{needs}

@@ -1,4 +1,4 @@
--- `store::write_record` meets its contract: after each step the bytes so far stand at the start of the buffer.
+-- `store_append::write_record` meets its contract: after each step the bytes so far stand at the start of the buffer.
 use Prim.Native.Nat.{ℕ, _+_, _-_, _≤_}
 use mathlib.Core.Path.{_≡_, sym, ap, _∙_}
 use mathlib.Core.List.{List, _++_}

@@ -1,4 +1,4 @@
--- `store_clash::any_conflict` meets its contract. The loop's invariant: the answer for the images from i on is the answer for all. The measure is how
+-- `store_conflict::any_conflict` meets its contract. The loop's invariant: the answer for the images from i on is the answer for all. The measure is how
 -- many are left. The arrays keep their lengths.
 use Prim.Native.Nat.{_-_, _≤_}
 use mathlib.Core.Path.{_≡_, refl, sym, _∙_}

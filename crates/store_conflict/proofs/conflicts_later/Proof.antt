@@ -1,13 +1,14 @@
--- `store_clash::conflicts_later` meets its contract: where no later image is of the signer none has a layer key of it.
+-- `store_conflict::conflicts_later` meets its contract: where no later image is of the signer none has a layer key of it.
 use Prim.Native.Nat.{_+_}
 use mathlib.Core.Path.{sym, _∙_}
 use native.Mathlib.Omega.{arith}
 use borrow.Author.Tests.{not-true}
 use denote.Ref.{now}
 use lib.ListN.{getD}
-use lib.Seq.{length-take-le}
+use Rattle.manifest.proofs.Opening.{opened-short}
 use Rattle.store_record.specs.Reading.{between, noRecord, RecordIn}
 use Rattle.store_names.proofs.Opened.{opened-at}
+use Rattle.store_conflict.proofs.Lent.{space-less}
 use Rattle.store_conflict.proofs.Walking.{layers-none, layers-held}
 use borrow.Author.Needs.{needs}
 use Rattle.store_conflict.proofs.conflicts_later.Statement.{statement}
@@ -58,24 +59,22 @@ part-signer-start c = let r = inside (start (read (c .before .before))) in omega
 part-signer-end : tie.Need-part-signer-end
 part-signer-end c = let r = inside (start (read (c .before .before))) in omega (arith, r .manifest, r .text, r .within)
 
-sort-layers-requires : tie.Need-sort-layers-requires
+any-clashes-with-requires : tie.Need-any-clashes-with-requires
 unfolding between
-sort-layers-requires c κs = let p = start (read (c .before .before .before .before .before .before .before)) .pre in (opened-at _ _ _ (p .0) _ (p .1) _, p .2)
-
-slice-aggregate-any-clashes-in : tie.Need-slice-aggregate-any-clashes-in
-slice-aggregate-any-clashes-in c =
-    sym (length-take-le _ _ (c .before .before .before .before .before .before .before .before .before .sort-layers .ensures .0))
+any-clashes-with-requires c κs =
+    let p = start (read (c .before .before .before .before .before .before .before)) .pre in
+    let o = opened-at _ _ _ (p .0) _ (p .1) _ in
+    (o, p .0, space-less (opened-short _ _ o) (p .2))
 
 returns-2 : tie.Need-returns-2
 unfolding between
 returns-2 c =
-    let f = c .before .before .before .before .before .before .before .before .before .before .before .before in
+    let f = c .before .before .before .before .before .before .before .before in
     let a = start (read (f .before .before .before .before .before .before .before .before)) .args in
-    c .any-clashes-in .ensures ∙ sym (layers-held (now (a .b)) (a .t2) (a .i .0 + 1) _)
+    f .any-clashes-with .ensures ∙ sym (layers-held (now (a .b)) (a .t2) (a .i .0 + 1) _)
 
 pub conflicts-later-spec : {M : Type 1} → statement M
 conflicts-later-spec =
     tie.close (tie.spec (λ c. search needs) (λ c. search needs) (λ c. search needs) sub-has-signer part-has-signer-start part-has-signer-end
     (λ c κs. search needs) returns (λ c. search needs) (λ c. search needs) sub-s part-s-start part-s-end sub-signer part-signer-start part-signer-end
-    sort-layers-requires (λ c. search needs) slice-aggregate-any-clashes-in (λ c κs. search needs) (λ c. search needs) (λ c. search needs)
-    (λ c. search needs) (λ c. search needs) returns-2)
+    any-clashes-with-requires (λ c. search needs) (λ c. search needs) (λ c. search needs) (λ c. search needs) returns-2)

@@ -1,4 +1,4 @@
--- `store_record::id_twice` meets its contract. The loop's invariant: the answer for the images from i on is the answer for all. The measure is
+-- `store_ids::id_twice` meets its contract. The loop's invariant: the answer for the images from i on is the answer for all. The measure is
 -- how many are left.
 use Prim.Native.Nat.{_-_, _≤_}
 use mathlib.Core.Path.{_≡_, refl, sym, _∙_}

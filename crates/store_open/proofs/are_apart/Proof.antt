@@ -1,4 +1,4 @@
--- `store::are_apart` meets its contract.
+-- `store_open::are_apart` meets its contract.
 use borrow.Author.Needs.{needs}
 use Rattle.store_open.proofs.Opening.{twice-apart, clash-apart}
 use Rattle.store_open.proofs.are_apart.Statement.{statement}

@@ -1,4 +1,4 @@
--- `store::open` meets its contract.
+-- `store_open::open` meets its contract.
 use Prim.Native.Nat.{ℕ, _<_}
 use mathlib.Core.Path.{_≡_, ap}
 use mathlib.Core.Bool.{true}

@@ -1,4 +1,4 @@
--- `store::open_all` meets its contract. The loop keeps that the manifests of the records before i are opened, and the lengths of the arrays; the measure
+-- `store_open::open_all` meets its contract. The loop keeps that the manifests of the records before i are opened, and the lengths of the arrays; the measure
 -- is how many records are left.
 use Prim.Native.Nat.{_-_, _≤_, _<_}
 use mathlib.Core.Path.{_≡_, refl}

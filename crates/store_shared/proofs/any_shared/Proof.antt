@@ -1,4 +1,4 @@
--- `store_names::any_shared` meets its contract: the names are placed, indexed and grouped, and then gone through once.
+-- `store_shared::any_shared` meets its contract: the names are placed, indexed and grouped, and then gone through once.
 use Prim.Native.Nat.{_≤_}
 use mathlib.Core.Path.{sym, _∙_}
 use native.Mathlib.Omega.{arith}

@@ -1,4 +1,4 @@
--- `store_names::first_signed` meets its contract. The loop's invariant: none of the first j images is of the signer. The measure is how many are left.
+-- `store_shared::first_signed` meets its contract. The loop's invariant: none of the first j images is of the signer. The measure is how many are left.
 use Prim.Native.Nat.{ℕ, _-_, _≤_, _<_}
 use mathlib.Core.Path.{_≡_, sym, _∙_}
 use mathlib.Core.Bool.{false}

@@ -1,4 +1,4 @@
--- `store_names::group_all` meets its contract. The loop's invariant: the groups of the first i images are written. The measure is how many are left.
+-- `store_shared::group_all` meets its contract. The loop's invariant: the groups of the first i images are written. The measure is how many are left.
 use Prim.Native.Nat.{ℕ, _-_, _≤_, _<_}
 use mathlib.Core.Path.{_≡_, sym, subst, _∙_}
 use native.Mathlib.Omega.{arith}

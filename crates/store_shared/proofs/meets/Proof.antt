@@ -1,4 +1,4 @@
--- `store_names::meets` meets its contract. The loop's invariant: the answer for the places from k on is the answer from `start` on. The measure is how many
+-- `store_shared::meets` meets its contract. The loop's invariant: the answer for the places from k on is the answer from `start` on. The measure is how many
 -- are left.
 use Prim.Native.Nat.{ℕ, _+_, _-_, _<_}
 use mathlib.Core.Path.{_≡_, refl, sym, ap, _∙_}

@@ -1,4 +1,4 @@
--- `store_names::run_start` meets its contract: the name is compared with that before it.
+-- `store_shared::run_start` meets its contract: the name is compared with that before it.
 use native.Mathlib.Omega.{arith}
 use mathlib.Core.Path.{sym, _∙_}
 use borrow.Author.Needs.{needs}

@@ -1,4 +1,4 @@
--- `store_names::shares_any` meets its contract. The loop's invariant: no two of the first m places share a name. The measure is how many are left.
+-- `store_shared::shares_any` meets its contract. The loop's invariant: no two of the first m places share a name. The measure is how many are left.
 use Prim.Native.Nat.{_-_}
 use mathlib.Core.Path.{sym, _∙_}
 use native.Mathlib.Omega.{arith}

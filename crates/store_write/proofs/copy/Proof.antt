@@ -1,4 +1,4 @@
--- `store_record::copy` meets its contract. The loop's invariant: the first i bytes are written. The measure is how many are left.
+-- `store_write::copy` meets its contract. The loop's invariant: the first i bytes are written. The measure is how many are left.
 use Prim.Native.Nat.{_≤_, _-_}
 use denote.Ref.{now}
 use native.Mathlib.Nat.{zero-add}

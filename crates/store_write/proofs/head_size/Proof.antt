@@ -1,4 +1,4 @@
--- `store_record::head_size` meets its contract: the number is short, so that the sum fits.
+-- `store_write::head_size` meets its contract: the number is short, so that the sum fits.
 use borrow.Author.Needs.{needs}
 use Prim.Native.Nat.{ℕ, _+_, _*_}
 use mathlib.Core.Path.{ap, _∙_}

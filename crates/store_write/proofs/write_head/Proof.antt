@@ -1,4 +1,4 @@
--- `store_record::write_head` meets its contract: after each step the bytes so far stand at the start of the slice.
+-- `store_write::write_head` meets its contract: after each step the bytes so far stand at the start of the slice.
 use borrow.Author.Needs.{needs}
 use Prim.Native.Nat.{ℕ, _+_, _-_, _*_, _≤_}
 use mathlib.Core.Path.{_≡_, sym, ap, subst, _∙_}

@@ -1,4 +1,4 @@
--- `text_json::string::byte_size` meets its contract: the byte is one of the two that are escaped, or neither.
+-- `text_chars::byte_size` meets its contract: the byte is one of the two that are escaped, or neither.
 -- Assumes nothing.
 use mathlib.Core.Path.{refl}
 use mathlib.Core.Logic.{inl, inr, ⊎-elim}

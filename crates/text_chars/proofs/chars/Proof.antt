@@ -1,4 +1,4 @@
--- `text_json::string::chars` meets its contract. The invariant: what is measured at `at` is `refused` and `size` added to what is
+-- `text_chars::chars` meets its contract. The invariant: what is measured at `at` is `refused` and `size` added to what is
 -- measured at `i`, and the canonical form of what was passed is no longer than it is.
 -- Assumes nothing.
 use Prim.Native.Nat.{ℕ, _+_, _-_, _≤_}

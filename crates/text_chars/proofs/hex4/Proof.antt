@@ -1,4 +1,4 @@
--- `text_json::string::hex4` meets its contract. The invariant: reading at `at` goes on as reading at `i`, with `left` digits to come after
+-- `text_chars::hex4` meets its contract. The invariant: reading at `at` goes on as reading at `i`, with `left` digits to come after
 -- the next one and `n` made up so far.
 -- Assumes nothing.
 use Prim.Native.Nat.{ℕ, zero, suc, _+_, _*_, _-_, _≤_, _<_}

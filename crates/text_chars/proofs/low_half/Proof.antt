@@ -1,4 +1,4 @@
--- `text_json::string::low_half` meets its contract: each byte that is no part of a \u escape rules a second half out, and the four
+-- `text_chars::low_half` meets its contract: each byte that is no part of a \u escape rules a second half out, and the four
 -- digits say whether it is a low surrogate.
 -- Assumes nothing.
 use Prim.Native.Nat.{ℕ, _+_, _≤_}

@@ -1,4 +1,4 @@
--- `text_json::string::none_below_space` meets its contract. The loop's invariant: `all` is the test of the bytes passed. The measure is how many are left.
+-- `text_chars::none_below_space` meets its contract. The loop's invariant: `all` is the test of the bytes passed. The measure is how many are left.
 -- Assumes nothing.
 use Prim.Native.Nat.{_-_, _≤_}
 use mathlib.Core.Path.{_≡_, refl}
@@ -12,10 +12,10 @@ use Rattle.text_chars.proofs.none_below_space.Statement.{statement}
 use Rattle.text_chars.proofs.none_below_space.Tie as tie
 
 abbrev Inv-loop : tie.InvT-loop
-Inv-loop s at all₀ n₀ all n = (n ≤ 16) × (all ≡ every (leb 0x20) (take n (drop at s)))
+Inv-loop s at count all₀ n₀ all n = (n ≤ count) × (all ≡ every (leb 0x20) (take n (drop at s)))
 
 abbrev μ-loop : tie.MeasureT-loop
-μ-loop s at all₀ n₀ all n = 16 - n
+μ-loop s at count all₀ n₀ all n = count - n
 
 loop-holds : tie.Need-loop-holds Inv-loop μ-loop
 unfolding every
@@ -30,7 +30,7 @@ loop-again c =
 returns : tie.Need-returns Inv-loop μ-loop
 returns c =
     let l = c .before .loop in
-    let o : l .n ≡ 16 = omega arith in rw o at (l .inv .1)
+    let o : l .n ≡ c .before .before .args .count = omega arith in rw o at (l .inv .1)
 
 pub none-below-space-spec : {M : Type 1} → statement M
 none-below-space-spec =

@@ -1,4 +1,4 @@
--- `text_json::string::none_is` meets its contract. The loop's invariant: `all` is the test of the bytes passed. The measure is how many are left.
+-- `text_chars::none_is` meets its contract. The loop's invariant: `all` is the test of the bytes passed. The measure is how many are left.
 -- Assumes nothing.
 use Prim.Native.Nat.{_-_, _≤_}
 use mathlib.Core.Path.{_≡_, refl}

@@ -1,4 +1,4 @@
--- `text_json::string::one_escape` meets its contract: the byte after the backslash says which kind of escape it is.
+-- `text_chars::one_escape` meets its contract: the byte after the backslash says which kind of escape it is.
 -- Assumes nothing.
 use Prim.Native.Nat.{ℕ, _+_}
 use mathlib.Core.Path.{_≡_, sym, _∙_}

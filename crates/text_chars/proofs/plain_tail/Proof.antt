@@ -1,4 +1,4 @@
--- `text_json::string::plain_tail` meets its contract. The loop's invariant: the run from `i` on ends where the one from `at` on does. The
+-- `text_chars::plain_tail` meets its contract. The loop's invariant: the run from `i` on ends where the one from `at` on does. The
 -- measure is how much is left.
 -- Assumes nothing.
 use Prim.Native.Nat.{_+_, _-_, _≤_}

@@ -1,4 +1,4 @@
--- `text_json::string::string` meets its contract: `chars` reads what follows the opening quotation mark.
+-- `text_chars::string` meets its contract: `chars` reads what follows the opening quotation mark.
 -- Assumes nothing.
 use Prim.Native.Nat.{ℕ, _+_}
 use mathlib.Core.List.{List}

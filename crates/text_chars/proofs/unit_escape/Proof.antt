@@ -1,4 +1,4 @@
--- `text_json::string::unit_escape` meets its contract: a high surrogate's escape with a low one's after it weighs four bytes, and any
+-- `text_chars::unit_escape` meets its contract: a high surrogate's escape with a low one's after it weighs four bytes, and any
 -- other escape weighs what its character does.
 -- Assumes nothing.
 use Prim.Native.Nat.{_+_}

@@ -1,4 +1,4 @@
--- `text_json::string::unit_refused` meets its contract: below 80 (hex) there are no surrogates, and from there on no control characters.
+-- `text_chars::unit_refused` meets its contract: below 80 (hex) there are no surrogates, and from there on no control characters.
 -- Assumes nothing.
 use mathlib.Core.Bool.{or-false}
 use native.Mathlib.Omega.{arith}

@@ -1,4 +1,4 @@
--- `text_json::string::unit_size` meets its contract: the tests say in how many bytes the character is encoded.
+-- `text_chars::unit_size` meets its contract: the tests say in how many bytes the character is encoded.
 -- Assumes nothing.
 use mathlib.Core.Path.{sym, _∙_}
 use native.Mathlib.Omega.{arith}

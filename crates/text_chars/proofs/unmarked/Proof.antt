@@ -1,4 +1,4 @@
--- `text_json::string::unmarked` meets its contract: its two tests are those of an unmarked byte, each made of all bytes.
+-- `text_chars::unmarked` meets its contract: its two tests are those of an unmarked byte, each made of all bytes.
 -- Assumes nothing.
 use borrow.Author.Needs.{needs}
 use Rattle.text_chars.proofs.Plain.{every-unmarked}

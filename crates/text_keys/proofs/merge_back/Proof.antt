@@ -18,8 +18,8 @@ abbrev μ-loop : tie.MeasureT-loop
 loop-holds : tie.Need-loop-holds Inv-loop μ-loop
 loop-holds c = merging-start _ _ _ (c .before .before .before .pre .2)
 
-not-after-requires : tie.Need-not-after-requires Inv-loop μ-loop
-not-after-requires c κs =
+check-pair-requires : tie.Need-check-pair-requires Inv-loop μ-loop
+check-pair-requires c κs =
     let a = c .before .before .before .before .before .before .before .before in (
       keys-get (a .pre .0) _ (c .before .before .before .loop-test .taken),
       key-right (c .before .before .before .before .loop .inv) (a .pre .1) (c .before .before .if1 .taken),
@@ -27,13 +27,13 @@ not-after-requires c κs =
 
 loop-again : tie.Need-loop-again Inv-loop μ-loop
 loop-again c =
-    let r = c .before .before in
+    let r = c .before .before .before in
     merging-right _ _ _ _ _ _ _ (r .before .before .before .before .before .loop .inv) (r .before .before .before .before .loop-test .taken)
-    (r .before .before .before .if1 .taken) (sym (r .not-after .ensures) ∙ not-true _ (c .before .if2 .taken))
+    (r .before .before .before .if1 .taken) (sym (r .check-pair .ensures .1) ∙ not-true _ (c .before .if2 .taken))
 
 loop-again-2 : tie.Need-loop-again-2 Inv-loop μ-loop
 loop-again-2 c = merging-left _ _ _ _ _ _ _ (c .before .before .before .loop .inv) (c .before .before .loop-test .taken)
-    (⊎-elim (λ w. inr (w .0 .taken, sym (w .3 .ensures) ∙ not-false _ (w .4 .left))) (λ w. inl (w .left)) (c .before .if1 .came))
+    (⊎-elim (λ w. inr (w .0 .taken, sym (w .3 .ensures .1) ∙ not-false _ (w .5 .left))) (λ w. inl (w .left)) (c .before .if1 .came))
 
 same-length : tie.Need-same-length Inv-loop μ-loop
 same-length c = c .before .loop .inv .size
@@ -43,7 +43,7 @@ returns c = merging-done _ _ _ _ _ _ _ (c .loop-test .left) (c .before .loop .in
 
 pub merge-back-spec : {M : Type 1} → statement M
 merge-back-spec =
-    tie.close (tie.spec Inv-loop μ-loop loop-holds (λ c. omega arith) (λ c. omega arith) (λ c. omega arith) (λ c. omega arith) not-after-requires
+    tie.close (tie.spec Inv-loop μ-loop loop-holds (λ c. omega arith) (λ c. omega arith) (λ c. omega arith) (λ c. omega arith) check-pair-requires
     (λ c. omega arith) (λ c. omega arith) (λ c. omega arith) (λ c. omega arith) (λ c. omega arith) (λ c. omega arith) (λ c. omega arith) loop-again
     (λ c. omega arith) (λ c. omega arith) (λ c. omega arith) (λ c. omega arith) (λ c. omega arith) (λ c. omega arith) (λ c. omega arith) loop-again-2
     same-length returns)

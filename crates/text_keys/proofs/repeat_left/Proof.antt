@@ -1,6 +1,6 @@
 use borrow.Author.Needs.{needs}
-use Prim.Native.Nat.{ℕ, _≤_, _-_, _+_, max}
-use mathlib.Core.Path.{_≡_, ap, _∙_}
+use Prim.Native.Nat.{_≤_, _-_, max}
+use mathlib.Core.Path.{_≡_, ap}
 use native.Mathlib.Omega.{arith}
 use native.Mathlib.Nat.{zero-max}
 use denote.Ref.{now}
@@ -19,20 +19,15 @@ abbrev μ-loop : tie.MeasureT-loop
 loop-holds : tie.Need-loop-holds Inv-loop μ-loop
 loop-holds c = (omega arith, zero-max _)
 
-left-if-same-requires : tie.Need-left-if-same-requires Inv-loop μ-loop
-left-if-same-requires c κs =
+check-pair-requires : tie.Need-check-pair-requires Inv-loop μ-loop
+check-pair-requires c κs =
     let p = c .before .before .before .before .before .before .pre in
     (keys-get p _ (omega arith), keys-get p _ (omega arith))
 
 loop-again : tie.Need-loop-again Inv-loop μ-loop
 loop-again c =
     let l = c .before .before .before .before .before .loop in
-    let a = c .before .before .before .before .before .before .before .before .args in (
-      omega arith,
-      ap (λ (n : ℕ). max n (nextLeft (now (a .s)) (drop (l .i + 1) (now (a .keys))))) (c .larger .ensures
-          ∙ ap (max (l .most)) (c .before .left-if-same .ensures))
-          ∙ next-step (now (a .s)) (l .most) (now (a .keys)) (l .i) (omega arith) ∙ l .inv .1,
-    )
+    (omega arith, next-step _ _ (l .i) (l .most) _ _ (omega arith) (c .larger .ensures) (c .before .check-pair .ensures .0) (l .inv .1))
 
 returns : tie.Need-returns Inv-loop μ-loop
 returns c =
@@ -49,4 +44,4 @@ returns c =
 pub repeat-left-spec : {M : Type 1} → statement M
 repeat-left-spec =
     tie.close (tie.spec Inv-loop μ-loop loop-holds (λ c. omega arith) (λ c. omega arith) (λ c. omega arith) (λ c. omega arith) (λ c. omega arith)
-    (λ c. omega arith) left-if-same-requires (λ c κs. search needs) (λ c. omega arith) (λ c. omega arith) loop-again returns)
+    (λ c. omega arith) check-pair-requires (λ c κs. search needs) (λ c. omega arith) (λ c. omega arith) loop-again returns)

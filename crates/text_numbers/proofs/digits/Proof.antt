@@ -1,4 +1,4 @@
--- `text_json::number::digits` meets its contract. The invariant: the digits at `at` go on as those at `i`, after the number `n`, which is
+-- `text_numbers::digits` meets its contract. The invariant: the digits at `at` go on as those at `i`, after the number `n`, which is
 -- that of the digits passed or is with it above 32 bits.
 -- Assumes nothing.
 use Prim.Native.Nat.{ℕ, _+_, _-_, _≤_, _<_}

@@ -1,4 +1,4 @@
--- `text_json::number::exp` meets its contract: the byte there says whether there is an exponent, and digits must follow it, after a sign or none.
+-- `text_numbers::exp` meets its contract: the byte there says whether there is an exponent, and digits must follow it, after a sign or none.
 -- Assumes nothing.
 use Prim.Native.Nat.{ℕ, _+_}
 use mathlib.Core.Path.{_≡_, sym, _∙_}

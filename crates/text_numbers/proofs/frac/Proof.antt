@@ -1,4 +1,4 @@
--- `text_json::number::frac` meets its contract: the byte there says whether there is a fraction, and digits must follow its point.
+-- `text_numbers::frac` meets its contract: the byte there says whether there is a fraction, and digits must follow its point.
 -- Assumes nothing.
 use Prim.Native.Nat.{ℕ, _+_}
 use mathlib.Core.Path.{_≡_}

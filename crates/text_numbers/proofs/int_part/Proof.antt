@@ -1,4 +1,4 @@
--- `text_json::number::int_part` meets its contract: a zero stands alone, and `digits` reads what follows another first digit.
+-- `text_numbers::int_part` meets its contract: a zero stands alone, and `digits` reads what follows another first digit.
 -- Assumes nothing.
 use Prim.Native.Nat.{ℕ, _+_}
 use mathlib.Core.Path.{_≡_, refl, sym, ap, _∙_}

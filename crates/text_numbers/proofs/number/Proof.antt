@@ -1,4 +1,4 @@
--- `text_json::number::number` meets its contract: a sign is passed over, and `unsigned` reads what follows.
+-- `text_numbers::number` meets its contract: a sign is passed over, and `unsigned` reads what follows.
 -- Assumes nothing.
 use native.Mathlib.Omega.{arith}
 use borrow.Author.Needs.{needs}

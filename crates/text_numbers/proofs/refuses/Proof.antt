@@ -1,4 +1,4 @@
--- `text_json::number::refuses` meets its contract: the tests that were made say which case of the definition holds.
+-- `text_numbers::refuses` meets its contract: the tests that were made say which case of the definition holds.
 -- Assumes nothing.
 use borrow.Author.Tests.{not-true, not-false, ne-eqb}
 use Rattle.text_json.specs.Content.{limit}

@@ -1,4 +1,4 @@
--- `text_json::number::signed` meets its contract: a sign is passed over, and digits must follow.
+-- `text_numbers::signed` meets its contract: a sign is passed over, and digits must follow.
 -- Assumes nothing.
 use Prim.Native.Nat.{_+_}
 use mathlib.Core.Path.{sym, _∙_}

@@ -1,4 +1,4 @@
--- `text_json::number::some_digits` meets its contract: `digits` reads what follows the first digit.
+-- `text_numbers::some_digits` meets its contract: `digits` reads what follows the first digit.
 -- Assumes nothing.
 use mathlib.Core.Path.{sym, ap, _∙_}
 use native.Mathlib.Omega.{arith}

@@ -1,4 +1,4 @@
--- `text_json::number::tail` meets its contract: the exponent is read where the fraction ended.
+-- `text_numbers::tail` meets its contract: the exponent is read where the fraction ended.
 -- Assumes nothing.
 use native.Mathlib.Omega.{arith}
 use borrow.Author.Needs.{needs}

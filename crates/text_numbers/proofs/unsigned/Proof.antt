@@ -1,4 +1,4 @@
--- `text_json::number::unsigned` meets its contract: what follows the int is read where the int ended, and the value, which is the int's or
+-- `text_numbers::unsigned` meets its contract: what follows the int is read where the int ended, and the value, which is the int's or
 -- is with it above 32 bits, decides like the int's own.
 -- Assumes nothing.
 use mathlib.Core.Path.{_∙_}

@@ -1,6 +1,6 @@
 use borrow.Author.Needs.{needs}
 use Prim.Native.Nat.{ℕ, _+_, _-_}
-use mathlib.Core.Path.{refl, sym, subst, subst₂, _∙_}
+use mathlib.Core.Path.{sym, subst, subst₂, _∙_}
 use native.Mathlib.Omega.{arith}
 use native.Mathlib.Nat.{add-zero, add-assoc}
 use lib.ListN.{length}
@@ -8,7 +8,7 @@ use denote.Ref.{now}
 use Rattle.text_strings.specs.InString.{InString, Inside}
 use Rattle.text_strings.proofs.Cursors.{new-left, inside-within, inside-next}
 use Rattle.text_order.proofs.Orders.{Tracks, either-false, bytes-differ, both-close, both-plain}
-use Rattle.text_order.proofs.Alike.{Both}
+use Rattle.text_order.proofs.Alike.{Both, both-start}
 use Rattle.text_order.proofs.Twins.{twin-within, twins}
 use Rattle.text_order.proofs.compare_bytes.Statement.{statement}
 use Rattle.text_order.proofs.compare_bytes.Tie as tie
@@ -27,17 +27,8 @@ abbrev μ-loop : tie.MeasureT-loop
 
 loop-holds : tie.Need-loop-holds Inv-loop μ-loop
 loop-holds c =
-    let a = c .before .before .args in (
-      subst (Inside (now (a .s))) (sym (add-zero (a .i))) (c .before .before .pre .0),
-      subst (Inside (now (a .t))) (sym (add-zero (a .j))) (c .before .before .pre .1),
-      λ x y p q. (
-        x,
-        y,
-        subst (λ (n : ℕ). InString (now (a .s)) n x) (sym (add-zero (a .i))) p,
-        subst (λ (n : ℕ). InString (now (a .t)) n y) (sym (add-zero (a .j))) q,
-        refl,
-      ),
-    )
+    let a = c .before .before in
+    rw (add-zero (a .args .i), add-zero (a .args .j)) (both-start _ _ _ _ (a .pre .0) (a .pre .1))
 
 add-x : tie.Need-add-x Inv-loop μ-loop
 add-x c = omega (arith, inside-within _ _ (c .loop .inv .0))

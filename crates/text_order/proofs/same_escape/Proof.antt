@@ -1,4 +1,4 @@
--- `text_strings::same_escape` meets its contract: a law for each way in which the test ends.
+-- `text_order::same_escape` meets its contract: a law for each way in which the test ends.
 -- Assumes nothing.
 use native.Mathlib.Omega.{arith}
 use Rattle.text_strings.proofs.Cursors.{inside-within}

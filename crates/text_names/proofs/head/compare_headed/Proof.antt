@@ -1,4 +1,4 @@
--- `text_strings::head::compare_headed` meets its contract: different heads have the order of the contents. Assumes nothing.
+-- `text_names::head::compare_headed` meets its contract: different heads have the order of the contents. Assumes nothing.
 use native.Mathlib.Omega.{arith}
 use borrow.Author.Needs.{needs}
 use Rattle.text_strings.proofs.Contents.{inside-content}

@@ -1,4 +1,4 @@
--- `text_strings::head::head` meets its contract. The loop's invariant: what is left of the content makes up behind h what the whole makes up. The measure
+-- `text_names::head::head` meets its contract. The loop's invariant: what is left of the content makes up behind h what the whole makes up. The measure
 -- is how many bytes are to come. Assumes nothing.
 use Prim.Native.Nat.{ℕ, _-_, _*_, _≤_, _<_}
 use mathlib.Core.Path.{_≡_, refl, sym, subst, _∙_}

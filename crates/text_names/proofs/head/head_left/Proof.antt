@@ -1,4 +1,4 @@
--- `text_strings::head::head_left` meets its contract. The loop's invariant: the bytes that are left make up behind h what all of them make up behind
+-- `text_names::head::head_left` meets its contract. The loop's invariant: the bytes that are left make up behind h what all of them make up behind
 -- the start. The measure is how many bytes are to come. Assumes nothing.
 use Prim.Native.Nat.{ℕ, _-_, _*_, _≤_, _<_}
 use mathlib.Core.Path.{refl, sym, subst, _∙_}

@@ -1,4 +1,4 @@
--- `text_strings::name::cursor_is` meets its contract. The loop's invariant is that of `is_name`, with a cursor for the position.
+-- `text_names::name::cursor_is` meets its contract. The loop's invariant is that of `is_name`, with a cursor for the position.
 -- Assumes nothing.
 use borrow.Author.Needs.{needs}
 use borrow.Author.Tests.{not-true, not-false}

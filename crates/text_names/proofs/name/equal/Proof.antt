@@ -1,4 +1,4 @@
--- `text_strings::name::equal` meets its contract: the order of two contents is `Equal` where they are the same. Assumes nothing.
+-- `text_names::name::equal` meets its contract: the order of two contents is `Equal` where they are the same. Assumes nothing.
 use borrow.Author.Needs.{needs}
 use mathlib.Core.Path.{sym, _∙_}
 use Rattle.text_strings.proofs.Contents.{inside-content}

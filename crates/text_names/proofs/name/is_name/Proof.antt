@@ -1,4 +1,4 @@
--- `text_strings::name::is_name` meets its contract. The loop's invariant: the rest of the content is the rest of the name where the whole
+-- `text_names::name::is_name` meets its contract. The loop's invariant: the rest of the content is the rest of the name where the whole
 -- is the whole. The measure is how much of the name is left. Assumes nothing.
 use borrow.Author.Needs.{needs}
 use Prim.Native.Nat.{ℕ, _+_, _-_, _≤_}
