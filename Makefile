@@ -33,8 +33,9 @@ canonical: archive
 
 examples: archive
 	@mkdir -p target/examples
-	for name in canonical load judge resolve day; do $(GCC) examples/$$name.c $(ACON_LIB) -o target/examples/$$name || exit 1; done
+	for name in canonical fault load judge resolve day; do $(GCC) examples/$$name.c $(ACON_LIB) -o target/examples/$$name || exit 1; done
 	target/examples/canonical examples/manifest.json
+	target/examples/fault
 	target/examples/load
 	target/examples/judge
 	target/examples/resolve

@@ -25,7 +25,8 @@ int main(int argc, char **argv)
     uint64_t answer = acon_canonical(text, length, out, sizeof out);
     acon_form form = acon_form_of(answer);
     if (!acon_is_done(answer)) {
-        printf("refused: %u, %s\n", form.number, acon_text(form.number));
+        char said[ACON_SENTENCE_MAX];
+        printf("refused: %u, %s\n", form.number, acon_sentence(answer, said));
         return 1;
     }
     fwrite(out, 1, form.length, stdout);

@@ -118,6 +118,7 @@ static void say(struct part words, const char *what)
 /* Loads every arrival that is not left out into an empty store. */
 static void load_all(void)
 {
+    char said[ACON_SENTENCE_MAX];
     used = images = 0;
     for (size_t i = 0; i < arrived; i++) {
         struct arrival *a = &arrivals[i];
@@ -128,7 +129,7 @@ static void load_all(void)
         acon_loaded loaded = acon_loaded_of(answer);
         if (!acon_is_done(answer)) {
             say(a->name, "");
-            printf(": refused: %u, %s\n", loaded.number, acon_text(loaded.number));
+            printf(": refused: %u, %s\n", loaded.number, acon_sentence(answer, said));
             a->left_out = 1;
             continue;
         }

@@ -22,7 +22,8 @@ static void load(const char *id, const void *manifest, size_t length)
     acon_loaded loaded = acon_loaded_of(answer);
     if (!acon_is_done(answer)) {
         /* The store is what it was, so the old count stays: a refusal has none to give. */
-        printf("refused: %u, %s\n", loaded.number, acon_text(loaded.number));
+        char said[ACON_SENTENCE_MAX];
+        printf("refused: %u, %s\n", loaded.number, acon_sentence(answer, said));
         return;
     }
     used = loaded.used;

@@ -10,6 +10,17 @@
  * is given. In a refusal both values are 0 unless said otherwise, and no lent
  * byte has changed.
  *
+ * The second value of the refusals 2 to 6 is the offset of the fault in the text,
+ * in bytes from 0:
+ *
+ *   2           the length of the longest start that is well-formed UTF-8
+ *   3           the length of the longest start that some JSON text of nesting at
+ *               most 8 begins with; the text's length where it only ends too early
+ *   4, 5        the first byte of the first faulty string or number, for a string
+ *               its quotation mark
+ *   6           the same of the first key that is equal to an earlier key of its
+ *               object, over all objects
+ *
  * Guarantees
  *
  * Answers      Every call ends with an answer, whatever bytes it is lent.
@@ -45,10 +56,10 @@
 #include <stdint.h>
 
 /* Version of this interface. */
-#define ACON_VERSION "1.0.1"
-#define ACON_VERSION_MAJOR 1
+#define ACON_VERSION "2.0.0"
+#define ACON_VERSION_MAJOR 2
 #define ACON_VERSION_MINOR 0
-#define ACON_VERSION_PATCH 1
+#define ACON_VERSION_PATCH 0
 
 /* What a compiler can check of a call. With these gcc -Wall warns of an output
  * that is the same pointer as an input (-Wrestrict), of a dropped answer
@@ -145,6 +156,19 @@ static inline int acon_is_done(uint64_t answer)
     return acon_number(answer) == ACON_DONE;
 }
 
+/* Whether an answer tells where the fault of a text is: the numbers 2 to 6 do. */
+static inline int acon_has_offset(uint64_t answer)
+{
+    return acon_number(answer) >= ACON_NOT_UTF8 && acon_number(answer) <= ACON_EQUAL_KEYS;
+}
+
+/* The offset of the fault in the text, in bytes from 0; 0 where the answer tells
+ * none. It is the text's length where the text only ends too early. */
+static inline size_t acon_offset(uint64_t answer)
+{
+    return acon_has_offset(answer) ? acon_second(answer) : 0;
+}
+
 /* A short sentence for a number, with no capital and no full stop, so that it
  * can follow a colon. It is a constant; nothing has to be freed. */
 static inline const char *acon_text(unsigned number)
@@ -175,15 +199,43 @@ static inline const char *acon_text(unsigned number)
     }
 }
 
+/* Most bytes of a sentence by acon_sentence, with the byte 0 that ends it. */
+enum { ACON_SENTENCE_MAX = 120 };
+
+/* Writes a sentence for an answer into an array of that many bytes, and gives it
+ * back: that of acon_text, and in the refusals 2 to 6 the offset of the fault
+ * after it, as in "the text is not UTF-8, at byte 17". In the examples below said
+ * is such an array. */
+static inline char *acon_sentence(uint64_t answer, char sentence[ACON_SENTENCE_MAX])
+{
+    const char *part = acon_text(acon_number(answer));
+    uint32_t offset = acon_second(answer), power = 1;
+    size_t n = 0;
+    while (*part)
+        sentence[n++] = *part++;
+    if (acon_has_offset(answer)) {
+        for (part = ", at byte "; *part; part++)
+            sentence[n++] = *part;
+        while (offset / power > 9)
+            power *= 10;
+        for (; power > 0; power /= 10)
+            sentence[n++] = (char)('0' + offset / power % 10);
+    }
+    sentence[n] = 0;
+    return sentence;
+}
+
 /* The answers of the four calls, by the names of their values. */
 typedef struct {
     unsigned number;
     size_t length; /* of the form, in bytes */
+    size_t offset; /* of the text's fault; 0 unless number is 2 to 6 */
 } acon_form;
 
 typedef struct {
     unsigned number;
-    size_t used; /* the new used count; 0 in a refusal, which is no used count */
+    size_t used;   /* the new used count; 0 in a refusal, which is no used count */
+    size_t offset; /* of the manifest's fault; 0 unless number is 2 to 6 */
 } acon_loaded;
 
 typedef struct {
@@ -202,6 +254,7 @@ static inline acon_form acon_form_of(uint64_t answer)
     acon_form form;
     form.number = acon_number(answer);
     form.length = acon_first(answer);
+    form.offset = acon_offset(answer);
     return form;
 }
 
@@ -210,6 +263,7 @@ static inline acon_loaded acon_loaded_of(uint64_t answer)
     acon_loaded loaded;
     loaded.number = acon_number(answer);
     loaded.used = acon_first(answer);
+    loaded.offset = acon_offset(answer);
     return loaded;
 }
 
@@ -244,13 +298,14 @@ static inline acon_resolved acon_resolved_of(uint64_t answer)
  *
  * Asks 1 to 6 of the text, and 20 of the buffer.
  *
- * Answers an acon_form. First value: the length of the form. Second value: 0.
- * On success the bytes of out past the form stay as they were.
+ * Answers an acon_form. First value: the length of the form. Second value: in 2
+ * to 6 the offset of the fault in the text. On success the bytes of out past the
+ * form stay as they were.
  *
  * Example:
- *     acon_form form = acon_form_of(acon_canonical(text, text_len, out, sizeof out));
- *     if (form.number == ACON_DONE) fwrite(out, 1, form.length, stdout);
- *     else printf("refused: %s\n", acon_text(form.number));
+ *     uint64_t answer = acon_canonical(text, text_len, out, sizeof out);
+ *     if (acon_is_done(answer)) fwrite(out, 1, acon_form_of(answer).length, stdout);
+ *     else printf("refused: %s\n", acon_sentence(answer, said));
  */
 ACON_CALL acon_canonical(const uint8_t *text, size_t text_len, uint8_t *ACON_RESTRICT out,
                          size_t out_len)
@@ -267,15 +322,16 @@ ACON_CALL acon_canonical(const uint8_t *text, size_t text_len, uint8_t *ACON_RES
  * Asks 1 to 9 of the manifest, 10 of the ID, 11 of the store, and 12 to 14 of
  * the image and the store.
  *
- * Answers an acon_loaded. First value: the new used count. Second value: 0.
- * On success the bytes of the buffer past the record stay as they were, as do
- * those before it. A refusal changes no byte, and the caller keeps the used
- * count that it has.
+ * Answers an acon_loaded. First value: the new used count. Second value: in 2 to
+ * 6 the offset of the fault in the manifest as it was lent; a store's faults, 11,
+ * give none. On success the bytes of the buffer past the record stay as they
+ * were, as do those before it. A refusal changes no byte, and the caller keeps
+ * the used count that it has.
  *
  * Example:
  *     uint64_t answer = acon_load(id, id_len, manifest, manifest_len, store, sizeof store, used);
  *     if (acon_is_done(answer)) used = acon_loaded_of(answer).used;
- *     else printf("not loaded: %s\n", acon_text(acon_number(answer)));
+ *     else printf("not loaded: %s\n", acon_sentence(answer, said));
  */
 ACON_CALL acon_load(const uint8_t *id, size_t id_len, const uint8_t *manifest, size_t manifest_len,
                     uint8_t *ACON_RESTRICT buffer, size_t buffer_len, size_t used)
@@ -371,6 +427,14 @@ ACON_CALL acon_resolve(const uint8_t *store, size_t store_len, size_t used, cons
  *   wrong: if (acon_canonical(text, text_len, out, sizeof out)) return 1;
  *   right: if (!acon_is_done(acon_canonical(text, text_len, out, sizeof out))) return 1;
  *          A success has a length, so it is not 0 as a whole.
+ *
+ *   wrong: if (answer == ACON_NOT_JSON) return 1;
+ *   right: if (acon_number(answer) == ACON_NOT_JSON) return 1;
+ *          A refusal may have an offset, so it is not its number as a whole.
+ *
+ *   wrong: putchar(text[acon_offset(answer)]);
+ *   right: if (acon_offset(answer) < text_len) putchar(text[acon_offset(answer)]);
+ *          A text that ends too early has its fault at its end, where no byte stands.
  *
  *   wrong: puts((const char *)out);
  *   right: fwrite(out, 1, acon_form_of(answer).length, stdout);

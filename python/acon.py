@@ -9,10 +9,10 @@
     store.judge()                    [(guard, other), ...], by their places
     store.resolve(place, layers)     ["sha256/...", ...], the digests of the image's layers
 
-A refusal is raised as acon.Refused, with the number of the table in include/acon.h and its sentence. Texts, IDs and manifests
-are str, which stands for its UTF-8 bytes, or bytes. From a shell:
+A refusal is raised as acon.Refused, with the number of the table in include/acon.h, its sentence and, for 2 to 6, the offset of
+the fault. Texts, IDs and manifests are str, which stands for its UTF-8 bytes, or bytes. From a shell:
 
-    python3 acon.py check FILE...      a line for each manifest: good, or the number and its sentence
+    python3 acon.py check FILE...      a line for each manifest: good, or the number, its sentence and the offset of the fault
     python3 acon.py canonical FILE     the canonical form, with no newline after it
 
 The answers are those of the C library. `make python` links its archive into target/python/libacon.so, where this module finds
@@ -73,22 +73,24 @@ def text(number):
 
 
 class Refused(Exception):
-    """A refusal: `number`, its sentence `text`, and in 17, 18 and 19 the index of the layer that fails, `layer`, which is else None."""
+    """A refusal: `number`, its sentence `text`, in 17, 18 and 19 the index of the layer that fails, `layer`, and in 2 to 6 the offset of
+    the text's fault, `offset`, in bytes from 0; these two are else None."""
 
-    def __init__(self, number, layer=None):
-        super().__init__(number, layer)
-        self.number, self.layer, self.text = number, layer, text(number)
+    def __init__(self, number, layer=None, offset=None):
+        super().__init__(number, layer, offset)
+        self.number, self.layer, self.offset, self.text = number, layer, offset, text(number)
 
     def __str__(self):
-        return "%d, %s%s" % (self.number, self.text, "" if self.layer is None else " (layer %d)" % self.layer)
+        where = "" if self.offset is None else ", at byte %d" % self.offset
+        return "%d, %s%s%s" % (self.number, self.text, where, "" if self.layer is None else " (layer %d)" % self.layer)
 
 
 def _ask(name, *given):
     """Makes a call, and tells the first value of its answer."""
     answer = getattr(_library(), name)(*given)
-    number, first = answer & 0xFF, answer >> 8 & 0xFFFFFF
+    number, first, second = answer & 0xFF, answer >> 8 & 0xFFFFFF, answer >> 32
     if number != 0:
-        raise Refused(number, first if number in (17, 18, 19) else None)
+        raise Refused(number, first if number in (17, 18, 19) else None, second if number in (2, 3, 4, 5, 6) else None)
     return first
 
 

@@ -1,5 +1,6 @@
 /* Compares acon_canonical with the implementation in reference/ on generated
- * texts: number, length and every byte of the output buffer.
+ * texts: number, length, the offset of the fault and every byte of the output
+ * buffer.
  *
  *   differential [COUNT [FIRST]]
  *
@@ -19,7 +20,8 @@
 #include <unistd.h>
 
 enum { TEXT_SPACE = 1 << 16, OUT_SPACE = 1 << 16 };
-enum { LEAST = 1000 }; /* how often each number has to occur */
+enum { LEAST = 1000 }; /* how often each number has to occur, and each of 2 to 6 with another offset than 0 */
+enum { PLACES = 50 };  /* how many offsets each of 2 to 6 has to have */
 
 /* ---- Random numbers: splitmix64 */
 
@@ -695,6 +697,8 @@ static void random_text(uint64_t number)
 /* ---- Comparing */
 
 static unsigned long counts[256], compared;
+static unsigned long later[256], places[256]; /* offsets other than 0, and different ones */
+static bool met[256][ACON_TEXT_MAX + 1];
 static bool systematic;
 static uint64_t running; /* number of the random text that runs */
 
@@ -736,7 +740,7 @@ static void check(size_t room, bool at_end)
         lent_out[i] = expected[i] = pattern(i);
     uint64_t got = acon_canonical(lent_text, len, lent_out, room);
     uint64_t want = reference_canonical(text, len, expected, room);
-    if (got != want)
+    if (got != want || acon_second(got) > len)
         show("different answers", got, want, room);
     if (memcmp(lent_out, expected, room) != 0)
         show("different bytes", got, want, room);
@@ -747,6 +751,9 @@ static void check(size_t room, bool at_end)
     if (memcmp(lent_text, text, len) != 0)
         show("the text changed", got, want, room);
     counts[acon_number(got)]++;
+    later[acon_number(got)] += acon_second(got) != 0;
+    places[acon_number(got)] += !met[acon_number(got)][acon_second(got)];
+    met[acon_number(got)][acon_second(got)] = true;
     compared++;
 }
 
@@ -884,11 +891,19 @@ int main(int argc, char **argv)
     for (int i = 0; i < 256; i++)
         if (counts[i] > 0)
             printf(" %d: %lu", i, counts[i]);
+    printf("; offsets:");
+    for (int i = ACON_NOT_UTF8; i <= ACON_EQUAL_KEYS; i++)
+        printf(" %d: %lu", i, places[i]);
     printf("\n");
     static const int asked[] = {0, 1, 2, 3, 4, 5, 6, 20};
     for (int i = 0; i < 8 && argc <= 2; i++)
         if (counts[asked[i]] < LEAST) {
             fprintf(stderr, "differential: number %d occurred %lu times only\n", asked[i], counts[asked[i]]);
+            return 1;
+        }
+    for (int i = ACON_NOT_UTF8; i <= ACON_EQUAL_KEYS && argc <= 2; i++)
+        if (later[i] < LEAST || places[i] < PLACES) {
+            fprintf(stderr, "differential: number %d had %lu offsets, and %lu times another than 0\n", i, places[i], later[i]);
             return 1;
         }
     return 0;

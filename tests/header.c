@@ -36,6 +36,25 @@ static void texts(void)
     check(strcmp(acon_text(UINT_MAX), other) == 0, "the largest number has its own text", 0);
 }
 
+/* A sentence is that of its number, and has the offset where there is one. */
+static void sentences(void)
+{
+    static const uint32_t offsets[] = {0, 1, 9, 10, 11, 99, 100, 16384, 4294967295u};
+    for (unsigned n = 0; n <= 0xff; n++)
+        for (size_t i = 0; i < sizeof offsets / sizeof offsets[0]; i++) {
+            char said[ACON_SENTENCE_MAX], wanted[2 * ACON_SENTENCE_MAX];
+            uint64_t answer = (uint64_t)offsets[i] << 32 | 5 << 8 | n;
+            int at = n >= 2 && n <= 6;
+            int length = snprintf(wanted, sizeof wanted, "%s", acon_text(n));
+            if (at)
+                snprintf(wanted + length, sizeof wanted - (size_t)length, ", at byte %lu",
+                         (unsigned long)offsets[i]);
+            check(strlen(wanted) < sizeof said, "a sentence is too long", n);
+            check(acon_sentence(answer, said) == said && strcmp(said, wanted) == 0,
+                  "a sentence is wrong", n);
+        }
+}
+
 static void version(void)
 {
     char text[40];
@@ -57,9 +76,14 @@ static void unpacking(void)
                       acon_second(answer) == second,
                   "an answer is taken apart wrongly", n);
             check(acon_is_done(answer) == (n == 0), "acon_is_done is wrong", n);
-            check(acon_form_of(answer).number == n && acon_form_of(answer).length == value,
+            check(acon_has_offset(answer) == (n >= 2 && n <= 6) &&
+                      acon_offset(answer) == (n >= 2 && n <= 6 ? second : 0),
+                  "acon_offset is wrong", n);
+            check(acon_form_of(answer).number == n && acon_form_of(answer).length == value &&
+                      acon_form_of(answer).offset == acon_offset(answer),
                   "acon_form_of is wrong", n);
-            check(acon_loaded_of(answer).number == n && acon_loaded_of(answer).used == value,
+            check(acon_loaded_of(answer).number == n && acon_loaded_of(answer).used == value &&
+                      acon_loaded_of(answer).offset == acon_offset(answer),
                   "acon_loaded_of is wrong", n);
             check(acon_judged_of(answer).number == n && acon_judged_of(answer).pairs == value,
                   "acon_judged_of is wrong", n);
@@ -231,6 +255,7 @@ static void reasons(void)
 int main(void)
 {
     texts();
+    sentences();
     version();
     unpacking();
     make_store();

@@ -37,6 +37,7 @@ uint8_t out[ACON_TEXT_MAX], store[4096], report[ACON_REPORT_MAX];
 size_t text_len = sizeof text - 1, id_len = sizeof id - 1, manifest_len = sizeof manifest - 1, list_n = sizeof list, used;
 uint64_t answer;
 int admitted;
+char said[ACON_SENTENCE_MAX];
 """
 SAID = '{"a":"A","b":1}admitted\ndone: 29 bytes, layer 0\n'  # by the examples, one after the other
 

@@ -9,6 +9,7 @@ import sys
 
 sys.path.insert(0, os.path.join(os.path.dirname(os.path.abspath(__file__)), "reference"))
 from lookup import resolve  # noqa: E402
+from places import place  # noqa: E402
 from policy import judge  # noqa: E402
 from store import Image, load, number_bytes, read_records, record  # noqa: E402
 from store_inputs import (BAD, DAMAGED, OWN_NAMES, PLAIN, SHARED, SIZES, SPELLED, Style, below, one_in, one_of, rand,  # noqa: E402
@@ -45,7 +46,8 @@ class History:
     def load(self, given_id, manifest):
         self.commands.append(b"L" + struct.pack("<QII", self.used, len(given_id), len(manifest)) + given_id + manifest)
         number, used, written = load(given_id, manifest, self.buffer, self.used)
-        self.expect("load", number, used, bytes(self.buffer[self.used : self.used + len(written)]), written, self.used)
+        before = bytes(self.buffer[self.used : self.used + len(written)])
+        self.expect("load", number, used, before, written, self.used, place(manifest, number))
         if number == 0:
             self.buffer[self.used : used] = written
             self.used = used
@@ -66,11 +68,11 @@ class History:
         self.expect("resolve", number, value, out[: len(written)], written, 0)
         return number, value, written
 
-    def expect(self, call, number, value, before, after, at):
-        """The answer to a call that changes these bytes, which stand at a place of a buffer, into those."""
+    def expect(self, call, number, value, before, after, at, second=0):
+        """The answer to a call that changes these bytes, which stand at a place of a buffer, into those; `second` is its second value."""
         first, changed = changes(before, after)
         first += at if changed else 0
-        self.answers.append((call, struct.pack("<QII", value << 8 | number, first, len(changed)) + changed))
+        self.answers.append((call, struct.pack("<QII", second << 32 | value << 8 | number, first, len(changed)) + changed))
 
 
 def changes(before, after):

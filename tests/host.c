@@ -31,15 +31,15 @@ static void fail(const char *what, const uint8_t *text, size_t n, uint64_t answe
 
 /* One call with a buffer of `size` bytes: the packed answer, the form and every
  * byte around it. */
-static void call(const uint8_t *text, size_t n, size_t size, unsigned number, const uint8_t *form,
+static void call(const uint8_t *text, size_t n, size_t size, unsigned number, size_t offset, const uint8_t *form,
                  size_t form_len)
 {
     for (size_t i = 0; i < sizeof buffer; i++)
         buffer[i] = pattern(i);
     uint64_t answer = acon_canonical(text, n, buffer, size);
-    if (answer != ((uint64_t)form_len << 8 | number))
+    if (answer != ((uint64_t)offset << 32 | (uint64_t)form_len << 8 | number))
         fail("wrong answer", text, n, answer);
-    if (acon_number(answer) != number || acon_first(answer) != form_len || acon_second(answer) != 0)
+    if (acon_number(answer) != number || acon_first(answer) != form_len || acon_offset(answer) != offset)
         fail("wrong unpacking", text, n, answer);
     if (memcmp(buffer, form, form_len) != 0)
         fail("wrong form", text, n, answer);
@@ -51,20 +51,20 @@ static void call(const uint8_t *text, size_t n, size_t size, unsigned number, co
 
 static void accepted(const uint8_t *text, size_t n, const uint8_t *form, size_t form_len)
 {
-    call(text, n, BUFFER, 0, form, form_len);
-    call(text, n, form_len, 0, form, form_len);
-    call(text, n, form_len - 1, ACON_NO_SPACE, form, 0);
-    call(text, n, 0, ACON_NO_SPACE, form, 0);
+    call(text, n, BUFFER, 0, 0, form, form_len);
+    call(text, n, form_len, 0, 0, form, form_len);
+    call(text, n, form_len - 1, ACON_NO_SPACE, 0, form, 0);
+    call(text, n, 0, ACON_NO_SPACE, 0, form, 0);
     /* The form is its own form. */
-    call(form, form_len, form_len, 0, form, form_len);
+    call(form, form_len, form_len, 0, 0, form, form_len);
 }
 
-static void refused(const uint8_t *text, size_t n, unsigned number)
+static void refused(const uint8_t *text, size_t n, unsigned number, size_t offset)
 {
-    call(text, n, BUFFER, number, text, 0);
-    call(text, n, n < BUFFER ? n : BUFFER, number, text, 0);
-    call(text, n, 1, number, text, 0);
-    call(text, n, 0, number, text, 0);
+    call(text, n, BUFFER, number, offset, text, 0);
+    call(text, n, n < BUFFER ? n : BUFFER, number, offset, text, 0);
+    call(text, n, 1, number, offset, text, 0);
+    call(text, n, 0, number, offset, text, 0);
 }
 
 struct good {
@@ -73,6 +73,7 @@ struct good {
 
 struct bad {
     unsigned number;
+    size_t offset;
     size_t len; /* 0: as long as the C string */
     const char *text;
 };
@@ -136,193 +137,204 @@ static const struct good goods[] = {
 
 static const struct bad bads[] = {
     /* 2: not UTF-8, wherever it stands */
-    {2, 0, "\"\x80\""},
-    {2, 0, "\"\xbf\""},
-    {2, 0, "\"\xc0\x80\""},
-    {2, 0, "\"\xc1\xbf\""},
-    {2, 0, "\"\xc3\""},
-    {2, 0, "\"\xc3"},
-    {2, 0, "\"\xe0\x80\x80\""},
-    {2, 0, "\"\xe0\x9f\xbf\""},
-    {2, 0, "\"\xed\xa0\x80\""},
-    {2, 0, "\"\xed\xbf\xbf\""},
-    {2, 0, "\"\xed\xa0\x80\xed\xb0\x80\""},
-    {2, 0, "\"\xf0\x80\x80\x80\""},
-    {2, 0, "\"\xf0\x8f\xbf\xbf\""},
-    {2, 0, "\"\xf4\x90\x80\x80\""},
-    {2, 0, "\"\xf5\x80\x80\x80\""},
-    {2, 0, "\"\xe0\xa4\""},
-    {2, 0, "\"\xf0\x9f\x98\""},
-    {2, 0, "\"\xff\""},
-    {2, 0, "\xfe\xff"},
-    {2, 0, "\xff\xfe"},
-    {2, 0, "[1]\x80"},
-    {2, 0, "junk\xff"},
+    {2, 1, 0, "\"\x80\""},
+    {2, 1, 0, "\"\xbf\""},
+    {2, 1, 0, "\"\xc0\x80\""},
+    {2, 1, 0, "\"\xc1\xbf\""},
+    {2, 1, 0, "\"\xc3\""},
+    {2, 1, 0, "\"\xc3"},
+    {2, 1, 0, "\"\xe0\x80\x80\""},
+    {2, 1, 0, "\"\xe0\x9f\xbf\""},
+    {2, 1, 0, "\"\xed\xa0\x80\""},
+    {2, 1, 0, "\"\xed\xbf\xbf\""},
+    {2, 1, 0, "\"\xed\xa0\x80\xed\xb0\x80\""},
+    {2, 1, 0, "\"\xf0\x80\x80\x80\""},
+    {2, 1, 0, "\"\xf0\x8f\xbf\xbf\""},
+    {2, 1, 0, "\"\xf4\x90\x80\x80\""},
+    {2, 1, 0, "\"\xf5\x80\x80\x80\""},
+    {2, 1, 0, "\"\xe0\xa4\""},
+    {2, 1, 0, "\"\xf0\x9f\x98\""},
+    {2, 1, 0, "\"\xff\""},
+    {2, 0, 0, "\xfe\xff"},
+    {2, 0, 0, "\xff\xfe"},
+    {2, 3, 0, "[1]\x80"},
+    {2, 4, 0, "junk\xff"},
     /* 3: not a JSON text */
-    {3, 0, ""},
-    {3, 0, " "},
-    {3, 0, "\t\r\n "},
-    {3, 0, "\xef\xbb\xbf[]"},
-    {3, 0, "[\xef\xbb\xbf]"},
-    {3, 0, "[]\xef\xbb\xbf"},
-    {3, 0, "\xc2\xa0[]"},
-    {3, 0, "\x0b[]"},
-    {3, 0, "\x0c[]"},
-    {3, 3, "[]\0"},
-    {3, 1, "\0"},
-    {3, 0, "["},
-    {3, 0, "]"},
-    {3, 0, "{"},
-    {3, 0, "}"},
-    {3, 0, "[}"},
-    {3, 0, "{]"},
-    {3, 0, "[1"},
-    {3, 0, "[1,"},
-    {3, 0, "[1,]"},
-    {3, 0, "[,1]"},
-    {3, 0, "[1 2]"},
-    {3, 0, "[1,,2]"},
-    {3, 0, "[1]]"},
-    {3, 0, "[] []"},
-    {3, 0, "1 1"},
-    {3, 0, "{\"a\"}"},
-    {3, 0, "{\"a\":}"},
-    {3, 0, "{\"a\":1,}"},
-    {3, 0, "{,}"},
-    {3, 0, "{\"a\" 1}"},
-    {3, 0, "{\"a\"::1}"},
-    {3, 0, "{\"a\":1 \"b\":2}"},
-    {3, 0, "{a:1}"},
-    {3, 0, "{1:1}"},
-    {3, 0, "{\"a\":1"},
-    {3, 0, "{\"a\":1,\"b\""},
-    {3, 0, "[\"a\":1]"},
-    {3, 0, "'a'"},
-    {3, 0, "tru"},
-    {3, 0, "truee"},
-    {3, 0, "True"},
-    {3, 0, "nul"},
-    {3, 0, "falsey"},
-    {3, 0, "NaN"},
-    {3, 0, "Infinity"},
-    {3, 0, "-Infinity"},
-    {3, 0, "[1]//"},
-    {3, 0, "/**/1"},
-    {3, 0, "01"},
-    {3, 0, "-01"},
-    {3, 0, "00"},
-    {3, 0, "+1"},
-    {3, 0, ".5"},
-    {3, 0, "1."},
-    {3, 0, "1.e1"},
-    {3, 0, "-"},
-    {3, 0, "--1"},
-    {3, 0, "1e"},
-    {3, 0, "1e+"},
-    {3, 0, "1.5e-"},
-    {3, 0, "0x10"},
-    {3, 0, "1_000"},
-    {3, 0, "\""},
-    {3, 0, "\"a"},
-    {3, 0, "\"\\\""},
-    {3, 0, "\"\\"},
-    {3, 0, "\"\\x41\""},
-    {3, 0, "\"\\U0041\""},
-    {3, 0, "\"\\a\""},
-    {3, 0, "\"\\'\""},
-    {3, 0, "\"\\u\""},
-    {3, 0, "\"\\u004\""},
-    {3, 0, "\"\\u004g\""},
-    {3, 0, "\"\\u00 41\""},
-    {3, 0, "\"\\u+041\""},
-    {3, 0, "\"\\ud83d\\u\""},
-    {3, 0, "\"\\u004"},
+    {3, 0, 0, ""},
+    {3, 1, 0, " "},
+    {3, 4, 0, "\t\r\n "},
+    {3, 0, 0, "\xef\xbb\xbf[]"},
+    {3, 1, 0, "[\xef\xbb\xbf]"},
+    {3, 2, 0, "[]\xef\xbb\xbf"},
+    {3, 0, 0, "\xc2\xa0[]"},
+    {3, 0, 0, "\x0b[]"},
+    {3, 0, 0, "\x0c[]"},
+    {3, 2, 3, "[]\0"},
+    {3, 0, 1, "\0"},
+    {3, 1, 0, "["},
+    {3, 0, 0, "]"},
+    {3, 1, 0, "{"},
+    {3, 0, 0, "}"},
+    {3, 1, 0, "[}"},
+    {3, 1, 0, "{]"},
+    {3, 2, 0, "[1"},
+    {3, 3, 0, "[1,"},
+    {3, 3, 0, "[1,]"},
+    {3, 1, 0, "[,1]"},
+    {3, 3, 0, "[1 2]"},
+    {3, 3, 0, "[1,,2]"},
+    {3, 3, 0, "[1]]"},
+    {3, 3, 0, "[] []"},
+    {3, 2, 0, "1 1"},
+    {3, 4, 0, "{\"a\"}"},
+    {3, 5, 0, "{\"a\":}"},
+    {3, 7, 0, "{\"a\":1,}"},
+    {3, 1, 0, "{,}"},
+    {3, 5, 0, "{\"a\" 1}"},
+    {3, 5, 0, "{\"a\"::1}"},
+    {3, 7, 0, "{\"a\":1 \"b\":2}"},
+    {3, 1, 0, "{a:1}"},
+    {3, 1, 0, "{1:1}"},
+    {3, 6, 0, "{\"a\":1"},
+    {3, 10, 0, "{\"a\":1,\"b\""},
+    {3, 4, 0, "[\"a\":1]"},
+    {3, 0, 0, "'a'"},
+    {3, 3, 0, "tru"},
+    {3, 4, 0, "truee"},
+    {3, 0, 0, "True"},
+    {3, 3, 0, "nul"},
+    {3, 5, 0, "falsey"},
+    {3, 0, 0, "NaN"},
+    {3, 0, 0, "Infinity"},
+    {3, 1, 0, "-Infinity"},
+    {3, 3, 0, "[1]//"},
+    {3, 0, 0, "/**/1"},
+    {3, 1, 0, "01"},
+    {3, 2, 0, "-01"},
+    {3, 1, 0, "00"},
+    {3, 0, 0, "+1"},
+    {3, 0, 0, ".5"},
+    {3, 2, 0, "1."},
+    {3, 2, 0, "1.e1"},
+    {3, 1, 0, "-"},
+    {3, 1, 0, "--1"},
+    {3, 2, 0, "1e"},
+    {3, 3, 0, "1e+"},
+    {3, 5, 0, "1.5e-"},
+    {3, 1, 0, "0x10"},
+    {3, 1, 0, "1_000"},
+    {3, 1, 0, "\""},
+    {3, 2, 0, "\"a"},
+    {3, 3, 0, "\"\\\""},
+    {3, 2, 0, "\"\\"},
+    {3, 2, 0, "\"\\x41\""},
+    {3, 2, 0, "\"\\U0041\""},
+    {3, 2, 0, "\"\\a\""},
+    {3, 2, 0, "\"\\'\""},
+    {3, 3, 0, "\"\\u\""},
+    {3, 6, 0, "\"\\u004\""},
+    {3, 6, 0, "\"\\u004g\""},
+    {3, 5, 0, "\"\\u00 41\""},
+    {3, 3, 0, "\"\\u+041\""},
+    {3, 9, 0, "\"\\ud83d\\u\""},
+    {3, 6, 0, "\"\\u004"},
     /* a raw control character is no JSON string: 3 and not 4 */
-    {3, 0, "\"\t\""},
-    {3, 0, "\"\n\""},
-    {3, 0, "\"\x01\""},
-    {3, 0, "\"\x1f\""},
-    {3, 3, "\"\0\""},
-    {3, 0, "\"\\\n\""},
+    {3, 1, 0, "\"\t\""},
+    {3, 1, 0, "\"\n\""},
+    {3, 1, 0, "\"\x01\""},
+    {3, 1, 0, "\"\x1f\""},
+    {3, 1, 3, "\"\0\""},
+    {3, 2, 0, "\"\\\n\""},
     /* nesting of 9, also where the innermost is empty */
-    {3, 0, "[[[[[[[[[]]]]]]]]]"},
-    {3, 0, "[[[[[[[[{}]]]]]]]]"},
-    {3, 0, "{\"a\":{\"a\":{\"a\":{\"a\":{\"a\":{\"a\":{\"a\":{\"a\":{}}}}}}}}}"},
-    {3, 0, "[1,[[[[[[[2,[]]]]]]]]]"},
-    {3, 0, "[[[[[[[["},
+    {3, 8, 0, "[[[[[[[[[]]]]]]]]]"},
+    {3, 8, 0, "[[[[[[[[{}]]]]]]]]"},
+    {3, 40, 0, "{\"a\":{\"a\":{\"a\":{\"a\":{\"a\":{\"a\":{\"a\":{\"a\":{}}}}}}}}}"},
+    {3, 12, 0, "[1,[[[[[[[2,[]]]]]]]]]"},
+    {3, 8, 0, "[[[[[[[["},
     /* 4: strings and keys */
-    {4, 0, "\"\\u0000\""},
-    {4, 0, "\"\\u001f\""},
-    {4, 0, "\"\\u007f\""},
-    {4, 0, "\"\\u007F\""},
-    {4, 0, "\"\x7f\""},
-    {4, 0, "\"\\b\""},
-    {4, 0, "\"\\f\""},
-    {4, 0, "\"\\n\""},
-    {4, 0, "\"\\r\""},
-    {4, 0, "\"\\t\""},
-    {4, 0, "{\"\\n\":1}"},
-    {4, 0, "{\"a\x7f\":1}"},
-    {4, 0, "\"\\ud800\""},
-    {4, 0, "\"\\udbff\""},
-    {4, 0, "\"\\udc00\""},
-    {4, 0, "\"\\uDFFF\""},
-    {4, 0, "\"\\ud800a\""},
-    {4, 0, "\"\\ud800\\n\""},
-    {4, 0, "\"\\ud800\\u0041\""},
-    {4, 0, "\"\\ud800\\ud800\""},
-    {4, 0, "\"\\ud800\\ud800\\udc00\""},
-    {4, 0, "\"\\ud800\\udc00\\udc00\""},
-    {4, 0, "\"\\udc00\\ud800\""},
-    {4, 0, "\"\\ud800 \\udc00\""},
-    {4, 0, "\"\\ud800\\\\udc00\""},
-    {4, 0, "{\"\\ud800\":1}"},
-    {4, 0, "[1,{\"a\":[\"\\udc00\"]}]"},
+    {4, 0, 0, "\"\\u0000\""},
+    {4, 0, 0, "\"\\u001f\""},
+    {4, 0, 0, "\"\\u007f\""},
+    {4, 0, 0, "\"\\u007F\""},
+    {4, 0, 0, "\"\x7f\""},
+    {4, 0, 0, "\"\\b\""},
+    {4, 0, 0, "\"\\f\""},
+    {4, 0, 0, "\"\\n\""},
+    {4, 0, 0, "\"\\r\""},
+    {4, 0, 0, "\"\\t\""},
+    {4, 1, 0, "{\"\\n\":1}"},
+    {4, 1, 0, "{\"a\x7f\":1}"},
+    {4, 0, 0, "\"\\ud800\""},
+    {4, 0, 0, "\"\\udbff\""},
+    {4, 0, 0, "\"\\udc00\""},
+    {4, 0, 0, "\"\\uDFFF\""},
+    {4, 0, 0, "\"\\ud800a\""},
+    {4, 0, 0, "\"\\ud800\\n\""},
+    {4, 0, 0, "\"\\ud800\\u0041\""},
+    {4, 0, 0, "\"\\ud800\\ud800\""},
+    {4, 0, 0, "\"\\ud800\\ud800\\udc00\""},
+    {4, 0, 0, "\"\\ud800\\udc00\\udc00\""},
+    {4, 0, 0, "\"\\udc00\\ud800\""},
+    {4, 0, 0, "\"\\ud800 \\udc00\""},
+    {4, 0, 0, "\"\\ud800\\\\udc00\""},
+    {4, 1, 0, "{\"\\ud800\":1}"},
+    {4, 9, 0, "[1,{\"a\":[\"\\udc00\"]}]"},
     /* 5: numbers */
-    {5, 0, "-0"},
-    {5, 0, "1e0"},
-    {5, 0, "1E0"},
-    {5, 0, "1.0"},
-    {5, 0, "0.0"},
-    {5, 0, "-0.0"},
-    {5, 0, "-0e0"},
-    {5, 0, "0e0"},
-    {5, 0, "1e+2"},
-    {5, 0, "1.5e-3"},
-    {5, 0, "1E400"},
-    {5, 0, "2147483648"},
-    {5, 0, "-2147483649"},
-    {5, 0, "3000000000"},
-    {5, 0, "10000000000"},
-    {5, 0, "4294967296"},
-    {5, 0, "-4294967297"},
-    {5, 0, "18446744073709551616"},
-    {5, 0, "18446744073709551617"},
-    {5, 0, "-18446744073709551615"},
-    {5, 0, "340282366920938463463374607431768211457"},
-    {5, 0, "[{\"a\":[-0]}]"},
+    {5, 0, 0, "-0"},
+    {5, 0, 0, "1e0"},
+    {5, 0, 0, "1E0"},
+    {5, 0, 0, "1.0"},
+    {5, 0, 0, "0.0"},
+    {5, 0, 0, "-0.0"},
+    {5, 0, 0, "-0e0"},
+    {5, 0, 0, "0e0"},
+    {5, 0, 0, "1e+2"},
+    {5, 0, 0, "1.5e-3"},
+    {5, 0, 0, "1E400"},
+    {5, 0, 0, "2147483648"},
+    {5, 0, 0, "-2147483649"},
+    {5, 0, 0, "3000000000"},
+    {5, 0, 0, "10000000000"},
+    {5, 0, 0, "4294967296"},
+    {5, 0, 0, "-4294967297"},
+    {5, 0, 0, "18446744073709551616"},
+    {5, 0, 0, "18446744073709551617"},
+    {5, 0, 0, "-18446744073709551615"},
+    {5, 0, 0, "340282366920938463463374607431768211457"},
+    {5, 7, 0, "[{\"a\":[-0]}]"},
     /* 6: equal keys */
-    {6, 0, "{\"a\":1,\"a\":1}"},
-    {6, 0, "{\"a\":1,\"\\u0061\":2}"},
-    {6, 0, "{\"\":1,\"\":2}"},
-    {6, 0, "{\"/\":1,\"b\":2,\"\\/\":3}"},
-    {6, 0, "{\"\\\"\":1,\"\\u0022\":2}"},
-    {6, 0, "{\"\\\\\":1,\"\\u005C\":2}"},
-    {6, 0, "{\"\xf0\x9f\x98\x80\":1,\"\\ud83d\\uDE00\":2}"},
-    {6, 0, "{\"\xe0\xa4\x95\":1,\"x\":0,\"\\u0915\":2}"},
-    {6, 0, "[{\"x\":{\"b\":1,\"a\":2,\"b\":3}}]"},
-    {6, 0, "{\"c\":0,\"a\":{\"k\":1},\"b\":0,\"a\":[]}"},
+    {6, 7, 0, "{\"a\":1,\"a\":1}"},
+    {6, 7, 0, "{\"a\":1,\"\\u0061\":2}"},
+    {6, 6, 0, "{\"\":1,\"\":2}"},
+    {6, 13, 0, "{\"/\":1,\"b\":2,\"\\/\":3}"},
+    {6, 8, 0, "{\"\\\"\":1,\"\\u0022\":2}"},
+    {6, 8, 0, "{\"\\\\\":1,\"\\u005C\":2}"},
+    {6, 10, 0, "{\"\xf0\x9f\x98\x80\":1,\"\\ud83d\\uDE00\":2}"},
+    {6, 15, 0, "{\"\xe0\xa4\x95\":1,\"x\":0,\"\\u0915\":2}"},
+    {6, 19, 0, "[{\"x\":{\"b\":1,\"a\":2,\"b\":3}}]"},
+    {6, 25, 0, "{\"c\":0,\"a\":{\"k\":1},\"b\":0,\"a\":[]}"},
+    /* of several faults of one kind the first is told; a key, and not its value or the key that it is equal to */
+    {2, 3, 0, "[\"a\xff\",\"\xfe\"]"},
+    {4, 1, 0, "[\"\\n\",\"\\t\"]"},
+    {4, 10, 0, "{\"a\":\"b\", \"\\n\" : \"\\t\"}"},
+    {4, 6, 0, "{\"a\": \"\\n\",\"\\t\":1}"},
+    {5, 8, 0, "[[1], 2,-0,1.5]"},
+    {5, 19, 0, "{\"a\":[1,{\"b\":2,\"c\":-2147483649}],\"d\":-0}"},
+    {6, 13, 0, "{\"a\":1,\"b\":2,\"b\":3,\"a\":4}"},
+    {6, 12, 0, "{\"a\":{\"c\":1,\"c\":2},\"a\":3}"},
+    {6, 8, 0, "{\"a\":1, \"a\":{\"c\":1,\"c\":2}}"},
+    {6, 30, 0, "[{\"a\":1},{\"a\":[{\"b\":1}],\"c\":0,\"\\u0061\":2,\"c\":3}]"},
     /* the lowest number counts, wherever it stands */
-    {2, 0, "[1,\xff"},
-    {2, 0, "[\"\\ud800\",-0,{\"a\":1,\"a\":2}]\xff"},
-    {3, 0, "[\"\\ud800\",-0,{\"a\":1,\"a\":2}"},
-    {3, 0, "{\"a\":1,\"a\":2,}"},
-    {3, 0, "-0 1"},
-    {4, 0, "[-0,\"\\ud800\"]"},
-    {4, 0, "[{\"a\":1,\"a\":2},\"\\n\"]"},
-    {4, 0, "{\"\\t\":1,\"\\t\":-0}"},
-    {5, 0, "[{\"a\":1,\"a\":2},-0]"},
-    {5, 0, "{\"a\":1.5,\"a\":2}"},
+    {2, 3, 0, "[1,\xff"},
+    {2, 27, 0, "[\"\\ud800\",-0,{\"a\":1,\"a\":2}]\xff"},
+    {3, 26, 0, "[\"\\ud800\",-0,{\"a\":1,\"a\":2}"},
+    {3, 13, 0, "{\"a\":1,\"a\":2,}"},
+    {3, 3, 0, "-0 1"},
+    {4, 4, 0, "[-0,\"\\ud800\"]"},
+    {4, 15, 0, "[{\"a\":1,\"a\":2},\"\\n\"]"},
+    {4, 1, 0, "{\"\\t\":1,\"\\t\":-0}"},
+    {5, 15, 0, "[{\"a\":1,\"a\":2},-0]"},
+    {5, 5, 0, "{\"a\":1.5,\"a\":2}"},
 };
 
 /* A text of n bytes: `open`, as many `fill` as are needed, `close`. */
@@ -344,36 +356,36 @@ static void long_texts(void)
     accepted(t, 16384, t, 16384);
     free(t);
     t = filled("\"", 'a', "\"", 16385);
-    refused(t, 16385, 1);
+    refused(t, 16385, 1, 0);
     free(t);
     t = filled("[", ' ', "]", 16384);
     accepted(t, 16384, (const uint8_t *)"[]", 2);
     free(t);
     t = filled("[", ' ', "]", 16385);
-    refused(t, 16385, 1);
+    refused(t, 16385, 1, 0);
     free(t);
     t = filled("[", ' ', "", 16384);
-    refused(t, 16384, 3);
+    refused(t, 16384, 3, 16384);
     free(t);
     /* 1 comes before everything else */
     t = filled("\xff", 'x', "\"", 16385);
-    refused(t, 16385, 1);
+    refused(t, 16385, 1, 0);
     free(t);
     t = filled("", 'x', "", 1000000);
-    refused(t, 1000000, 1);
+    refused(t, 1000000, 1, 0);
     free(t);
     /* numbers of many digits */
     t = filled("", '9', "", 5000);
-    refused(t, 5000, 5);
+    refused(t, 5000, 5, 0);
     free(t);
     t = filled("1", '0', "", 16384);
-    refused(t, 16384, 5);
+    refused(t, 16384, 5, 0);
     free(t);
     t = filled("0", '0', "", 16384);
-    refused(t, 16384, 3);
+    refused(t, 16384, 3, 1);
     free(t);
     t = filled("0.", '0', "", 16384);
-    refused(t, 16384, 5);
+    refused(t, 16384, 5, 0);
     free(t);
 
     /* many keys in falling order, then the form with its last key made equal to its first */
@@ -389,7 +401,7 @@ static void long_texts(void)
     form[m++] = '}';
     accepted((uint8_t *)many, n, (uint8_t *)form, m);
     memcpy(form + m - 8, "0000", 4);
-    refused((uint8_t *)form, m, 6);
+    refused((uint8_t *)form, m, 6, m - 9);
     free(many);
     free(form);
 }
@@ -469,6 +481,37 @@ static size_t load_all(const struct image *images)
         used = acon_first(answer);
     }
     return used;
+}
+
+static void refused_load(const char *id, const char *manifest, size_t n, size_t used, unsigned number, size_t offset)
+{
+    uint64_t answer = acon_load((const uint8_t *)id, strlen(id), (const uint8_t *)manifest, n, store, sizeof store, used);
+    if (answer != ((uint64_t)offset << 32 | number))
+        fail("load: wrong answer", (const uint8_t *)manifest, n, answer);
+    checks++;
+}
+
+/* Texts that are refused are refused as manifests too, with the same offset and
+ * whatever else is wrong; 7 and above give none, and neither does a store whose
+ * manifest has a fault. */
+static void refused_loads(void)
+{
+    static const char cut[] = "\x3a\x01" /* a record whose manifest is one byte, no JSON text */
+                              "aaaaaaaaaaaaaaaaaaaaaaaaaaaabbbbbbbbbbbbbbbbbbbbbbbbbbbb[";
+    for (size_t i = 0; i < sizeof bads / sizeof bads[0]; i++) {
+        size_t n = bads[i].len ? bads[i].len : strlen(bads[i].text);
+        refused_load(A, bads[i].text, n, 0, bads[i].number, bads[i].offset);
+        refused_load("", bads[i].text, n, sizeof store + 1, bads[i].number, bads[i].offset);
+    }
+    refused_load(A, " {}", 3, 0, 7, 0);
+    refused_load(A, NAMED("a/b"), strlen(NAMED("a/b")), 0, 8, 0);
+    refused_load(A, NAMED("a\",\"a"), strlen(NAMED("a\",\"a")), 0, 9, 0);
+    refused_load("", PLAIN, strlen(PLAIN), 0, 10, 0);
+    memcpy(store, cut, sizeof cut - 1);
+    refused_load(A, PLAIN, strlen(PLAIN), sizeof cut - 1, 11, 0);
+    size_t used = load_all((const struct image[]){{A, NAMED("a")}, {NULL, NULL}});
+    refused_load(A, PLAIN, strlen(PLAIN), used, 12, 0);
+    refused_load(B, NAMED("a"), strlen(NAMED("a")), used, 13, 0);
 }
 
 static void judge_all(void)
@@ -614,8 +657,9 @@ int main(void)
                  (const uint8_t *)goods[i].form, strlen(goods[i].form));
     for (size_t i = 0; i < sizeof bads / sizeof bads[0]; i++)
         refused((const uint8_t *)bads[i].text, bads[i].len ? bads[i].len : strlen(bads[i].text),
-                bads[i].number);
+                bads[i].number, bads[i].offset);
     long_texts();
+    refused_loads();
     judge_all();
     resolve_all();
     printf("host: %lu calls answered as written down\n", checks);

@@ -9,6 +9,7 @@ HERE = os.path.dirname(os.path.abspath(__file__))
 sys.path.insert(0, os.path.join(HERE, "reference"))
 from lookup import resolve  # noqa: E402
 from policy import judge  # noqa: E402
+from places import place  # noqa: E402
 from store import Image, load, read_id, record  # noqa: E402
 
 INPUT = 262144  # bytes that the program takes
@@ -49,7 +50,7 @@ class Bench:
         if number == 0:
             self.buffer[self.used : used] = written
             self.used = used
-        return [b"%d %d" % (number, used)]
+        return [b"%d %d %d" % (number, used, place(text, number))]
 
     def put(self, words):
         at, digits = split(words)

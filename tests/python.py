@@ -42,13 +42,14 @@ def loaded(acon, *images):
     return store
 
 
-def refused(acon, what, number, call, *given, layer=None):
+def refused(acon, what, number, call, *given, layer=None, offset=None):
     """The call raises that number, with its sentence."""
     try:
         got = call(*given)
     except acon.Refused as refusal:
-        same(what, (refusal.number, refusal.layer, refusal.text), (number, layer, acon.text(number)))
-        same(what + ", in words", str(refusal).startswith("%d, %s" % (number, acon.text(number))), True)
+        same(what, (refusal.number, refusal.layer, refusal.offset, refusal.text), (number, layer, offset, acon.text(number)))
+        where = "" if offset is None else ", at byte %d" % offset
+        same(what + ", in words", str(refusal).startswith("%d, %s%s" % (number, acon.text(number), where)), True)
         return
     sys.exit("python: %s: %r and no refusal" % (what, got))
 
@@ -87,11 +88,12 @@ def canonical(acon):
     ):
         same("canonical", acon.canonical(text), form)
         same("canonical gives bytes", type(acon.canonical(text)), bytes)
-    for number, text in (
-        (1, b" " * 16385), (1, b"1" + b" " * (1 << 20)), (2, b'"\xff"'), (2, '"\ud800"'), (3, b""), (3, ""), (3, bytearray()), (3, b" "),
-        (3, b"1\0"), (3, b"\0"), (3, "[" * 9 + "]" * 9), (4, r'"\ud800"'), (5, "-0"), (5, "1e0"), (6, r'{"a":1,"\u0061":2}'),
+    for number, offset, text in (
+        (1, None, b" " * 16385), (1, None, b"1" + b" " * (1 << 20)), (2, 1, b'"\xff"'), (2, 1, '"\ud800"'), (2, 6, '["%s"\ud800]' % KA), (3, 0, b""),
+        (3, 0, ""), (3, 0, bytearray()), (3, 1, b" "), (3, 1, b"1\0"), (3, 0, b"\0"), (3, 8, "[" * 9 + "]" * 9), (3, 8, '["%s", x]' % KA),
+        (4, 0, r'"\ud800"'), (5, 0, "-0"), (5, 0, "1e0"), (5, 3, "[1,-0]"), (6, 7, r'{"a":1,"\u0061":2}'),
     ):
-        refused(acon, "canonical of %r" % text[:20], number, acon.canonical, text)
+        refused(acon, "canonical of %r" % text[:20], number, acon.canonical, text, offset=offset)
     for text in None, 1, [], object():
         wrong("canonical of %r" % text, TypeError, acon.canonical, text)
     with open("examples/manifest.json", "rb") as given, open("examples/canonical.out", "rb") as printed:
@@ -102,12 +104,12 @@ def manifests(acon):
     same("a good manifest", acon.check(V), None)
     same("one of 16,384 bytes", acon.check(V + b" " * (16384 - len(V))), None)
     same("the longest record", acon.check(LONGEST), None)
-    for number, manifest in (
-        (1, V + b" " * 16384), (2, b"\xff"), (3, b""), (3, V[:-1]), (4, '"\x7f"'), (5, "1.0"), (6, '{"a":1,"a":1}'), (7, "{}"), (7, "[]"),
-        (7, '{"aconSpecVersion":[1,0],"layer":[]}'), (8, '{"aconSpecVersion":[1,0],"layers":["x"]}'),
-        (9, '{"aconSpecVersion":[1,0],"aliases":{"self":{".":["a","a"]}}}'),
+    for number, offset, manifest in (
+        (1, None, V + b" " * 16384), (2, 0, b"\xff"), (3, 0, b""), (3, 24, V[:-1]), (4, 0, '"\x7f"'), (5, 0, "1.0"), (6, 7, '{"a":1,"a":1}'), (7, None, "{}"),
+        (7, None, "[]"), (7, None, '{"aconSpecVersion":[1,0],"layer":[]}'), (8, None, '{"aconSpecVersion":[1,0],"layers":["x"]}'),
+        (9, None, '{"aconSpecVersion":[1,0],"aliases":{"self":{".":["a","a"]}}}'),
     ):
-        refused(acon, "manifest %r" % manifest[:40], number, acon.check, manifest)
+        refused(acon, "manifest %r" % manifest[:40], number, acon.check, manifest, offset=offset)
     wrong("no manifest", TypeError, acon.check, None)
 
 
@@ -121,7 +123,7 @@ def loads(acon):
         (3, name("a", "c"), b""), (10, "", V), (10, b"", V), (10, name("a", "c") + "\0", V), (10, name("a", "c").upper(), V), (12, name("a", "b"), V),
         (14, name("a", "c"), V[:-1] + b',"env":[]}'),
     ):
-        refused(acon, "a load of %r" % image[-3:], number, store.load, image, manifest)
+        refused(acon, "a load of %r" % image[-3:], number, store.load, image, manifest, offset=0 if number == 3 else None)
         same("the store after a refusal", (len(store), bytes(store), store.ids), (1, record, [name("a", "b")]))
     same("the next place", store.load(name("a", "c").encode(), bytearray(V)), 1)
     same("the IDs", store.ids, [name("a", "b"), name("a", "c").encode()])
@@ -204,6 +206,8 @@ def resolves(acon):
 def exceptions(acon):
     refusal = pickle.loads(pickle.dumps(acon.Refused(19, 2)))
     same("a refusal kept and read again", (refusal.number, refusal.layer, str(refusal)), (19, 2, "19, %s (layer 2)" % acon.text(19)))
+    refusal = pickle.loads(pickle.dumps(acon.Refused(3, None, 17)))
+    same("one with an offset", (refusal.number, refusal.offset, str(refusal)), (3, 17, "3, %s, at byte 17" % acon.text(3)))
 
 
 def shell(*arguments, module=MODULE, **environment):
@@ -222,7 +226,8 @@ def command_line(acon, folder):
 
     good, cut, field = file("good", V), file("cut", V[:-1]), file("field", b"{}")
     empty, long, absent = file("empty", b""), file("long", V + b" " * 100000), os.path.join(folder, "absent")
-    lines = {good: "good", cut: "3, " + acon.text(3), field: "7, " + acon.text(7), empty: "3, " + acon.text(3), long: "1, " + acon.text(1)}
+    lines = {good: "good", cut: "3, %s, at byte 24" % acon.text(3), field: "7, " + acon.text(7), empty: "3, %s, at byte 0" % acon.text(3),
+             long: "1, " + acon.text(1)}
     said = lambda *paths: "".join("%s: %s\n" % (path, lines[path]) for path in paths).encode()  # noqa: E731
     same("one good manifest", shell("check", good), (0, said(good), ""))
     same("each kind", shell("check", *lines), (1, said(*lines), ""))
@@ -232,7 +237,7 @@ def command_line(acon, folder):
     same("a folder", (status, out, err.count("\n")), (2, said(cut), 1))
     with open("examples/manifest.json", "rb") as f:
         same("the example's form", shell("canonical", "examples/manifest.json"), (0, acon.canonical(f.read()), ""))
-    same("no form", shell("canonical", cut), (1, b"", "%s: 3, %s\n" % (cut, acon.text(3))))
+    same("no form", shell("canonical", cut), (1, b"", "%s: 3, %s, at byte 24\n" % (cut, acon.text(3))))
     same("the form of a bad path", shell("canonical", absent)[:2], (2, b""))
     odd = file("odd \u0915\udcff", V)
     same("a file with an odd name", shell("check", odd, PYTHONIOENCODING="ascii")[0], 0)

@@ -9,7 +9,9 @@ enum { TEXT_MAX = 16384, NESTING_MAX = 8 };
 /* ---- UTF-8: decode each character and look at what came out, instead of
  * following the byte ranges of RFC 3629's table */
 
-static bool is_utf8(const uint8_t *s, size_t n)
+/* The length of the longest start that is well-formed: all characters before the
+ * first that is none. */
+static size_t utf8_start(const uint8_t *s, size_t n)
 {
     size_t i = 0;
     while (i < n) {
@@ -26,20 +28,20 @@ static bool is_utf8(const uint8_t *s, size_t n)
         } else if ((c & 0xf8) == 0xf0) {
             more = 3, least = 0x10000, c &= 0x07;
         } else {
-            return false;
+            return i;
         }
         if (n - i <= more)
-            return false;
+            return i;
         for (size_t k = 1; k <= more; k++) {
             if ((s[i + k] & 0xc0) != 0x80)
-                return false;
+                return i;
             c = c << 6 | (s[i + k] & 0x3f);
         }
         if (c < least || c > 0x10ffff || (c >= 0xd800 && c <= 0xdfff))
-            return false;
+            return i;
         i += 1 + more;
     }
-    return true;
+    return n;
 }
 
 /* ---- The tree. A text of 16,384 bytes has fewer nodes than bytes. */
@@ -356,6 +358,186 @@ static bool number_refused(const struct node *n)
     return memcmp(text + i, negative ? "2147483648" : "2147483647", 10) > 0;
 }
 
+/* ---- Whether a start can go on to a JSON text: a machine that takes one byte
+ * after the other, with no tree. It is dead where no JSON text of nesting at
+ * most 8 begins with the bytes so far; from every other state one can be
+ * reached. */
+
+enum state {
+    DEAD,
+    VALUE,       /* before a value */
+    FIRST_VALUE, /* the same, or the end of the array */
+    FIRST_KEY,   /* before a key, or the end of the object */
+    KEY,
+    COLON,
+    AFTER, /* after a value */
+    CHARS,
+    ESCAPE,
+    HEX,
+    LETTERS, /* of true, false or null */
+    MINUS,
+    ZERO,
+    WHOLE,
+    POINT,
+    FRACTION,
+    EXPONENT,
+    SIGN,
+    POWER
+};
+
+static struct {
+    enum state state;
+    char open[NESTING_MAX]; /* the brackets and braces that are open */
+    int depth;
+    bool is_key;         /* the string is one */
+    int hex;             /* digits of a \u that are still to come */
+    const char *letters; /* those that are still to come */
+} machine;
+
+static enum state step_first(uint8_t c)
+{
+    machine.is_key = false;
+    switch (c) {
+    case '[':
+    case '{':
+        if (machine.depth == NESTING_MAX)
+            return DEAD;
+        machine.open[machine.depth++] = (char)c;
+        return c == '[' ? FIRST_VALUE : FIRST_KEY;
+    case '"':
+        return CHARS;
+    case 't':
+        machine.letters = "rue";
+        return LETTERS;
+    case 'f':
+        machine.letters = "alse";
+        return LETTERS;
+    case 'n':
+        machine.letters = "ull";
+        return LETTERS;
+    case '-':
+        return MINUS;
+    case '0':
+        return ZERO;
+    default:
+        return c >= '1' && c <= '9' ? WHOLE : DEAD;
+    }
+}
+
+static bool is_white(uint8_t c)
+{
+    return c == ' ' || c == '\t' || c == '\n' || c == '\r';
+}
+
+static enum state step_after(uint8_t c)
+{
+    if (is_white(c))
+        return AFTER;
+    if (machine.depth == 0)
+        return DEAD;
+    bool array = machine.open[machine.depth - 1] == '[';
+    if (c == ',')
+        return array ? VALUE : KEY;
+    if (c != (array ? ']' : '}'))
+        return DEAD;
+    machine.depth--;
+    return AFTER;
+}
+
+static enum state step_number(uint8_t c)
+{
+    bool is_digit = c >= '0' && c <= '9', is_e = c == 'e' || c == 'E';
+    switch (machine.state) {
+    case MINUS:
+        return c == '0' ? ZERO : is_digit ? WHOLE : DEAD;
+    case ZERO:
+    case WHOLE:
+        if (is_digit)
+            return machine.state == WHOLE ? WHOLE : DEAD;
+        return c == '.' ? POINT : is_e ? EXPONENT : step_after(c);
+    case POINT:
+        return is_digit ? FRACTION : DEAD;
+    case FRACTION:
+        return is_digit ? FRACTION : is_e ? EXPONENT : step_after(c);
+    case EXPONENT:
+        if (c == '+' || c == '-')
+            return SIGN;
+        return is_digit ? POWER : DEAD;
+    case SIGN:
+        return is_digit ? POWER : DEAD;
+    default:
+        return is_digit ? POWER : step_after(c);
+    }
+}
+
+static enum state step_string(uint8_t c)
+{
+    if (machine.state == HEX) {
+        if (!c || !strchr("0123456789abcdefABCDEF", c))
+            return DEAD;
+        return --machine.hex > 0 ? HEX : CHARS;
+    }
+    if (machine.state == ESCAPE) {
+        machine.hex = 4;
+        if (c == 'u')
+            return HEX;
+        return c && strchr("\"\\/bfnrt", c) ? CHARS : DEAD;
+    }
+    if (c == '"')
+        return machine.is_key ? COLON : AFTER;
+    return c == '\\' ? ESCAPE : c < 0x20 ? DEAD : CHARS;
+}
+
+static enum state step(uint8_t c)
+{
+    switch (machine.state) {
+    case CHARS:
+    case ESCAPE:
+    case HEX:
+        return step_string(c);
+    case LETTERS:
+        if (c != (uint8_t)*machine.letters)
+            return DEAD;
+        return *++machine.letters ? LETTERS : AFTER;
+    case AFTER:
+        return step_after(c);
+    case VALUE:
+    case FIRST_VALUE:
+    case FIRST_KEY:
+    case KEY:
+    case COLON:
+        break;
+    default:
+        return step_number(c);
+    }
+    if (is_white(c))
+        return machine.state;
+    if (machine.state == COLON)
+        return c == ':' ? VALUE : DEAD;
+    if ((machine.state == FIRST_VALUE && c == ']') || (machine.state == FIRST_KEY && c == '}'))
+        return step_after(c);
+    if (machine.state == VALUE || machine.state == FIRST_VALUE)
+        return step_first(c);
+    machine.is_key = true;
+    return c == '"' ? CHARS : DEAD;
+}
+
+/* The length of the longest start that some JSON text of nesting at most 8
+ * begins with, and whether the whole is such a text. */
+static size_t json_start(bool *whole)
+{
+    size_t i = 0;
+    machine.state = VALUE, machine.depth = 0;
+    for (; i < text_len; i++) {
+        machine.state = step(text[i]);
+        if (machine.state == DEAD)
+            break;
+    }
+    *whole = machine.depth == 0 && (machine.state == AFTER || machine.state == ZERO || machine.state == WHOLE ||
+                                    machine.state == FRACTION || machine.state == POWER);
+    return i;
+}
+
 /* ---- Order of keys */
 
 static int compare_keys(const void *a, const void *b)
@@ -394,6 +576,17 @@ static bool has_equal_keys(const struct node *object)
             equal = true;
     free(keys);
     return equal;
+}
+
+/* The first key of an object that is equal to an earlier one of it, by its first
+ * byte: the quotation mark before what it holds. */
+static size_t repeated_key(const struct node *object)
+{
+    for (int k = object->first; k >= 0; k = nodes[nodes[k].next].next)
+        for (int earlier = object->first; earlier != k; earlier = nodes[nodes[earlier].next].next)
+            if (compare_keys(&earlier, &k) == 0)
+                return nodes[k].start - 1;
+    abort();
 }
 
 /* ---- Writing, into a buffer of its own */
@@ -455,40 +648,56 @@ static void write_value(const struct node *v)
     }
 }
 
+static uint64_t refused(unsigned number, size_t place)
+{
+    return (uint64_t)place << 32 | number;
+}
+
+/* Questions 4, 5 and 6 of the tree, each for the first fault of its kind in the
+ * text; 0 where none applies. Nodes stand in the order of the text. */
+static uint64_t refused_tree(void)
+{
+    size_t first = text_len;
+    for (int i = 0; i < node_count; i++)
+        if (nodes[i].kind == STRING)
+            unescape(&nodes[i]);
+    for (int i = 0; i < node_count; i++)
+        if (nodes[i].kind == STRING && nodes[i].refused)
+            return refused(4, nodes[i].start - 1);
+    for (int i = 0; i < node_count; i++)
+        if (nodes[i].kind == NUMBER && number_refused(&nodes[i]))
+            return refused(5, nodes[i].start);
+    for (int i = 0; i < node_count; i++)
+        if (nodes[i].kind == OBJECT && has_equal_keys(&nodes[i])) {
+            size_t place = repeated_key(&nodes[i]);
+            first = place < first ? place : first;
+        }
+    return first < text_len ? refused(6, first) : 0;
+}
+
 uint64_t reference_canonical(const uint8_t *t, size_t n, uint8_t *out, size_t out_len)
 {
     if (n > TEXT_MAX)
-        return 1;
-    if (!is_utf8(t, n))
-        return 2;
+        return refused(1, 0);
+    size_t start = utf8_start(t, n);
+    if (start < n)
+        return refused(2, start);
 
     text = t, text_len = n, at = 0;
     node_count = 0, pool_used = 0, form_len = 0;
-    if (!read_value(0) || at != n)
-        return 3;
+    bool whole, is_json = read_value(0) && at == n;
+    start = json_start(&whole);
+    if (whole != is_json)
+        abort(); /* the two readers of the reference disagree */
+    if (!is_json)
+        return refused(3, start);
 
-    bool bad_string = false, bad_number = false, equal_keys = false;
-    for (int i = 0; i < node_count; i++)
-        if (nodes[i].kind == STRING) {
-            unescape(&nodes[i]);
-            bad_string |= nodes[i].refused;
-        }
-    if (bad_string)
-        return 4;
-    for (int i = 0; i < node_count; i++)
-        if (nodes[i].kind == NUMBER)
-            bad_number |= number_refused(&nodes[i]);
-    if (bad_number)
-        return 5;
-    for (int i = 0; i < node_count; i++)
-        if (nodes[i].kind == OBJECT)
-            equal_keys |= has_equal_keys(&nodes[i]);
-    if (equal_keys)
-        return 6;
-
+    uint64_t fault = refused_tree();
+    if (fault != 0)
+        return fault;
     write_value(&nodes[0]);
     if (form_len > out_len)
-        return 20;
+        return refused(20, 0);
     memcpy(out, form, form_len);
     return (uint64_t)form_len << 8;
 }

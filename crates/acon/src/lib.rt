@@ -3,32 +3,34 @@ use reference::ImageIndex;
 ghost use mathlib.Core.Path.{_≡_};
 ghost use Prim.Native.Nat.{_<_};
 ghost use lib.ListN.{length};
-ghost use Rattle.text.specs.Answer.{canonicalNumber, canonicalLength, canonicalBytes};
+ghost use Rattle.text.specs.Answer.{canonicalNumber, canonicalLength, canonicalBytes, textPlace};
 ghost use Rattle.store.specs.Load.{loadNumber, loadUsed, loadBytes};
 ghost use Rattle.policy.specs.Judge.{judgeNumber, judgePairs, judgeBytes};
 ghost use Rattle.lookup.specs.Resolve.{resolveNumber, resolveValue, resolveBytes};
 ghost use Rattle.acon.specs.Packed.{packed};
 
-// The canonical form of a JSON text, written at the start of `out`; the first value is its length.
+// The canonical form of a JSON text, written at the start of `out`; the first value is its length, and the second the offset
+// of the fault where the text is refused with 2 to 6.
 #[no_mangle]
 pub extern "C" fn acon_canonical(text: &[u8], out: &mut [u8]) -> u64
     ensures { λ r. ⌜ r ≡ packed (canonicalNumber (now (text .entry)) (length (now (out .entry))))
-        (canonicalLength (now (text .entry)) (length (now (out .entry)))) 0 ⌝ }
+        (canonicalLength (now (text .entry)) (length (now (out .entry)))) (textPlace (now (text .entry))) ⌝ }
     ensures { λ _. ⌜ now (out .exit) ≡ canonicalBytes (now (text .entry)) (now (out .entry)) ⌝ }
 {
     let a = text::canonical(text, out);
-    pack(a.number, a.value, 0)
+    pack(a.number, a.value, a.place)
 }
 
-// Loads an image: its record is appended to those of the first `used` bytes of `buffer`; the first value is the new used count.
+// Loads an image: its record is appended to those of the first `used` bytes of `buffer`; the first value is the new used
+// count, and the second the offset of the manifest's fault where it is refused with 2 to 6.
 #[no_mangle]
 pub extern "C" fn acon_load(id: &[u8], manifest: &[u8], buffer: &mut [u8], used: usize) -> u64
     ensures { λ r. ⌜ r ≡ packed (loadNumber (now (id .entry)) (now (manifest .entry)) (now (buffer .entry)) used)
-        (loadUsed (now (id .entry)) (now (manifest .entry)) (now (buffer .entry)) used) 0 ⌝ }
+        (loadUsed (now (id .entry)) (now (manifest .entry)) (now (buffer .entry)) used) (textPlace (now (manifest .entry))) ⌝ }
     ensures { λ _. ⌜ now (buffer .exit) ≡ loadBytes (now (id .entry)) (now (manifest .entry)) (now (buffer .entry)) used ⌝ }
 {
     let a = store::load(id, manifest, buffer, used);
-    pack(a.number, a.value, 0)
+    pack(a.number, a.value, a.place)
 }
 
 // Judges the images in the first `used` bytes of `store`: writes the report's pairs at the start of `report`; the first value is their number.

@@ -7,8 +7,9 @@ use borrow.Author.Tests.{eqb-true, eqb-false}
 use lib.Dec.{eqb}
 use lib.ListN.{length, take}
 use Rattle.answer.specs.declared.Answer.{Answer}
+use Rattle.answer.specs.declared.TextAnswer.{TextAnswer}
 use Rattle.laws.proofs.Order.{by-test}
-use Rattle.text.specs.Answer.{form, canonicalNumber, canonicalLength, canonicalBytes}
+use Rattle.text.specs.Answer.{form, canonicalNumber, canonicalLength, canonicalBytes, textPlace}
 use Rattle.text.specs.Question.{textNumber}
 use Rattle.text.proofs.Forms.{form-again}
 use Rattle.text.proofs.Outcome.{number-in-space, form-first}
@@ -16,8 +17,8 @@ use Rattle.manifest.specs.Number.{manifestTextNumber}
 use Rattle.manifest.proofs.Questions.{refused-as-text}
 use Rattle.manifest.proofs.Canonical.{form-number}
 use Rattle.store_record.specs.Image.{Image}
-use Rattle.store.specs.Load.{imageOf, imageQuestions, loadNumber}
-use Rattle.store.specs.Loading.{Loads}
+use Rattle.store.specs.Load.{imageOf, imageQuestions, loadNumber, loadUsed, loadBytes}
+use Rattle.store.specs.Loading.{Loads, LoadsText}
 use Rattle.store.proofs.Steps.{loads-as, refused-number, good-number}
 
 -- The first bytes of a buffer into which a text's form was written are that form.
@@ -60,3 +61,9 @@ module _ (id manifest buffer : List ℕ) (used : ℕ) where
     form-loads {r} {after} {t} f l =
         loads-as (ap (λ (m : List ℕ). loadNumber id m buffer used) f ∙ number-same)
         (subst (λ (x : Image). Loads (loadNumber id t buffer used) x buffer used r after) (ap (imageOf id) f ∙ image-same) l)
+
+-- What is told of a load, one fact after the other.
+pub told : {id manifest before : List ℕ} {used : ℕ} {r : TextAnswer} {after : List ℕ} → LoadsText id manifest before used r after
+    → (r .number ≡ loadNumber id manifest before used)
+    × ((r .value ≡ loadUsed id manifest before used) × ((after ≡ loadBytes id manifest before used) × (r .place ≡ textPlace manifest)))
+told l = (l .number, (l .new-used, (l .bytes, l .place)))

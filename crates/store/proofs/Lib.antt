@@ -4,4 +4,5 @@ pub mod Forms
 pub mod Images
 pub mod Loading
 pub mod Numbering
+pub mod Offsets
 pub mod Steps

@@ -5,11 +5,12 @@ use mathlib.Core.List.{List}
 use mathlib.Core.Logic.{_⊎_}
 use lib.ListN.{length}
 use Rattle.answer.specs.declared.Answer.{Answer}
-use Rattle.text.specs.Answer.{form}
+use Rattle.answer.specs.declared.TextAnswer.{TextAnswer}
+use Rattle.text.specs.Answer.{form, textPlace}
 use Rattle.manifest.specs.Opened.{Opens}
 use Rattle.manifest.specs.declared.Places.{Places}
 use Rattle.store_record.specs.Image.{Image}
-use Rattle.store.specs.Load.{usedAfter, bytesAfter}
+use Rattle.store.specs.Load.{usedAfter, bytesAfter, loadNumber, loadUsed, loadBytes}
 
 -- space for the canonical form of a manifest, unless that is too long for any
 pub record FormSpace (manifest form : List ℕ) : Type 0 where
@@ -30,3 +31,10 @@ pub record Loads (n : ℕ) (x : Image) (before : List ℕ) (used : ℕ) (r : Ans
   pub number : r .number ≡ n
   pub new-used : r .value ≡ usedAfter n x used
   pub bytes : after ≡ bytesAfter n x before used
+
+-- the same of a load of this manifest, with the offset of the fault of its text
+pub record LoadsText (id manifest before : List ℕ) (used : ℕ) (r : TextAnswer) (after : List ℕ) : Type 0 where
+  pub number : r .number ≡ loadNumber id manifest before used
+  pub new-used : r .value ≡ loadUsed id manifest before used
+  pub bytes : after ≡ loadBytes id manifest before used
+  pub place : r .place ≡ textPlace manifest

@@ -1,5 +1,6 @@
 // Loading an image into a store: images in one buffer.
 use answer::Answer;
+use answer::TextAnswer;
 use manifest::Checked;
 use manifest::MOST_NAMES;
 use manifest::Places;
@@ -14,7 +15,7 @@ ghost use mathlib.Core.Bool.{true, not, _||_};
 ghost use Prim.Native.Nat.{_+_};
 ghost use lib.ListN.{length};
 ghost use Rattle.laws.specs.Any.{anyOf};
-ghost use Rattle.text.specs.Answer.{isCanonical};
+ghost use Rattle.text.specs.Answer.{isCanonical, textPlace};
 ghost use Rattle.text.specs.Question.{lowest};
 ghost use Rattle.manifest.specs.Opened.{Opens};
 ghost use Rattle.store_record.specs.Ids.{idTwice};
@@ -26,17 +27,18 @@ ghost use Rattle.store_keys.specs.Signed.{one};
 ghost use Rattle.store_open.specs.Held.{held};
 ghost use Rattle.store.specs.Load.{imageOf, storeQuestions, imageQuestions, loadNumber, loadUsed, loadBytes};
 ghost use Rattle.store_append.specs.Append.{imageWith, Digests, Storable};
-ghost use Rattle.store.specs.Loading.{FormSpace, Readied, NameArrays, Loads};
+ghost use Rattle.store.specs.Loading.{FormSpace, Readied, NameArrays, Loads, LoadsText};
 
 // A manifest of at most so many bytes is short. Most are, and for these smaller arrays are cleared.
 const SHORT_BYTES: usize = 2048;
 
 // Loads an image: appends its record to those of the first `used` bytes. A refusal changes no byte. All questions after the first six are asked of the
 // manifest's canonical form, which is never longer than the manifest and gets the same answers.
-pub fn load(id: &[u8], manifest: &[u8], store: &mut [u8], used: usize) -> Answer
+pub fn load(id: &[u8], manifest: &[u8], store: &mut [u8], used: usize) -> TextAnswer
     ensures { λ r. ⌜ r .number ≡ loadNumber (now (id .entry)) (now (manifest .entry)) (now (store .entry)) used ⌝ }
     ensures { λ r. ⌜ r .value ≡ loadUsed (now (id .entry)) (now (manifest .entry)) (now (store .entry)) used ⌝ }
     ensures { λ _. ⌜ now (store .exit) ≡ loadBytes (now (id .entry)) (now (manifest .entry)) (now (store .entry)) used ⌝ }
+    ensures { λ r. ⌜ r .place ≡ textPlace (now (manifest .entry)) ⌝ }
 {
     let mut sorted = [0u16; MOST_NAMES];
     let mut spare = [0u16; MOST_NAMES];
@@ -73,18 +75,18 @@ fn load_within(
     form: &mut [u8],
     sorted: &mut [u16],
     spare: &mut [u16],
-) -> Answer
+) -> TextAnswer
     requires { ⌜ FormSpace (now manifest) (now form) × NameArrays (now sorted) (now spare) ⌝ }
-    ensures { λ r. ⌜ Loads (loadNumber (now (id .entry)) (now (manifest .entry)) (now (store .entry)) used)
-        (imageOf (now (id .entry)) (now (manifest .entry))) (now (store .entry)) used r (now (store .exit)) ⌝ }
+    ensures { λ r. ⌜ LoadsText (now (id .entry)) (now (manifest .entry)) (now (store .entry)) used r (now (store .exit)) ⌝ }
 {
     let written = text::canonical_with(manifest, form, sorted, spare);
     let number = written.number;
     if number != 0 {
-        return answer::refused(store, number);
+        return answer::refused_at(store, number, written.place);
     }
     let n = written.value;
-    load_form(id, &form[..n], store, used, sorted, spare)
+    let loaded = load_form(id, &form[..n], store, used, sorted, spare);
+    answer::without_place(loaded)
 }
 
 // The same of a text that is its own canonical form.

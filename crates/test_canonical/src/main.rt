@@ -1,21 +1,14 @@
 // Reads texts from standard input, an empty line after each but the last, and prints for each its number of document 01's table, `own`
 // where it is its own canonical form, and that form, or the offset of its fault.
-use text::Checked;
 ghost use mathlib.Core.Path.{_≡_};
 ghost use mathlib.Core.Bool.{true};
 ghost use Prim.Native.Nat.{_+_, _<_};
 ghost use lib.ListN.{length};
 
-fn show_place(json: &[u8]) {
-    match text::check(json) {
-        Checked::Refused(f) => {
-            io::write_all(1, b"at ");
-            io::print_decimal(1, f.place() as u64);
-        }
-        Checked::Accepted {
-            length: _,
-            canonical: _,
-        } => {}
+fn show_place(number: usize, place: usize) {
+    if number != 0 {
+        io::write_all(1, b"at ");
+        io::print_decimal(1, place as u64);
     }
 }
 
@@ -31,7 +24,7 @@ fn show(json: &[u8]) {
     if n <= text::MOST_BYTES {
         io::write_all(1, &out[..n]);
     }
-    show_place(json);
+    show_place(a.number, a.place);
     io::write_all(1, b"\n");
 }
 

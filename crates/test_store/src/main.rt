@@ -1,11 +1,13 @@
 // Loads images into a store, judges it and resolves their layers as the lines of standard input say, and prints what comes back. Beside the lines of
 // `test_lines`:
 //
-//   load ID MANIFEST       loads an image; prints the number and the new used count, which is kept where the number is 0
+//   load ID MANIFEST       loads an image; prints the number, the new used count, which is kept where the number is 0, and the offset of the
+//                          manifest's fault
 //   judge N                judges the store with a report buffer of N bytes, each 0xEE; prints the number and the number of pairs, then the
 //                          pairs and what follows them as `show` does
 //   resolve PLACE N HEX    resolves the layers of the image at a place, with the layer list HEX, each byte as two hexadecimal digits, and an output
 //                          buffer of N bytes, each 0xEE; prints the number and the value, then the output and what follows it as `show` does
+use answer::TextAnswer;
 use reference::ImageIndex;
 use test_lines::FILL;
 use test_lines::Number;
@@ -16,6 +18,16 @@ ghost use lib.ListN.{length};
 // The longest output buffer that a line may ask for.
 const MOST_OUTPUT: usize = 4096;
 
+// What a load answers, on a line.
+fn print_load(a: TextAnswer) {
+    io::print_decimal(1, a.number as u64);
+    io::write_all(1, b" ");
+    io::print_decimal(1, a.value as u64);
+    io::write_all(1, b" ");
+    io::print_decimal(1, a.place as u64);
+    io::write_all(1, b"\n");
+}
+
 // `load`: an Image ID, a space, and a manifest. Answers the used count after it.
 fn load(words: &[u8], store: &mut [u8], used: usize) -> usize {
     let space = lines::find(words, 0, b' ');
@@ -25,7 +37,7 @@ fn load(words: &[u8], store: &mut [u8], used: usize) -> usize {
     }
     let from = space + 1;
     let a = store::load(&words[0..space], &words[from..], store, used);
-    test_lines::print_two(a.number, a.value);
+    print_load(a);
     if a.number == 0 { a.value } else { used }
 }
 

@@ -3,5 +3,8 @@ pub mod Forms
 pub mod Keys
 pub mod Numbers
 pub mod Outcome
+pub mod ValuePlaces
+pub mod FirstFault
+pub mod Places
 pub mod Taken
 pub mod Roots

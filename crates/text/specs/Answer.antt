@@ -42,6 +42,11 @@ abbrev pub numberOf : Checked → ℕ
 numberOf (Accepted n c) = 0
 numberOf (Refused f) = faultNumber f
 
+-- the offset of the fault that an answer tells, 0 where the text is taken
+abbrev pub placeOf : Checked → ℕ
+placeOf (Accepted n c) = 0
+placeOf (Refused f) = faultPlace f
+
 -- The answer for a text of n bytes with the syntax tree t, where c says whether it is its own form. A fault's offset is the text's length
 -- less what is left from the fault on.
 unfoldable pub byFaults : ℕ → Bool → Syntax → Checked
@@ -67,6 +72,10 @@ byVerdict s (Bad k) = Refused (NotUtf8 k)
 -- the fault of the lowest number that applies, or the length of the canonical form and whether the text is that form
 unfoldable pub checked : List ℕ → Checked
 checked s = elim (tooLong s) [ true ↦ Refused TooLong | false ↦ byVerdict s (verdict s) ]
+
+-- request 2026-01: the offset of the fault for the numbers 2 to 6, and else 0
+unfoldable pub textPlace : List ℕ → ℕ
+textPlace s = placeOf (checked s)
 
 -- the canonical form of a text
 unfoldable pub formOf : Read Syntax → List ℕ

@@ -1,3 +1,4 @@
 pub mod Question
 pub mod Answer
 pub mod Keys
+pub mod Places

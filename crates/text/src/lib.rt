@@ -1,12 +1,12 @@
 // JSON texts as document 01 takes them: checked by questions 1 to 6, and written in canonical form.
-use answer::Answer;
+use answer::TextAnswer;
 use text_tokens::Scanned;
 use text_utf8::Verdict;
 ghost use mathlib.Core.Path.{_≡_};
 ghost use mathlib.Core.List.{_++_};
 ghost use Rattle.text.specs.Keys.{KeySpace, RootKeys, FormReady, refusedText, withCount};
 ghost use Rattle.text.specs.Answer.{faultNumber, faultPlace, checked, byTree, byFaults, isForm, form, canonicalNumber, canonicalLength, canonicalBytes};
-ghost use Rattle.text.specs.Answer.{isCanonical};
+ghost use Rattle.text.specs.Answer.{isCanonical, textPlace};
 ghost use Rattle.text.specs.Question.{textNumber};
 ghost use Prim.Native.Nat.{_-_, _≤_};
 ghost use lib.ListN.{length, drop};
@@ -172,10 +172,11 @@ fn offset(len: usize, left: usize) -> usize
 }
 
 // Writes the canonical form of a text at the start of `out`. Where it refuses, and past the form, `out` stays as it was.
-pub fn canonical(text: &[u8], out: &mut [u8]) -> Answer
+pub fn canonical(text: &[u8], out: &mut [u8]) -> TextAnswer
     ensures { λ r. ⌜ r .number ≡ canonicalNumber (now (text .entry)) (length (now (out .entry))) ⌝ }
     ensures { λ r. ⌜ r .value ≡ canonicalLength (now (text .entry)) (length (now (out .entry))) ⌝ }
     ensures { λ _. ⌜ now (out .exit) ≡ canonicalBytes (now (text .entry)) (now (out .entry)) ⌝ }
+    ensures { λ r. ⌜ r .place ≡ textPlace (now (text .entry)) ⌝ }
 {
     let mut keys = [0u16; MOST_KEYS];
     let mut spare = [0u16; MOST_KEYS];
@@ -183,22 +184,28 @@ pub fn canonical(text: &[u8], out: &mut [u8]) -> Answer
 }
 
 // The same with the arrays that it is lent, so that a caller that needs them again makes them once; what they hold is overwritten.
-pub fn canonical_with(text: &[u8], out: &mut [u8], keys: &mut [u16], spare: &mut [u16]) -> Answer
+pub fn canonical_with(
+    text: &[u8],
+    out: &mut [u8],
+    keys: &mut [u16],
+    spare: &mut [u16],
+) -> TextAnswer
     requires { ⌜ KeySpace (now keys) (now spare) ⌝ }
     ensures { λ r. ⌜ r .number ≡ canonicalNumber (now (text .entry)) (length (now (out .entry))) ⌝ }
     ensures { λ r. ⌜ r .value ≡ canonicalLength (now (text .entry)) (length (now (out .entry))) ⌝ }
     ensures { λ _. ⌜ now (out .exit) ≡ canonicalBytes (now (text .entry)) (now (out .entry)) ⌝ }
+    ensures { λ r. ⌜ r .place ≡ textPlace (now (text .entry)) ⌝ }
 {
     let known = check_with(text, keys, spare);
     let answer = known.answer;
     match answer {
-        Checked::Refused(fault) => answer::refused(out, fault.number()),
+        Checked::Refused(fault) => answer::refused_at(out, fault.number(), fault.place()),
         Checked::Accepted {
             length,
             canonical: _,
         } => {
             if out.len() < length {
-                return answer::refused(out, 20);
+                return answer::refused_at(out, 20, 0);
             }
             write_form(text, known.count, out, keys, spare)
         }
@@ -212,14 +219,18 @@ fn write_form(
     out: &mut [u8],
     keys: &mut [u16],
     spare: &mut [u16],
-) -> Answer
+) -> TextAnswer
     requires { ⌜ FormReady (now text) count (now out) (now keys) (now spare) ⌝ }
-    ensures { λ r. ⌜ (r .number ≡ 0) × (r .value ≡ length (form (now (text .entry)))) ⌝ }
+    ensures { λ r. ⌜ (r .number ≡ 0) × (r .value ≡ length (form (now (text .entry)))) × (r .place ≡ 0) ⌝ }
     ensures { λ _. ⌜ now (out .exit) ≡ form (now (text .entry)) ++ drop (length (form (now (text .entry)))) (now (out .entry)) ⌝ }
 {
     let at = text_view::value::root(text);
     let value = write_value(text, at, count, out, keys, spare);
-    Answer { number: 0, value }
+    TextAnswer {
+        number: 0,
+        value,
+        place: 0,
+    }
 }
 
 // The value of the text, by the writer.

@@ -4,6 +4,7 @@ use denote.Ref.{now}
 use lib.ListN.{length}
 use Rattle.policy.specs.Judge.{judgePairs, judgeBytes}
 use Rattle.policy.proofs.Admitting.{judge-number-small, judge-pairs-small}
+use mathlib.Core.Path.{refl}
 use Rattle.acon.proofs.Packing.{packed-same}
 use borrow.Author.Needs.{needs}
 use Rattle.acon.proofs.acon_judge.Statement.{statement}
@@ -20,7 +21,7 @@ pack-requires c κs =
 
 returns : tie.Need-returns
 unfolding judgePairs judgeBytes
-returns c = let e = c .before .before .before .judge .ensures in (packed-same (c .pack .ensures) (e .number) (e .pairs), e .bytes)
+returns c = let e = c .before .before .before .judge .ensures in (packed-same (c .pack .ensures) (e .number) (e .pairs) refl, e .bytes)
 
 pub acon-judge-spec : {M : Type 1} → statement M
 acon-judge-spec =

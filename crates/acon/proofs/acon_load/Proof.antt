@@ -1,6 +1,7 @@
 -- `acon::acon_load` meets its contract. Assumes nothing.
 use native.Mathlib.Omega.{arith}
 use denote.Ref.{now}
+use Rattle.text.proofs.Places.{place-small}
 use Rattle.store.proofs.Bounds.{load-number-small, load-used-small}
 use Rattle.acon.proofs.Packing.{packed-same}
 use borrow.Author.Needs.{needs}
@@ -18,12 +19,14 @@ pack-requires c κs =
       arith,
       e .0,
       e .1 .0,
+      e .1 .1 .1,
+      place-small m,
       load-number-small i m b (a .used),
       load-used-small i m b (a .used) (λ k. c .before .before .before .before .slice-known .given k .fits),
     )
 
 returns : tie.Need-returns
-returns c = let e = c .before .before .before .load .ensures in (packed-same (c .pack .ensures) (e .0) (e .1 .0), e .1 .1)
+returns c = let e = c .before .before .before .load .ensures in (packed-same (c .pack .ensures) (e .0) (e .1 .0) (e .1 .1 .1), e .1 .1 .0)
 
 pub acon-load-spec : {M : Type 1} → statement M
 acon-load-spec =

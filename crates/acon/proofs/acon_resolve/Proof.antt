@@ -4,6 +4,7 @@ use denote.Ref.{now}
 use lib.ListN.{length}
 use Rattle.lookup.specs.Resolve.{resolveValue, resolveBytes}
 use Rattle.lookup.proofs.Bounds.{resolve-number-small, resolve-value-small}
+use mathlib.Core.Path.{refl}
 use Rattle.acon.proofs.Packing.{packed-same}
 use borrow.Author.Needs.{needs}
 use Rattle.acon.proofs.acon_resolve.Statement.{statement}
@@ -21,7 +22,7 @@ pack-requires c κs =
 
 returns : tie.Need-returns
 unfolding resolveValue resolveBytes
-returns c = let e = c .before .before .before .resolve .ensures in (packed-same (c .pack .ensures) (e .number) (e .value), e .bytes)
+returns c = let e = c .before .before .before .resolve .ensures in (packed-same (c .pack .ensures) (e .number) (e .value) refl, e .bytes)
 
 pub acon-resolve-spec : {M : Type 1} → statement M
 acon-resolve-spec =

@@ -47,13 +47,13 @@ returns-2 c =
     let l = c .before .before .before .before in
     let d = divided l in
     loaded-answer _ _ _ (d .divide .ensures .id) (manifest l) (d .before .if1 .left) _ _ _ (l .load .ensures .0) (c .if2 .taken) (l .load .ensures .1 .0)
-    (l .load .ensures .1 .1)
+    (l .load .ensures .1 .1 .0)
 
 returns-3 : tie.Need-returns-3
 returns-3 c =
     let l = c .before .before .before .before in
     let d = divided l in
-    refused-answer _ _ _ (d .divide .ensures .id) (manifest l) (d .before .if1 .left) _ _ (l .load .ensures .0) (c .if2 .left) (l .load .ensures .1 .1)
+    refused-answer _ _ _ (d .divide .ensures .id) (manifest l) (d .before .if1 .left) _ _ (l .load .ensures .0) (c .if2 .left) (l .load .ensures .1 .1 .0)
 
 pub load-line-spec : {M : Type 1} → statement M
 load-line-spec =

@@ -1,6 +1,6 @@
 -- `store::load_within` meets its contract: questions 1 to 6 are asked of the manifest, and the others of its form. Assumes nothing.
 use Prim.Native.Nat.{ℕ, _≤_}
-use mathlib.Core.Path.{_≡_, sym, subst, _∙_}
+use mathlib.Core.Path.{_≡_, refl, sym, subst, _∙_}
 use mathlib.Core.List.{List}
 use mathlib.Core.Bool.{true}
 use native.Mathlib.Omega.{arith}
@@ -11,7 +11,8 @@ use Rattle.text.specs.Answer.{form, isCanonical}
 use Rattle.text.specs.Question.{textNumber}
 use Rattle.text.proofs.Forms.{form-canonical}
 use Rattle.text.proofs.Outcome.{zero-taken, length-within}
-use Rattle.store.proofs.Steps.{refused-loads}
+use Rattle.text.proofs.Places.{done-place}
+use Rattle.store.proofs.Steps.{refused-loads, load-answers}
 use Rattle.store.proofs.Forms.{form-there, refused-text, form-loads}
 use borrow.Author.Needs.{needs}
 use Rattle.store.proofs.load_within.Statement.{statement}
@@ -40,15 +41,16 @@ returns c =
     let w = k .canonical-with .ensures .0 in
     let h = t .if1 .taken in
     let q = refused-text (now (a .id)) (now (a .manifest)) (now (a .store)) (a .used) (length (now (a .form))) (start k .pre .0 .fits) (λ z. h (w ∙ z)) in
-    let r = c .before .before .refused .ensures in
-    refused-loads (w ∙ q) h (r .0) (r .1)
+    let r = c .before .before .refused-at .ensures in
+    let l = load-answers _ _ _ _ (w ∙ q) (refused-loads refl h (r .0 .0, r .0 .1) (r .1)) in
+    record { number = l .0; new-used = l .1 .0; bytes = l .1 .1; place = r .0 .2 ∙ k .canonical-with .ensures .1 .1 .1 }
 
 -- what was written is the form
 abbrev text : tie.After-canonical-with → List ℕ
 text k = take (k .canonical-with .result .value) (k .canonical-with .last .1 .0)
 
 is-form : (k : tie.After-canonical-with) → k .canonical-with .result .number ≡ 0 → text k ≡ form (manifest k)
-is-form k z = let e = k .canonical-with .ensures in form-there (manifest k) _ _ _ _ (e .1 .1) (e .1 .0) (e .0) z
+is-form k z = let e = k .canonical-with .ensures in form-there (manifest k) _ _ _ _ (e .1 .1 .0) (e .1 .0) (e .0) z
 
 its-text : (k : tie.After-canonical-with) → k .canonical-with .result .number ≡ 0 → textNumber (manifest k) ≡ 0
 its-text k z = zero-taken (manifest k) _ (sym (k .canonical-with .ensures .0) ∙ z)
@@ -75,15 +77,23 @@ load-form-requires c κs =
 
 returns-2 : tie.Need-returns-2
 returns-2 c =
-    let f = c .before .before .before .before .before .before in
+    let f = c .before .before .before .before .before .before .before in
     let e = f .before .before .before .before .before in
     let k = told (e .before) in
     let a = start k .args in
     let z = e .if1 .left in
-    form-loads (now (a .id)) (manifest k) (now (a .store)) (a .used) (its-text k z) (is-form k z) (f .load-form .ensures)
+    let l = load-answers _ _ _ _ refl
+    (form-loads (now (a .id)) (manifest k) (now (a .store)) (a .used) (its-text k z) (is-form k z) (f .load-form .ensures)) in
+    let w = c .without-place .ensures in
+    record {
+      number = w .0 ∙ l .0;
+      new-used = w .1 ∙ l .1 .0;
+      bytes = l .1 .1;
+      place = w .2 ∙ sym (done-place (manifest k) (length (now (a .form))) (sym (k .canonical-with .ensures .0) ∙ z));
+    }
 
 pub load-within-spec : {M : Type 1} → statement M
 load-within-spec =
     tie.close (tie.spec canonical-with-requires (λ c κs. search needs) (λ c. search needs) (λ c. search needs) (λ c. search needs) (λ c. search needs)
-    returns slice-reshare-prefix-load-form slice-aggregate-load-form load-form-requires (λ c. search needs) (λ c. search needs) (λ c. search needs)
-    (λ c. search needs) returns-2)
+    returns slice-reshare-prefix-load-form slice-aggregate-load-form load-form-requires (λ c κs. search needs) (λ c. search needs) (λ c. search needs)
+    (λ c. search needs) (λ c. search needs) returns-2)

@@ -42,7 +42,7 @@ returns c =
     let w = c .before .before .before .before .before .before .write-value .ensures (content (p .tree))
     (c .before .before .before .before .before .before .before .before .before .before .root .ensures .0 8 (p .tree) (taken-text s p)) in
     let e = sym (taken-form s p) in (
-      (refl, w .0 ∙ ap length e),
+      (refl, w .0 ∙ ap length e, refl),
       w .1 .all ∙ ap (λ (l : List ℕ). l ++ drop (length l) (now
           (c .before .before .before .before .before .before .before .before .before .before .before .before .before .before .before .args .out))) e,
     )
