@@ -56,10 +56,10 @@
 #include <stdint.h>
 
 /* Version of this interface. */
-#define ACON_VERSION "2.0.0"
+#define ACON_VERSION "2.0.1"
 #define ACON_VERSION_MAJOR 2
 #define ACON_VERSION_MINOR 0
-#define ACON_VERSION_PATCH 0
+#define ACON_VERSION_PATCH 1
 
 /* What a compiler can check of a call. With these gcc -Wall warns of an output
  * that is the same pointer as an input (-Wrestrict), of a dropped answer

@@ -5,5 +5,6 @@ pub mod Order
 pub mod Pairs
 pub mod Permutations
 pub mod Sort
+pub mod Spans
 pub mod Rising
 pub mod Writing

@@ -3,6 +3,7 @@ use Prim.Native.Nat.{ℕ, _<_, _≤_}
 use mathlib.Core.Path.{_≡_, refl, sym, ap, _∙_}
 use mathlib.Core.List.{List, [], _∷_}
 use mathlib.Core.Bool.{Bool, true, false}
+use native.Mathlib.Decide.{decLt}
 use native.Mathlib.Omega.{arith}
 use lib.Dec.{ltb, eqb}
 use lib.ListN.{length}
@@ -13,6 +14,10 @@ use Rattle.laws.specs.Order.{leq, same}
 pub by-test : {C : Type 0} (t : Bool) → (t ≡ true → C) → (t ≡ false → C) → C
 by-test true f g = f refl
 by-test false f g = g refl
+
+-- What holds where `m` is below `n`, and also where it is not, holds.
+pub below : {A : Type 0} (m n : ℕ) → (m < n → A) → (n ≤ m → A) → A
+below m n f g = elim (decLt m n) [ yes h ↦ f h | no h ↦ g (omega arith) ]
 
 -- From `false` equal to `true` anything follows.
 pub false-true : {C : Type 0} → _≡_ {A = Bool} false true → C

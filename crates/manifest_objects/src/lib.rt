@@ -85,7 +85,8 @@ fn list_under(
     ensures { λ r. ⌜ ((vs : Values) → ValueAt (now (s .entry)) at depth (array vs)
         → AddsListed (now (s .entry)) object vs (now (names .entry)) (now (owners .entry)) n (now (names .exit)) (now (owners .exit)) r) ⌝ }
 {
-    let r = manifest_repeat::collect_entries(s, at, depth, names, n);
+    let added = manifest_repeat::collect_entries(s, at, depth, names, n);
+    let r = added.count;
     let mut i = n;
     while i < r {
         owners[i] = object as u16;

@@ -1,4 +1,4 @@
--- Sixteen bytes of a part at once: they stand for themselves, and none is a `/`.
+-- Several bytes of a part at once: they stand for themselves, and none is a `/`.
 -- Assumes nothing.
 use Prim.Native.Nat.{ℕ, zero, suc, _+_, _-_, _<_, _≤_}
 use mathlib.Core.Path.{_≡_, refl, sym, ap, subst, _∙_}
@@ -21,22 +21,22 @@ use Rattle.reference_parts.specs.declared.part.Start.{Start}
 use Rattle.reference_parts.proofs.Counting.{DigitsCounted, every-append, divided-on, divided-append}
 
 -- the test, by how many bytes are left
-pub few-left : (s : List ℕ) → length s < 16 → false ≡ isBlock s
+pub few-left : (n : ℕ) (s : List ℕ) → length s < n → false ≡ isBlock n s
 unfolding isBlock
-few-left s h = rw (lt-leb 16 (length s) h)
+few-left n s h = rw (lt-leb n (length s) h)
 
--- Sixteen bytes or more are a block exactly if none of the first sixteen is a quotation mark, a backslash or a `/`.
-pub enough-left : (s : List ℕ) → 16 ≤ length s → every isUnmarked (take 16 s) && every (isNot 0x2F) (take 16 s) ≡ isBlock s
+-- At least n bytes are a block exactly if none of the first n is a quotation mark, a backslash or a `/`.
+pub enough-left : (n : ℕ) (s : List ℕ) → n ≤ length s → every isUnmarked (take n s) && every (isNot 0x2F) (take n s) ≡ isBlock n s
 unfolding isBlock
-enough-left s h = rw (le-leb 16 (length s) h)
+enough-left n s h = rw (le-leb n (length s) h)
 
--- A block has sixteen bytes at least, and none of the first sixteen is a quotation mark, a backslash or a `/`.
-pub block : (s : List ℕ) → isBlock s ≡ true → (16 ≤ length s) × (every isUnmarked (take 16 s) ≡ true) × (every (isNot 0x2F) (take 16 s) ≡ true)
+-- A block of n bytes has that many at least, and none of the first n is a quotation mark, a backslash or a `/`.
+pub block : (n : ℕ) (s : List ℕ) → isBlock n s ≡ true → (n ≤ length s) × (every isUnmarked (take n s) ≡ true) × (every (isNot 0x2F) (take n s) ≡ true)
 unfolding isBlock
-block s e =
-    let p = and-eq-true-iff (leb 16 (length s)) (every isUnmarked (take 16 s) && every (isNot 0x2F) (take 16 s)) .0 e in
-    let q = and-eq-true-iff (every isUnmarked (take 16 s)) (every (isNot 0x2F) (take 16 s)) .0 (p .1) in
-    (leb-true 16 (length s) (p .0), q .0, q .1)
+block n s e =
+    let p = and-eq-true-iff (leb n (length s)) (every isUnmarked (take n s) && every (isNot 0x2F) (take n s)) .0 e in
+    let q = and-eq-true-iff (every isUnmarked (take n s)) (every (isNot 0x2F) (take n s)) .0 (p .1) in
+    (leb-true n (length s) (p .0), q .0, q .1)
 
 -- bytes that are no `/`
 no-divider : (xs : List ℕ) → every (isNot 0x2F) xs ≡ true → isDivided xs ≡ false
@@ -72,21 +72,21 @@ unfolding isDivided every
 nothing-yet s i p =
     record { bytes = []; begins = refl; inside = p; size = sym (add-zero i); undivided = refl; hex = refl }
 
-module _ (s : List ℕ) (i k : ℕ) (hex : Bool) (p : StartAt s i (record { next = k; hex = hex })) (e : isBlock (drop k s) ≡ true) where
-  -- The sixteen bytes of a block lie within the text.
-  pub within : k ≤ length s → k + 16 ≤ length s
-  within h = let l = rw (length-drop k s) at (block (drop k s) e .0) in omega arith
+module _ (n : ℕ) (s : List ℕ) (i k : ℕ) (hex : Bool) (p : StartAt s i (record { next = k; hex = hex })) (e : isBlock n (drop k s) ≡ true) where
+  -- The bytes of a block lie within the text.
+  pub within : k ≤ length s → k + n ≤ length s
+  within h = let l = rw (length-drop k s) at (block n (drop k s) e .0) in omega arith
 
   -- The start of a part goes on over a block, and whether it is all digits is asked of those bytes too.
-  pub block-more : (t : Bool) → t ≡ every isLowerHex (take 16 (drop k s)) → StartAt s i (record { next = k + 16; hex = hex && t })
+  pub block-more : (t : Bool) → t ≡ every isLowerHex (take n (drop k s)) → StartAt s i (record { next = k + n; hex = hex && t })
   block-more t f =
-      let b = block (drop k s) e in
-      let g = upto s k 16 (b .0) (b .1) (p .inside) 16 (omega arith) in
-      let d = take 16 (drop k s) in
-      let l : length d ≡ 16 = omega (arith, length-take 16 (drop k s), b .0) in
+      let b = block n (drop k s) e in
+      let g = upto s k n (b .0) (b .1) (p .inside) n (omega arith) in
+      let d = take n (drop k s) in
+      let l : length d ≡ n = omega (arith, length-take n (drop k s), b .0) in
       record {
         bytes = p .bytes ++ d;
-        begins = p .begins ∙ ap (λ (r : List ℕ). p .bytes ++ r) (g .0) ∙ sym (append-assoc (p .bytes) d (contentFrom s (k + 16)));
+        begins = p .begins ∙ ap (λ (r : List ℕ). p .bytes ++ r) (g .0) ∙ sym (append-assoc (p .bytes) d (contentFrom s (k + n)));
         inside = g .1;
         size = omega (arith, p .size, l, length-append (p .bytes) d);
         undivided = divided-append (p .bytes) d ∙ rw (p .undivided, no-divider d (b .2));

@@ -37,6 +37,6 @@ joined [] = []
 joined (p ∷ []) = p
 joined (p ∷ q ∷ ps) = p ++ 0x2F ∷ joined (q ∷ ps)
 
--- at least sixteen bytes, of which none ends a string's content or a part, or begins an escape
-unfoldable pub isBlock : List ℕ → Bool
-isBlock s = leb 16 (length s) && (every isUnmarked (take 16 s) && every (isNot 0x2F) (take 16 s))
+-- at least n bytes, of the first n of which none ends a string's content or a part, or begins an escape
+unfoldable pub isBlock : ℕ → List ℕ → Bool
+isBlock n s = leb n (length s) && (every isUnmarked (take n s) && every (isNot 0x2F) (take n s))

@@ -33,25 +33,25 @@ pub struct Start {
     pub hex: bool,
 }
 
-// The sixteen bytes at `at` stand for themselves in a string, and none is a `/`.
-fn undivided16(s: &[u8], at: usize) -> bool
+// `count` bytes are left from `at` on, they stand for themselves in a string, and none is a `/`.
+fn undivided(s: &[u8], at: usize, count: usize) -> bool
     requires { ⌜ at ≤ length (now s) ⌝ }
-    ensures { λ r. ⌜ r ≡ isBlock (drop at (now (s .entry))) ⌝ }
+    ensures { λ r. ⌜ r ≡ isBlock count (drop at (now (s .entry))) ⌝ }
 {
-    if s.len() - at < 16 {
+    if s.len() - at < count {
         return false;
     }
-    text_chars::unmarked(s, at, 16) & text_chars::none_is(s, at, 16, b'/')
+    text_chars::unmarked(s, at, count) & text_chars::none_is(s, at, count, b'/')
 }
 
-// The sixteen bytes at `at` are lower-case hexadecimal digits.
-fn hex16(s: &[u8], at: usize) -> bool
-    requires { ⌜ at + 16 ≤ length (now s) ⌝ }
-    ensures { λ r. ⌜ r ≡ every isLowerHex (take 16 (drop at (now (s .entry)))) ⌝ }
+// The `count` bytes at `at` are lower-case hexadecimal digits.
+fn all_hex(s: &[u8], at: usize, count: usize) -> bool
+    requires { ⌜ at + count ≤ length (now s) ⌝ }
+    ensures { λ r. ⌜ r ≡ every isLowerHex (take count (drop at (now (s .entry)))) ⌝ }
 {
     let mut all = true;
     let mut n = 0;
-    while n < 16 {
+    while n < count {
         let b = s[at + n];
         all &= (b'0' <= b) & (b <= b'9') | (b'a' <= b) & (b <= b'f');
         n += 1;
@@ -66,11 +66,25 @@ fn read_blocks(s: &[u8], i: usize) -> Start
 {
     let mut k = i;
     let mut hex = true;
-    while undivided16(s, k) {
-        hex &= hex16(s, k);
+    while undivided(s, k, 16) {
+        hex &= all_hex(s, k, 16);
         k += 16;
     }
     Start { next: k, hex }
+}
+
+// The same, and then eight bytes at once if they are of the part.
+fn read_start(s: &[u8], i: usize) -> Start
+    requires { ⌜ Inside (now s) i ⌝ }
+    ensures { λ r. ⌜ StartAt (now (s .entry)) i r ⌝ }
+{
+    let begun = read_blocks(s, i);
+    let k = begun.next;
+    if !undivided(s, k, 8) {
+        return begun;
+    }
+    let hex = begun.hex & all_hex(s, k, 8);
+    Start { next: k + 8, hex }
 }
 
 // The part at position i of a string's content.
@@ -78,7 +92,7 @@ pub fn read(s: &[u8], i: usize) -> Part
     requires { ⌜ Inside (now s) i ⌝ }
     ensures { λ r. ⌜ PartAt (now (s .entry)) i r ⌝ }
 {
-    let begun = read_blocks(s, i);
+    let begun = read_start(s, i);
     let mut k = begun.next;
     let mut length = k - i;
     let mut hex = begun.hex;

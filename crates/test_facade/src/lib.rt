@@ -7,8 +7,8 @@ use manifest::Fault;
 use manifest::Places;
 use manifest::SignalNumber;
 use reference::LayerIndex;
-use reference::layer::Layer;
 use reference_digests::algorithm::Algorithm;
+use test_names::Pair;
 ghost use mathlib.Core.Path.{_≡_};
 ghost use Prim.Native.Nat.{ℕ, _≤_, _<_};
 ghost use lib.ListN.{length, take};
@@ -20,25 +20,6 @@ fn show_flag(b: bool) {
         io::write_all(1, b" yes");
     } else {
         io::write_all(1, b" no");
-    }
-}
-
-// What a layer is: a digest or an alias.
-fn show_layer(l: Layer) {
-    match l {
-        Layer::Digest(_, _) => {
-            io::write_all(1, b" digest");
-        }
-        Layer::Alias {
-            algorithm: _,
-            signer: _,
-            alias: _,
-        } => {
-            io::write_all(1, b" alias");
-        }
-        Layer::Bad => {
-            io::write_all(1, b" bad");
-        }
     }
 }
 
@@ -63,7 +44,7 @@ fn show_listed(s: &[u8], p: Places, layers: bool)
     let mut i = 0;
     while i < n {
         if layers {
-            show_layer(manifest::layer(s, p, LayerIndex(i)));
+            test_names::show_layer(manifest::layer(s, p, LayerIndex(i)));
         } else {
             show_signal(manifest::signal(s, p, i));
         }
@@ -166,31 +147,12 @@ fn show_accepts(s: &[u8], p: Places, t: &[u8], q: Places)
     io::write_all(1, b"\n");
 }
 
-fn show_bad() {
-    io::write_all(1, b" bad\n");
-}
-
-fn show_pair(s: &[u8], p: Places, t: &[u8])
-    requires { ⌜ Opens (now s) p ⌝ }
-{
-    match manifest::check(t) {
-        Checked::Refused(_) => show_bad(),
-        Checked::Good {
-            length: _,
-            canonical: _,
-            places,
-        } => show_accepts(s, p, t, places),
-    }
-}
-
 fn show_two(s: &[u8], t: &[u8]) {
-    match manifest::check(s) {
-        Checked::Refused(_) => show_bad(),
-        Checked::Good {
-            length: _,
-            canonical: _,
-            places,
-        } => show_pair(s, places, t),
+    match test_names::open(s, t) {
+        Pair::Good { first, second } => show_accepts(s, first, t, second),
+        Pair::Bad => {
+            io::write_all(1, b" bad\n");
+        }
     }
 }
 

@@ -7,10 +7,47 @@ use manifest::Places;
 use manifest_aliases::Object;
 use reference::LayerIndex;
 use reference::layer::Layer;
+ghost use Prim.Native.Nat.{ℕ};
+ghost use mathlib.Core.List.{List};
 ghost use Rattle.manifest.specs.Opened.{Opens};
+ghost use Rattle.test_names.specs.Pairs.{OpenPair};
 
 // The most bytes that a manifest may have.
 const MOST_BYTES: usize = 16384;
+
+// What opening two manifests gives, where both are good.
+pub enum Pair {
+    Good { first: Places, second: Places },
+    Bad,
+}
+
+// Checks two manifests.
+pub fn open(s: &[u8], t: &[u8]) -> Pair
+    ensures { λ r. ⌜ OpenPair (now (s .entry)) (now (t .entry)) r ⌝ }
+{
+    match manifest::check(s) {
+        Checked::Refused(_) => Pair::Bad,
+        Checked::Good {
+            length: _,
+            canonical: _,
+            places: first,
+        } => open_second(first, t),
+    }
+}
+
+// Checks the second of them, where the first one is good.
+fn open_second(first: Places, t: &[u8]) -> Pair
+    ensures { λ r. ⌜ ((s : List ℕ) → Opens s first → OpenPair s (now (t .entry)) r) ⌝ }
+{
+    match manifest::check(t) {
+        Checked::Refused(_) => Pair::Bad,
+        Checked::Good {
+            length: _,
+            canonical: _,
+            places: second,
+        } => Pair::Good { first, second },
+    }
+}
 
 fn say(yes: bool) {
     if yes {
@@ -47,21 +84,21 @@ fn show_conflict(s: &[u8], p: Places, t: &[u8], q: Places)
     say(conflict);
 }
 
-// What an object is: a digest or an alias.
-fn show_layer(x: Layer) {
+// What a layer or an object is: a digest or an alias.
+pub fn show_layer(x: Layer) {
     match x {
         Layer::Digest(_, _) => {
-            io::write_all(1, b" digest\n");
+            io::write_all(1, b" digest");
         }
         Layer::Alias {
             algorithm: _,
             signer: _,
             alias: _,
         } => {
-            io::write_all(1, b" alias\n");
+            io::write_all(1, b" alias");
         }
         Layer::Bad => {
-            io::write_all(1, b" bad\n");
+            io::write_all(1, b" bad");
         }
     }
 }
@@ -74,6 +111,7 @@ fn show_found(o: Object) {
         Object::At { index, object } => {
             io::print_decimal(1, index as u64);
             show_layer(object);
+            io::write_all(1, b"\n");
         }
     }
 }
@@ -97,36 +135,16 @@ fn show_object(s: &[u8], p: Places, t: &[u8], q: Places)
     io::write_all(1, b"-\n");
 }
 
-// The same of a second manifest that is checked first.
-fn show_second(s: &[u8], p: Places, t: &[u8])
-    requires { ⌜ Opens (now s) p ⌝ }
-{
-    match manifest::check(t) {
-        Checked::Refused(_) => {
-            io::write_all(1, b"bad\n");
-        }
-        Checked::Good {
-            length: _,
-            canonical: _,
-            places,
-        } => {
-            show_shared(s, p, t, places);
-            show_conflict(s, p, t, places);
-            show_object(s, p, t, places);
-        }
-    }
-}
-
 fn show_pair(s: &[u8], t: &[u8]) {
-    match manifest::check(s) {
-        Checked::Refused(_) => {
+    match open(s, t) {
+        Pair::Good { first, second } => {
+            show_shared(s, first, t, second);
+            show_conflict(s, first, t, second);
+            show_object(s, first, t, second);
+        }
+        Pair::Bad => {
             io::write_all(1, b"bad\n");
         }
-        Checked::Good {
-            length: _,
-            canonical: _,
-            places,
-        } => show_second(s, places, t),
     }
 }
 

@@ -7,13 +7,13 @@ use native.Mathlib.Omega.{arith}
 use mathlib.Core.Path.{_≡_, refl, ap, sym, _∙_}
 use mathlib.Core.List.{List, [], _∷_, _++_}
 use mathlib.Core.Bool.{Bool, true, false, not, _&&_, or-false, and-true, and-assoc, and-eq-true-iff}
-use borrow.Author.Tests.{leb-true, lt-leb, eqb-false, ne-eqb, not-true}
+use borrow.Author.Tests.{leb-true, le-leb, lt-leb, eqb-false, ne-eqb, not-true}
 use lib.Dec.{leb, eqb, leb·zero, leb·suc-zero, leb·suc-suc}
 use lib.ListN.{length, take, drop, getD, length-drop, length-take, drop-of-length-le}
 use lib.Seq.{take-suc, getD-drop, getD-take, drop-drop}
 use Rattle.text_json.specs.Read.{Read, readChars, char}
 use Rattle.text_json.specs.Bytes.{isPlain}
-use Rattle.text_chars.specs.Measure.{Weight, measure, add, plainLength, every, isNot, isUnmarked}
+use Rattle.text_chars.specs.Measure.{Weight, measure, add, plainLength, every, isNot, isUnmarked, unmarkedRun}
 use Rattle.text_chars.proofs.CharSteps.{char-plain}
 use Rattle.text_json.proofs.Grammar.Answer.{by-test}
 use Rattle.text_json.proofs.Places.{drop-next}
@@ -93,6 +93,25 @@ pub unmarked-at : (s : List ℕ) (i n : ℕ) → n ≤ length (drop i s) → eve
 unmarked-at s i n h e m l =
     let w : m < length (take n (drop i s)) = omega (arith, length-take n (drop i s)) in
     unmarked (getD s (i + m) 0) (rw (getD-take n (drop i s) m 0 l, getD-drop i s m 0) at (every-at isUnmarked (take n (drop i s)) m e w))
+
+-- the test of n unmarked bytes, by how many are left
+module _ (n : ℕ) (xs : List ℕ) where
+  -- The test of `n` bytes fails where fewer are left.
+  pub unmarked-short : length xs < n → false ≡ unmarkedRun n xs
+  unfolding unmarkedRun
+  unmarked-short h = rw (lt-leb n (length xs) h)
+
+  -- Where `n` bytes are left, the test asks whether each of them is neither a quotation mark nor a backslash.
+  pub unmarked-enough : n ≤ length xs → every isUnmarked (take n xs) ≡ unmarkedRun n xs
+  unfolding unmarkedRun
+  unmarked-enough h = rw (le-leb n (length xs) h)
+
+  -- A run of `n` unmarked bytes has that many, and each of them is unmarked.
+  pub unmarked-parts : unmarkedRun n xs ≡ true → (n ≤ length xs) × (every isUnmarked (take n xs) ≡ true)
+  unfolding unmarkedRun
+  unmarked-parts e =
+      let p = and-eq-true-iff (leb n (length xs)) (every isUnmarked (take n xs)) .0 e in
+      (leb-true n (length xs) (p .0), p .1)
 
 -- the four tests of a plain byte, each made of all bytes
 pub every-plain : (xs : List ℕ)

@@ -4,8 +4,8 @@ use Prim.Native.Nat.{ℕ, suc, _+_, _≤_, _<_}
 use mathlib.Core.Path.{_≡_}
 use mathlib.Core.List.{List, [], _∷_}
 use mathlib.Core.Bool.{Bool, true, false, not, _&&_, _||_}
-use lib.Dec.{eqb}
-use lib.ListN.{length, drop}
+use lib.Dec.{leb, eqb}
+use lib.ListN.{length, take, drop}
 use Rattle.text_json.specs.Syntax.{Char, byte, unit}
 use Rattle.text_json.specs.Read.{Read, found, stuck, prepend, readChars, char, hex}
 use Rattle.text_json.specs.Content.{refusedString, isPair, isLow}
@@ -70,3 +70,7 @@ isNot m b = not (eqb b m)
 -- a byte is neither a quotation mark nor a backslash
 unfoldable pub isUnmarked : ℕ → Bool
 isUnmarked b = not (eqb b 0x22) && not (eqb b 0x5C)
+
+-- n bytes are there, and none of them is a quotation mark or a backslash
+unfoldable pub unmarkedRun : ℕ → List ℕ → Bool
+unmarkedRun n xs = leb n (length xs) && every isUnmarked (take n xs)

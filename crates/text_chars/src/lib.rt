@@ -19,7 +19,7 @@ ghost use Rattle.text_json.specs.Read.{readChars, char, escape, prepend, readSt
 ghost use Rattle.text_json.specs.Content.{isSurrogate, anyControl, escaped, refusedString};
 ghost use Rattle.text_json.specs.Scan.{ScansToken};
 ghost use Rattle.text_json.specs.Size.{contentSize, stringSize, Within, Closed};
-ghost use Rattle.text_chars.specs.Measure.{Hexes, Escapes, Lows, plainLength, every, isNot, isUnmarked};
+ghost use Rattle.text_chars.specs.Measure.{Hexes, Escapes, Lows, plainLength, every, isNot, isUnmarked, unmarkedRun};
 
 // Four hexadecimal digits: their number, or the position of the first byte that is no digit.
 pub enum Hex {
@@ -203,6 +203,17 @@ pub fn unmarked(s: &[u8], at: usize, count: usize) -> bool
     ensures { λ r. ⌜ r ≡ every isUnmarked (take count (drop at (now (s .entry)))) ⌝ }
 {
     none_is(s, at, count, b'"') & none_is(s, at, count, b'\\')
+}
+
+// `count` bytes are left from `at` on, and none of them is a quotation mark or a backslash.
+pub fn unmarked_left(s: &[u8], at: usize, count: usize) -> bool
+    requires { ⌜ at ≤ length (now s) ⌝ }
+    ensures { λ r. ⌜ r ≡ unmarkedRun count (drop at (now (s .entry))) ⌝ }
+{
+    if s.len() - at < count {
+        return false;
+    }
+    unmarked(s, at, count)
 }
 
 // At least `count` plain bytes stand from `at` on.

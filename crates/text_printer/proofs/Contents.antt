@@ -8,13 +8,14 @@ use lib.Seq.{length-take-le}
 use borrow.Rule.Slice.PartMut.{midOf, putMid}
 use Rattle.text_utf8.specs.Scalar.{encode}
 use Rattle.text_json.specs.Content.{escaped, quoted}
-use Rattle.text_chars.specs.Measure.{plainLength}
 use Rattle.text_strings.specs.InString.{InString, Inside, Escapes, EscapeAt, contentFrom}
 use Rattle.text_strings.proofs.Contents.{inside-content}
 use Rattle.text_strings.proofs.Cursors.{closes, inside-within}
+use Rattle.text_printer.specs.Unmarked.{Unmarked}
 use Rattle.laws.specs.Writes.{Writes}
+use Rattle.laws.proofs.Spans.{span-none, span-next, span-both}
 use Rattle.laws.proofs.Writing.{nothing-written, same-length, lent-length, byte-written, part-written}
-use Rattle.text_printer.proofs.Runs.{Run, runs-after}
+use Rattle.text_printer.proofs.Runs.{Run, runs}
 use Rattle.text_printer.proofs.Escaped.{escaped-append}
 
 -- Of the content from position i on, n bytes of its canonical form are written, and position k is where the rest of it begins.
@@ -62,17 +63,18 @@ module _ {s : List ℕ} {i : ℕ} {before out : List ℕ} {k n : ℕ} (p : Conte
         whole : p .done ≡ escaped (contentFrom s i)
         whole = sym (append-nil (p .done)) ∙ ap (λ (l : List ℕ). p .done ++ escaped l) (sym (closes s k (p .left) (p .inside) e)) ∙ p .joins
 
-    -- a byte that is none of the marks, and the plain bytes after it
-    module _ (a : getD s k 0 ≡ 0x22 → ⊥) (b : getD s k 0 ≡ 0x5C → ⊥) (e : ℕ) (f : e ≡ k + 1 + plainLength (drop (k + 1) s)) where
+    -- a byte that is none of the marks, and those after it that are none
+    module _ (a : getD s k 0 ≡ 0x22 → ⊥) (b : getD s k 0 ≡ 0x5C → ⊥) (e : ℕ) (f : Unmarked s (k + 1) e) where
       run : Run s k (e - k) (p .left)
       run =
-          let q : e - (k + 1) + 1 ≡ e - k = omega arith in
-          rw q at (runs-after s k (e - (k + 1)) (p .left) (p .inside) within a b (omega arith))
+          let q : k + (e - k) ≡ e = omega (arith, f .up) in
+          let u = span-both _ s k (k + 1) e (span-next _ s k k (k + 1) (span-none _ s k k refl (omega (arith, within))) within (a, b) refl) f in
+          runs s k (e - k) (p .left) (p .inside) (rw q u)
 
       -- The position after these bytes lies within the text.
       pub run-within : e < length s
       run-within =
-          let q : k + (e - k) ≡ e = omega arith in
+          let q : k + (e - k) ≡ e = omega (arith, f .up) in
           rw q at (inside-within s (k + (e - k)) (record { bytes = run .left; here = run .inside }))
 
       run-length : length (take (e - k) (drop k s)) ≡ e - k
@@ -90,7 +92,7 @@ module _ {s : List ℕ} {i : ℕ} {before out : List ℕ} {k n : ℕ} (p : Conte
       pub after-run : (m : ℕ) (part : List ℕ) → m ≡ e - k → Writes (midOf n (length out - n) out) part (take (e - k) (drop k s))
           → ContentWritten s i before (putMid n (length out - n) out part) e (n + m)
       after-run m part g w =
-          let q : k + (e - k) ≡ e = omega arith in
+          let q : k + (e - k) ≡ e = omega (arith, f .up) in
           record {
             done = p .done ++ take (e - k) (drop k s);
             left = run .left;

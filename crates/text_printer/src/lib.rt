@@ -7,6 +7,7 @@ ghost use Rattle.text_utf8.specs.Scalar.{encode};
 ghost use Rattle.text_json.specs.Content.{escaped, quoted};
 ghost use Rattle.text_strings.specs.InString.{Inside, contentFrom};
 ghost use Rattle.laws.specs.Writes.{Writes};
+ghost use Rattle.text_printer.specs.Unmarked.{Unmarked};
 
 // The bytes of s from `from` to `to`.
 pub fn copy(s: &[u8], from: usize, to: usize, out: &mut [u8]) -> usize
@@ -43,8 +44,46 @@ fn write_char(c: u32, out: &mut [u8]) -> usize
     copy(&bytes, 0, len, out)
 }
 
+// Where the bytes from `at` on that are neither a quotation mark nor a backslash end, one byte at a time.
+fn unmarked_tail(s: &[u8], at: usize) -> usize
+    requires { ⌜ at ≤ length (now s) ⌝ }
+    ensures { λ r. ⌜ Unmarked (now (s .entry)) at r ⌝ }
+{
+    let mut i = at;
+    while i < s.len() {
+        match s[i] {
+            b'"' | b'\\' => return i,
+            _ => i += 1,
+        }
+    }
+    i
+}
+
+// The same: eight bytes at once if there are that many, then one byte at a time.
+fn unmarked_rest(s: &[u8], at: usize) -> usize
+    requires { ⌜ at ≤ length (now s) ⌝ }
+    ensures { λ r. ⌜ Unmarked (now (s .entry)) at r ⌝ }
+{
+    if text_chars::unmarked_left(s, at, 8) {
+        return unmarked_tail(s, at + 8);
+    }
+    unmarked_tail(s, at)
+}
+
+// The same, sixteen bytes at a time while there are that many.
+fn unmarked_end(s: &[u8], at: usize) -> usize
+    requires { ⌜ at ≤ length (now s) ⌝ }
+    ensures { λ r. ⌜ Unmarked (now (s .entry)) at r ⌝ }
+{
+    let mut i = at;
+    while text_chars::unmarked_left(s, i, 16) {
+        i += 16;
+    }
+    unmarked_rest(s, i)
+}
+
 // The string whose content goes on at i, in canonical form from there to its closing mark. A byte of the text that begins no escape
-// stands for itself, and is no byte that has to be escaped; it is copied with the plain bytes after it.
+// stands for itself, and is no byte that has to be escaped; it is copied with those after it.
 fn write_content(s: &[u8], i: usize, out: &mut [u8]) -> usize
     requires { ⌜ Inside (now s) i × (length (escaped (contentFrom (now s) i)) + 1 ≤ length (now out)) ⌝ }
     ensures { λ r. ⌜ (r ≡ length (escaped (contentFrom (now (s .entry)) i)) + 1)
@@ -65,7 +104,7 @@ fn write_content(s: &[u8], i: usize, out: &mut [u8]) -> usize
             k = e.next;
             continue;
         }
-        let end = text_chars::plain_end(s, k + 1);
+        let end = unmarked_end(s, k + 1);
         n += copy(s, k, end, &mut out[n..]);
         k = end;
     }

@@ -15,6 +15,7 @@ use text_tokens::member;
 use text_tokens::plain;
 use text_tokens::scalar;
 use text_tokens::stands;
+use text_tokens::string;
 ghost use Prim.Native.Nat.{_+_, _*_, _<_};
 ghost use lib.ListN.{length, drop};
 ghost use Rattle.text_json.specs.Read.{read, readText};
@@ -40,6 +41,17 @@ fn value(s: &[u8], at: usize, depth: usize, keys: &mut [u16], spare: &mut [u16])
     scalar(s, at)
 }
 
+// A value in an array or an object. Most are strings, and what is known of a string need not pass through `value`, which calls itself.
+fn inner(s: &[u8], at: usize, depth: usize, keys: &mut [u16], spare: &mut [u16]) -> Scanned
+    requires { ⌜ ScanSpace (now s) at (now keys) (now spare) ⌝ }
+    ensures { λ r. ⌜ ScansValue (now (s .entry)) (read depth (drop at (now (s .entry)))) r ⌝ }
+{
+    if stands(s, at, b'"') {
+        return string(s, at);
+    }
+    value(s, at, depth, keys, spare)
+}
+
 // What follows the opening mark of an array.
 fn array(s: &[u8], at: usize, depth: usize, keys: &mut [u16], spare: &mut [u16]) -> Scanned
     requires { ⌜ ScanSpace (now s) at (now keys) (now spare) ⌝ }
@@ -57,7 +69,7 @@ fn array(s: &[u8], at: usize, depth: usize, keys: &mut [u16], spare: &mut [u16])
         ordered: true,
     };
     loop {
-        let v = match value(s, i, depth, keys, spare) {
+        let v = match inner(s, i, depth, keys, spare) {
             Scanned::Value(f) => f,
             Scanned::Stuck(e) => return Scanned::Stuck(e),
         };
@@ -104,7 +116,7 @@ fn object(s: &[u8], at: usize, depth: usize, keys: &mut [u16], spare: &mut [u16]
         };
         keys[n] = i as u16;
         n += 1;
-        let v = match value(s, name.value, depth, &mut keys[n..], spare) {
+        let v = match inner(s, name.value, depth, &mut keys[n..], spare) {
             Scanned::Value(f) => f,
             Scanned::Stuck(e) => return Scanned::Stuck(e),
         };

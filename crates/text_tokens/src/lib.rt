@@ -140,7 +140,7 @@ fn token(scan: text_json::Scan, string: usize, number: usize) -> Scanned
 }
 
 // A string as a value.
-fn string(s: &[u8], at: usize) -> Scanned
+pub fn string(s: &[u8], at: usize) -> Scanned
     requires { ⌜ at ≤ length (now s) ⌝ }
     ensures { λ r. ⌜ ScansValue (now (s .entry)) (andThen (readString (drop at (now (s .entry)))) (λ cs q. found (Syntax.string (drop at (now
         (s .entry))) cs) q))

@@ -11,7 +11,8 @@ use Rattle.text_utf8.specs.Utf8.{Range, range, within, tail, Row, row, t
 use Rattle.text_utf8.specs.Scalar.{isScalar, encode, encodeAll, AllScalar}
 use Rattle.text_utf8.proofs.Forms.{encode-1, encode-2, encode-3, encode-4, scalar-low, scalar-high, scalar-bounds}
 use Rattle.text_utf8.proofs.Steps.{utf8-follows, utf8-none, utf8-met, utf8-unmet}
-use Rattle.text_utf8.proofs.Ranges.{below, within-in, within-bounds, hit, skip, lead-1, lead-2, lead-E0, lead-E1, lead-ED, lead-EE, lead-F0, lead-F1}
+use Rattle.laws.proofs.Order.{below}
+use Rattle.text_utf8.proofs.Ranges.{within-in, within-bounds, hit, skip, lead-1, lead-2, lead-E0, lead-E1, lead-ED, lead-EE, lead-F0, lead-F1}
 use Rattle.text_utf8.proofs.Ranges.{lead-F4}
 
 -- bytes that are in the ranges, one for each

@@ -1,7 +1,6 @@
 -- Ranges and the table of first bytes: which line of the grammar a byte picks, by its bounds.
 -- Assumes nothing.
 use Prim.Native.Nat.{ℕ, suc, _≤_, _<_}
-use native.Mathlib.Decide.{decLt}
 use native.Mathlib.Omega.{arith}
 use mathlib.Core.Path.{_≡_, refl, _∙_}
 use mathlib.Core.Bool.{Bool, true, false, _&&_, false≢true}
@@ -9,6 +8,7 @@ use mathlib.Core.List.{List, [], _∷_, _++_}
 use lib.ListN.{take, drop}
 use borrow.Author.Tests.{le-leb, lt-leb, leb-true}
 use lib.Dec.{leb}
+use Rattle.laws.proofs.Order.{below}
 use Rattle.text_utf8.specs.Utf8.{Range, range, within, tail, Row, table, follows, none, leadIn, lead}
 
 and-false : (x : Bool) → x && false ≡ false
@@ -19,10 +19,6 @@ and-false false = refl
 pub and-both : (x y : Bool) → x && y ≡ true → (x ≡ true) × (y ≡ true)
 and-both true y e = (refl, e)
 and-both false y e = absurd (false≢true e)
-
--- What holds where `m` is below `n`, and also where it is not, holds.
-pub below : {A : Type 0} (m n : ℕ) → (m < n → A) → (n ≤ m → A) → A
-below m n f g = elim (decLt m n) [ yes h ↦ f h | no h ↦ g (omega arith) ]
 
 -- A byte from the low bound to the high bound of a range is within it.
 pub within-in : (l h b : ℕ) → l ≤ b → b ≤ h → within (range l h) b ≡ true

@@ -1,9 +1,10 @@
 -- The character that a text starts with, for the contracts of the functions inside the crate.
 -- Assumes nothing.
-use Prim.Native.Nat.{ℕ, suc, _≤_, _<_}
+use Prim.Native.Nat.{ℕ, suc, _<_}
 use mathlib.Core.Bool.{Bool, true, false, cond}
 use mathlib.Core.List.{List, [], _∷_}
-use lib.ListN.{length, getD}
+use lib.ListN.{length}
+use Rattle.laws.specs.Span.{Span}
 use Rattle.text_utf8.specs.Utf8.{Range, within, follows, none, lead}
 
 -- the text starts with bytes in these ranges, one after the other
@@ -18,7 +19,5 @@ charLen [] = 0
 charLen (b ∷ s) = elim (lead b) [ follows rs ↦ cond (meets rs s) (suc (length rs)) 0 | none ↦ 0 ]
 
 -- the text's bytes from the place i up to j are all ASCII
-pub record Ascii (s : List ℕ) (i j : ℕ) : Type 0 where
-  pub up : i ≤ j
-  pub fits : j ≤ length s
-  pub all : (k : ℕ) → i ≤ k → k < j → getD s k 0 < 0x80
+abbrev pub Ascii : List ℕ → ℕ → ℕ → Type 0
+Ascii s i j = Span (λ (b : ℕ). b < 0x80) s i j

@@ -1,9 +1,9 @@
 // UTF-8 (RFC 3629): the check of a text, with the place of the first fault, and the bytes of a scalar value.
 ghost use mathlib.Core.Path.{_≡_};
-ghost use mathlib.Core.Bool.{cond};
+ghost use mathlib.Core.Bool.{true, cond};
 ghost use mathlib.Core.List.{[], _∷_};
-ghost use Prim.Native.Nat.{ℕ, _+_, _≤_, _<_};
-ghost use lib.ListN.{length, getD, take, drop};
+ghost use Prim.Native.Nat.{_+_, _≤_, _<_};
+ghost use lib.ListN.{length, take, drop};
 ghost use Rattle.text_utf8.specs.Utf8.{range, tail, verdict};
 ghost use Rattle.text_utf8.specs.Scalar.{encode};
 ghost use Rattle.text_utf8.specs.Char.{meets, charLen, Ascii};
@@ -86,32 +86,36 @@ fn char_len(text: &[u8], at: usize) -> usize
     }
 }
 
-// The bitwise or of the eight bytes at `at`: none of them is above it, and it is below 0x80 where they all are.
-fn or8(text: &[u8], at: usize) -> u8
-    requires { ⌜ at + 8 ≤ length (now text) ⌝ }
-    ensures { λ r. ⌜ ((k : ℕ) → k < 8 → getD (now (text .entry)) (at + k) 0 ≤ r) ⌝ }
+// The sixteen bytes at `at` are ASCII: one test for all of them.
+fn ascii_block(text: &[u8], at: usize) -> bool
+    requires { ⌜ at + 16 ≤ length (now text) ⌝ }
+    ensures { λ r. ⌜ (r ≡ true → Ascii (now (text .entry)) at (at + 16)) ⌝ }
 {
-    let low = text[at] | text[at + 1] | text[at + 2] | text[at + 3];
-    let high = text[at + 4] | text[at + 5] | text[at + 6] | text[at + 7];
-    low | high
+    let mut all = true;
+    let mut n = 0;
+    while n < 16 {
+        all &= text[at + n] <= 0x7F;
+        n += 1;
+    }
+    all
 }
 
-// Where the whole blocks of eight ASCII bytes from `at` on end: one test for eight bytes.
+// Where the whole blocks of sixteen ASCII bytes from `at` on end.
 fn ascii_run(text: &[u8], at: usize) -> usize
     requires { ⌜ at ≤ length (now text) ⌝ }
     ensures { λ r. ⌜ Ascii (now (text .entry)) at r ⌝ }
 {
     let mut i = at;
-    while 8 <= text.len() - i {
-        if or8(text, i) >= 0x80 {
+    while 16 <= text.len() - i {
+        if !ascii_block(text, i) {
             return i;
         }
-        i += 8;
+        i += 16;
     }
     i
 }
 
-// The verdict on a text: well-formed, or where it is not. ASCII is passed eight bytes at a time; a run is tried only at
+// The verdict on a text: well-formed, or where it is not. ASCII is passed sixteen bytes at a time; a run is tried only at
 // every eighth byte, so that text with short runs does not pay for it.
 pub fn check(text: &[u8]) -> Verdict
     ensures { λ r. ⌜ r ≡ verdict (now (text .entry)) ⌝ }

@@ -1,25 +1,23 @@
 -- Going on in a string of the text, over one char or over a run of bytes that neither end it nor begin an escape.
-use Prim.Native.Nat.{ℕ, zero, suc, _+_, _<_, _≤_}
+use Prim.Native.Nat.{ℕ, zero, suc, _+_, _≤_}
 use mathlib.Core.Path.{_≡_, refl, sym, ap, _∙_}
 use mathlib.Core.List.{List, _∷_}
-use mathlib.Core.Bool.{true, false, and-eq-true-iff}
+use mathlib.Core.Bool.{true}
 use native.Mathlib.Omega.{arith}
 use native.Mathlib.Nat.{add-zero}
-use borrow.Author.Tests.{leb-true, le-leb, lt-leb}
-use lib.Dec.{leb}
 use lib.ListN.{length, take, drop, getD, length-drop}
 use Rattle.text_json.specs.Bytes.{isUnescaped}
 use Rattle.text_json.specs.Syntax.{Char}
 use Rattle.text_json.specs.Grammar.{Chars, String}
 use Rattle.text_json.specs.Content.{unescape}
-use Rattle.text_chars.specs.Measure.{isUnmarked, every}
-use Rattle.text_chars.proofs.Plain.{unmarked-at}
+use Rattle.text_chars.specs.Measure.{isUnmarked, every, unmarkedRun}
+use Rattle.text_chars.proofs.Plain.{unmarked-at, unmarked-parts}
 use Rattle.text_json.proofs.Grammar.Bytes.{both-ways}
 use Rattle.text_strings.specs.InString.{Inside, EscapeAt}
 use Rattle.text_strings.proofs.Views.{View, at-close, at-byte, at-short, at-hex, view}
 use Rattle.text_strings.proofs.Escapes.{AtEscape, two, six, at-escape, short-small}
 use Rattle.text_strings.proofs.Cursors.{inside-within}
-use Rattle.text_view.specs.Place.{StringEndsAt, CharEndsAt, unmarkedRun}
+use Rattle.text_view.specs.Place.{StringEndsAt, CharEndsAt}
 use Rattle.text_view.proofs.Values.{begins}
 
 -- some string's chars go on at position i
@@ -61,10 +59,7 @@ byte-passed s i a b cs r d = go (view s i cs r d)
 -- n bytes that are neither of the marks
 module _ (s : List ℕ) (i n : ℕ) (e : unmarkedRun n (drop i s) ≡ true) where
   parts : (n ≤ length (drop i s)) × (every isUnmarked (take n (drop i s)) ≡ true)
-  unfolding unmarkedRun
-  parts =
-      let p = and-eq-true-iff (leb n (length (drop i s))) (every isUnmarked (take n (drop i s))) .0 e in
-      (leb-true n (length (drop i s)) (p .0), p .1)
+  parts = unmarked-parts n (drop i s) e
 
   -- A run of `n` bytes that are no quotation mark and no backslash ends within the text.
   pub run-fits : i ≤ length s → i + n ≤ length s
@@ -80,18 +75,6 @@ module _ (s : List ℕ) (i n : ℕ) (e : unmarkedRun n (drop i s) ≡ true) wher
 
   run-passed : Onward s i (i + n)
   run-passed = upto n (omega arith)
-
--- the test of n bytes, by how many are left
-module _ (n : ℕ) (xs : List ℕ) where
-  -- The test of `n` bytes fails where fewer are left.
-  pub run-short : length xs < n → false ≡ unmarkedRun n xs
-  unfolding unmarkedRun
-  run-short h = rw (lt-leb n (length xs) h)
-
-  -- Where `n` bytes are left, the test asks whether each of them is neither a quotation mark nor a backslash.
-  pub run-enough : n ≤ length xs → every isUnmarked (take n xs) ≡ unmarkedRun n xs
-  unfolding unmarkedRun
-  run-enough h = rw (le-leb n (length xs) h)
 
 -- an escape takes six bytes where a u follows the backslash, and two elsewhere
 module _ (s : List ℕ) (i : ℕ) (p : EscapeAt s i) where

@@ -2,13 +2,11 @@
 use Prim.Native.Nat.{ℕ, _<_, _≤_, _^_}
 use mathlib.Core.Path.{_≡_}
 use mathlib.Core.List.{List, _∷_}
-use mathlib.Core.Bool.{Bool, _&&_}
-use lib.Dec.{leb}
-use lib.ListN.{length, take, drop}
+use mathlib.Core.Bool.{Bool}
+use lib.ListN.{length, drop}
 use Rattle.text_json.specs.Syntax.{Syntax, Char}
 use Rattle.text_json.specs.Grammar.{Chars, Scalar, Value as Derives, Stops}
 use Rattle.text_json.specs.Content.{decimal}
-use Rattle.text_chars.specs.Measure.{isUnmarked, every}
 use Rattle.text_json.specs.declared.Scan.{Scan}
 use Rattle.text_json.specs.declared.Scan.the-variants.{Token, NoToken}
 use Rattle.text_content.specs.Value.{Value, null, boolean, number, string, array, object, content}
@@ -68,10 +66,6 @@ pub record CharEndsAt (s : List ℕ) (i e : ℕ) : Type 0 where
   pub later : i < e
   pub within : e ≤ length s
   pub rest : (cs : List Char) (r : List ℕ) → Chars (drop i s) cs r → (c : Char) × (ds : List Char) × (cs ≡ c ∷ ds) × Chars (drop e s) ds r
-
--- n bytes are there, and none of them is a quotation mark or a backslash
-unfoldable pub unmarkedRun : ℕ → List ℕ → Bool
-unmarkedRun n xs = leb n (length xs) && every isUnmarked (take n xs)
 
 -- a value that is neither an array nor an object
 pub record ScalarAt (s : List ℕ) (at : ℕ) : Type 0 where

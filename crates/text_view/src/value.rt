@@ -4,8 +4,7 @@ use crate::Whole;
 ghost use mathlib.Core.Path.{_≡_};
 ghost use mathlib.Core.List.{List};
 ghost use mathlib.Core.Bool.{Bool};
-ghost use Prim.Native.Nat.{ℕ, _≤_};
-ghost use lib.ListN.{length, drop};
+ghost use Prim.Native.Nat.{ℕ};
 ghost use Rattle.text_json.specs.Syntax.{Syntax};
 ghost use Rattle.text_json.specs.Grammar.{Text};
 ghost use Rattle.text_json.specs.Read.{spaces};
@@ -13,7 +12,7 @@ ghost use Rattle.text_json.specs.Scan.{At};
 ghost use Rattle.text_json.specs.Content.{decimal};
 ghost use Rattle.text_strings.specs.InString.{Inside, EscapeAt};
 ghost use Rattle.text_content.specs.Value.{Value, number, content};
-ghost use Rattle.text_view.specs.Place.{ValueAt, Readable, SomeValue, SmallNumber, kindOf, EndsAt, StringEndsAt, CharEndsAt, unmarkedRun, ScalarAt};
+ghost use Rattle.text_view.specs.Place.{ValueAt, Readable, SomeValue, SmallNumber, kindOf, EndsAt, StringEndsAt, CharEndsAt, ScalarAt};
 ghost use Rattle.text_view.specs.Place.{endOf};
 ghost use Rattle.text_view.specs.Listed.{Tree, ListAt, SomeList, AnyList, ListEndsAt, SomeItem, ItemAt, SomeItemEnd, NoItems, ItemValue};
 ghost use Rattle.text_view.specs.Listed.{GivesItem, Peeks};
@@ -95,17 +94,6 @@ fn token_end(r: text_json::Scan) -> usize
     }
 }
 
-// `count` bytes are left from `at` on, and none of them is a quotation mark or a backslash.
-fn unmarked_left(s: &[u8], at: usize, count: usize) -> bool
-    requires { ⌜ at ≤ length (now s) ⌝ }
-    ensures { λ r. ⌜ r ≡ unmarkedRun count (drop at (now (s .entry))) ⌝ }
-{
-    if s.len() - at < count {
-        return false;
-    }
-    text_chars::unmarked(s, at, count)
-}
-
 // The position after the escape at `i`: a \u escape has four digits.
 fn escape_end(s: &[u8], i: usize) -> usize
     requires { ⌜ EscapeAt (now s) i ⌝ }
@@ -138,7 +126,7 @@ fn string_rest(s: &[u8], from: usize) -> usize
     requires { ⌜ Inside (now s) from ⌝ }
     ensures { λ e. ⌜ StringEndsAt (now (s .entry)) from e ⌝ }
 {
-    if unmarked_left(s, from, 8) {
+    if text_chars::unmarked_left(s, from, 8) {
         return string_tail(s, from + 8);
     }
     string_tail(s, from)
@@ -151,7 +139,7 @@ fn string_end(s: &[u8], from: usize) -> usize
     ensures { λ e. ⌜ StringEndsAt (now (s .entry)) from e ⌝ }
 {
     let mut i = from;
-    while unmarked_left(s, i, 16) {
+    while text_chars::unmarked_left(s, i, 16) {
         i += 16;
     }
     string_rest(s, i)

@@ -25,7 +25,7 @@ loop-holds : tie.Need-loop-holds Inv-loop μ-loop
 loop-holds c =
     let f = c .before .before in
     let a = f .before .before .before .before .before in
-    let e = f .collect-entries .ensures (a .pre .list .values) (a .pre .list .here) .0 in
+    let e = f .collect-entries .ensures .0 (a .pre .list .values) (a .pre .list .here) .0 in
     let k : a .args .n - a .args .n ≡ 0 = omega arith in
     (omega arith, omega (arith, e), omega (arith, e, a .pre .space), refl, sym (rw k (append-nil _)))
 
@@ -45,8 +45,8 @@ returns c =
     let l = c .before .loop in
     let f = c .before .before .before .before in
     let a = f .before .before .before .before .before in
-    let e : l .i ≡ f .collect-entries .result = omega (arith, l .inv .1, c .loop-test .left) in
-    adds-listed _ _ _ _ _ _ _ (a .pre) _ _ _ (f .collect-entries .ensures)
+    let e : l .i ≡ f .collect-entries .result .count = omega (arith, l .inv .1, c .loop-test .left) in
+    adds-listed _ _ _ _ _ _ _ (a .pre) _ _ _ (f .collect-entries .ensures .0)
     (subst (λ (j : ℕ). take j (l .owners) ≡ take (a .args .n) (now (a .args .owners)) ++ replicate (j - a .args .n) (a .args .object)) e (l .inv .4))
 
 pub list-under-spec : {M : Type 1} → statement M

@@ -71,11 +71,11 @@ loop-again c =
     let l = d .before .before .before .before in
     after-escape (l .loop .inv) (l .before .before .before .pre .1) _ _ (d .read-escape .ensures) _ _ (w .0) (w .1)
 
-add-plain-end : tie.Need-add-plain-end Inv-loop μ-loop
-add-plain-end c = omega (arith, within (c .before .before .before .loop .inv))
+add-unmarked-end : tie.Need-add-unmarked-end Inv-loop μ-loop
+add-unmarked-end c = omega (arith, within (c .before .before .before .loop .inv))
 
-plain-end-requires : tie.Need-plain-end-requires Inv-loop μ-loop
-plain-end-requires c κs = omega (arith, within (c .before .before .before .loop .inv))
+unmarked-end-requires : tie.Need-unmarked-end-requires Inv-loop μ-loop
+unmarked-end-requires c κs = omega (arith, within (c .before .before .before .loop .inv))
 
 sub-copy : tie.Need-sub-copy Inv-loop μ-loop
 sub-copy c = let l = c .before .before .before .before in omega (arith, byte-space (l .loop .inv) (l .before .before .before .pre .1))
@@ -88,10 +88,10 @@ copy-requires c κs =
     let d = c .before in
     let l = d .before .before .before .before in
     let fits = l .before .before .before .pre .1 in
-    let e = d .plain-end .ensures in
+    let e = d .unmarked-end .ensures in
     let q = d .before .before .if1 .left in
     let b = d .before .if2 .left in
-    (omega (arith, e), omega (arith, run-within (l .loop .inv) fits q b _ e), run-fits (l .loop .inv) fits q b _ e)
+    (omega (arith, e .up), omega (arith, run-within (l .loop .inv) fits q b _ e), run-fits (l .loop .inv) fits q b _ e)
 
 add-n-2 : tie.Need-add-n-2 Inv-loop μ-loop
 add-n-2 c =
@@ -101,26 +101,26 @@ add-n-2 c =
       arith,
       c .before .before .copy .ensures .0,
       run-space (l .loop .inv) (l .before .before .before .pre .1) (d .before .before .if1 .left)
-          (d .before .if2 .left) _ (d .plain-end .ensures),
+          (d .before .if2 .left) _ (d .unmarked-end .ensures),
     )
 
 loop-less-2 : tie.Need-loop-less-2 Inv-loop μ-loop
 loop-less-2 c =
     let d = c .before .before .before .before in
     let l = d .before .before .before .before in
-    let e = d .plain-end .ensures in
-    omega (arith, e, run-within (l .loop .inv) (l .before .before .before .pre .1) (d .before .before .if1 .left) (d .before .if2 .left) _ e)
+    let e = d .unmarked-end .ensures in
+    omega (arith, e .up, run-within (l .loop .inv) (l .before .before .before .pre .1) (d .before .before .if1 .left) (d .before .if2 .left) _ e)
 
 loop-again-2 : tie.Need-loop-again-2 Inv-loop μ-loop
 loop-again-2 c =
     let d = c .before .before .before .before in
     let l = d .before .before .before .before in
     let w = c .before .before .copy .ensures in
-    after-run (l .loop .inv) (l .before .before .before .pre .1) (d .before .before .if1 .left) (d .before .if2 .left) _ (d .plain-end .ensures) _ _ (w .0)
+    after-run (l .loop .inv) (l .before .before .before .pre .1) (d .before .before .if1 .left) (d .before .if2 .left) _ (d .unmarked-end .ensures) _ _ (w .0)
     (w .1)
 
 pub write-content-spec : {M : Type 1} → statement M
 write-content-spec =
     tie.close (tie.spec Inv-loop μ-loop loop-holds shared-slice-read-b slice-write-out add-result same-length returns read-escape-requires
-    sub-write-char part-write-char-start (λ c. search needs) write-char-requires add-n loop-less loop-again add-plain-end plain-end-requires sub-copy
+    sub-write-char part-write-char-start (λ c. search needs) write-char-requires add-n loop-less loop-again add-unmarked-end unmarked-end-requires sub-copy
     part-copy-start (λ c. search needs) copy-requires add-n-2 loop-less-2 loop-again-2)

@@ -16,14 +16,14 @@ Inv-loop s i k₀ n₀ hex₀ k n hex = Inside s k × DigitsCounted (contentFrom
 abbrev μ-loop : tie.MeasureT-loop
 μ-loop s i k₀ n₀ hex₀ k n hex = length s - k
 
-read-blocks-requires : tie.Need-read-blocks-requires Inv-loop μ-loop
-read-blocks-requires c κs = c .before .pre
+read-start-requires : tie.Need-read-start-requires Inv-loop μ-loop
+read-start-requires c κs = c .before .pre
 
 sub-length : tie.Need-sub-length Inv-loop μ-loop
-sub-length c = omega (arith, c .read-blocks .ensures .size)
+sub-length c = omega (arith, c .read-start .ensures .size)
 
 loop-holds : tie.Need-loop-holds Inv-loop μ-loop
-loop-holds c = (c .read-blocks .ensures .inside, begun _ _ _ (c .read-blocks .ensures))
+loop-holds c = (c .read-start .ensures .inside, begun _ _ _ (c .read-start .ensures))
 
 shared-slice-read-b : tie.Need-shared-slice-read-b Inv-loop μ-loop
 shared-slice-read-b c = inside-within _ _ (c .before .loop .inv .0)
@@ -62,5 +62,5 @@ loop-again c =
 
 pub read-spec : {M : Type 1} → statement M
 read-spec =
-    tie.close (tie.spec Inv-loop μ-loop read-blocks-requires sub-length loop-holds shared-slice-read-b returns one-char-requires returns-2 add-length
+    tie.close (tie.spec Inv-loop μ-loop read-start-requires sub-length loop-holds shared-slice-read-b returns one-char-requires returns-2 add-length
     (λ c κs. tt) loop-less loop-again)

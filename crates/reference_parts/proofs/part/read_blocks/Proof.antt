@@ -20,22 +20,22 @@ abbrev μ-loop : tie.MeasureT-loop
 loop-holds : tie.Need-loop-holds Inv-loop μ-loop
 loop-holds c = nothing-yet _ _ (c .before .pre)
 
-undivided16-requires : tie.Need-undivided16-requires Inv-loop μ-loop
-undivided16-requires c κs = omega (arith, inside-within _ _ (c .loop .inv .inside))
+undivided-requires : tie.Need-undivided-requires Inv-loop μ-loop
+undivided-requires c κs = omega (arith, inside-within _ _ (c .loop .inv .inside))
 
-hex16-requires : tie.Need-hex16-requires Inv-loop μ-loop
-hex16-requires c κs =
+all-hex-requires : tie.Need-all-hex-requires Inv-loop μ-loop
+all-hex-requires c κs =
     let l = c .before .before .loop in
     let a = c .before .before .before .before .args in
     let i = inside-within (now (a .s)) (l .k) (l .inv .inside) in
-    within (now (a .s)) (a .i) (l .k) (l .hex) (l .inv) (sym (c .before .undivided16 .ensures) ∙ c .if1 .taken) (omega arith)
+    within 16 (now (a .s)) (a .i) (l .k) (l .hex) (l .inv) (sym (c .before .undivided .ensures) ∙ c .if1 .taken) (omega arith)
 
 add-k : tie.Need-add-k Inv-loop μ-loop
 add-k c =
     let l = c .before .before .before .loop in
     let a = c .before .before .before .before .before .args in
     let i = inside-within (now (a .s)) (l .k) (l .inv .inside) in
-    let w = within (now (a .s)) (a .i) (l .k) (l .hex) (l .inv) (sym (c .before .before .undivided16 .ensures) ∙ c .before .if1 .taken) (omega arith) in
+    let w = within 16 (now (a .s)) (a .i) (l .k) (l .hex) (l .inv) (sym (c .before .before .undivided .ensures) ∙ c .before .if1 .taken) (omega arith) in
     omega (arith, c .before .before .before .before .before .good)
 
 loop-less : tie.Need-loop-less Inv-loop μ-loop
@@ -44,11 +44,11 @@ loop-less c = omega (arith, inside-within _ _ (c .before .before .before .loop .
 loop-again : tie.Need-loop-again Inv-loop μ-loop
 loop-again c =
     let l = c .before .before .before .loop in
-    block-more _ _ (l .k) (l .hex) (l .inv) (sym (c .before .before .undivided16 .ensures) ∙ c .before .if1 .taken) _ (c .hex16 .ensures)
+    block-more 16 _ _ (l .k) (l .hex) (l .inv) (sym (c .before .before .undivided .ensures) ∙ c .before .if1 .taken) _ (c .all-hex .ensures)
 
 returns : tie.Need-returns Inv-loop μ-loop
 returns c = c .before .before .loop .inv
 
 pub read-blocks-spec : {M : Type 1} → statement M
 read-blocks-spec =
-    tie.close (tie.spec Inv-loop μ-loop loop-holds undivided16-requires hex16-requires add-k loop-less loop-again returns)
+    tie.close (tie.spec Inv-loop μ-loop loop-holds undivided-requires all-hex-requires add-k loop-less loop-again returns)

@@ -1,4 +1,4 @@
--- The cycle of `value`, `array` and `object`: each meets its contract. The measure goes by the nesting that is left. Both loops keep
+-- The cycle of `value`, `inner`, `array` and `object`: each meets its contract. The measure goes by the nesting that is left. Both loops keep
 -- that what was read, with what is left, is the whole. Assumes nothing.
 use borrow.Author.Needs.{needs}
 use Prim.Native.Nat.{_+_, _-_, _*_, _≤_}
@@ -11,6 +11,7 @@ use lib.ListN.{length, take, drop, length-set}
 use lib.Seq.{length-take-le, length-front}
 use Rattle.text_keys.specs.Keys.{KeysAt}
 use Rattle.text_tokens.specs.Summary.{plus}
+use Rattle.text_tokens.proofs.Tokens.{scalar-string}
 use denote.Ref.{now}
 use Rattle.text_json.specs.Read.{read}
 use Rattle.text_tokens.specs.Scanned.{ScansValue}
@@ -27,13 +28,16 @@ use borrow.Fn.Kinds.{In, Out, PK}
 use borrow.Fn.PlainCycle.{Measures, is, falls, and}
 use Rattle.text_scan.proofs.array.Reads as array
 use Rattle.text_scan.proofs.array.Kinds as array-kinds
-use Rattle.text_scan.proofs.+array+object+value.Lts-array as array-lts
+use Rattle.text_scan.proofs.+array+inner+object+value.Lts-array as array-lts
+use Rattle.text_scan.proofs.inner.Reads as inner
+use Rattle.text_scan.proofs.inner.Kinds as inner-kinds
+use Rattle.text_scan.proofs.+array+inner+object+value.Lts-inner as inner-lts
 use Rattle.text_scan.proofs.object.Reads as object
 use Rattle.text_scan.proofs.object.Kinds as object-kinds
-use Rattle.text_scan.proofs.+array+object+value.Lts-object as object-lts
+use Rattle.text_scan.proofs.+array+inner+object+value.Lts-object as object-lts
 use Rattle.text_scan.proofs.value.Reads as value
 use Rattle.text_scan.proofs.value.Kinds as value-kinds
-use Rattle.text_scan.proofs.+array+object+value.Lts-value as value-lts
+use Rattle.text_scan.proofs.+array+inner+object+value.Lts-value as value-lts
 use Rattle.text_json.proofs.space.skip_spaces.Reads as skip-spaces-reads
 use Rattle.text_tokens.proofs.added.Reads as added-reads
 use Rattle.text_tokens.proofs.after_item.Reads as after-item-reads
@@ -44,17 +48,21 @@ use Rattle.text_tokens.proofs.member.Reads as member-reads
 use Rattle.text_tokens.proofs.plain.Reads as plain-reads
 use Rattle.text_tokens.proofs.scalar.Reads as scalar-reads
 use Rattle.text_tokens.proofs.stands.Reads as stands-reads
-use Rattle.text_scan.proofs.+array+object+value.{statement}
-use Rattle.text_scan.proofs.+array+object+value.Tie.{close}
+use Rattle.text_tokens.proofs.string.Reads as string-reads
+use Rattle.text_scan.proofs.+array+inner+object+value.{statement}
+use Rattle.text_scan.proofs.+array+inner+object+value.Tie.{close}
 
 abbrev μ-array : Measures 3 array-kinds.ps ℕ
-μ-array κs a = a .1 .1 .0 + a .1 .1 .0 + 1
+μ-array κs a = 3 * a .1 .1 .0 + 2
+
+abbrev μ-inner : Measures 3 inner-kinds.ps ℕ
+μ-inner κs a = 3 * a .1 .1 .0 + 1
 
 abbrev μ-object : Measures 3 object-kinds.ps ℕ
-μ-object κs a = a .1 .1 .0 + a .1 .1 .0 + 1
+μ-object κs a = 3 * a .1 .1 .0 + 2
 
 abbrev μ-value : Measures 3 value-kinds.ps ℕ
-μ-value κs a = a .1 .1 .0 + a .1 .1 .0
+μ-value κs a = 3 * a .1 .1 .0
 
 -- what holds where a function is called at the measure t, and what has to hold for a call at a lower one
 abbrev at-measure : (ps : List (PK 3)) → Measures 3 ps ℕ → In 3 ps → ℕ → In 3 ps
@@ -71,8 +79,8 @@ array-calls t = (
   stands-reads.Learnt,
   plain-reads.Asked,
   plain-reads.Learnt,
-  below-measure value-kinds.ps μ-value value.Pre t,
-  value.Post,
+  below-measure inner-kinds.ps μ-inner inner.Pre t,
+  inner.Post,
   added-reads.Asked,
   added-reads.Learnt,
   after-item-reads.Asked,
@@ -91,8 +99,8 @@ object-calls t = (
   key-reads.Learnt,
   mark-reads.Asked,
   mark-reads.Learnt,
-  below-measure value-kinds.ps μ-value value.Pre t,
-  value.Post,
+  below-measure inner-kinds.ps μ-inner inner.Pre t,
+  inner.Post,
   member-reads.Asked,
   member-reads.Learnt,
   added-reads.Asked,
@@ -101,6 +109,16 @@ object-calls t = (
   after-item-reads.Learnt,
   closed-reads.Asked,
   closed-reads.Learnt,
+)
+
+abbrev inner-calls : ℕ → inner-lts.Claims
+inner-calls t = (
+  stands-reads.Asked,
+  stands-reads.Learnt,
+  string-reads.Asked,
+  string-reads.Learnt,
+  below-measure value-kinds.ps μ-value value.Pre t,
+  value.Post,
 )
 
 abbrev value-calls : ℕ → value-lts.Claims
@@ -147,14 +165,14 @@ array-loop-holds t c =
 abbrev array-entry : (t : ℕ) → In-array t array-lts.At-loop → In-array t array-lts.Start
 array-entry t l = l .before .before .before .before .before .before .before
 
-abbrev value-loop : (t : ℕ) → In-array t array-lts.After-value → In-array t array-lts.At-loop
+abbrev value-loop : (t : ℕ) → In-array t array-lts.After-inner → In-array t array-lts.At-loop
 value-loop t v = v .before .before .before
 
 abbrev told-loop : (t : ℕ) → In-array t array-lts.After-known-told → In-array t array-lts.At-loop
 told-loop t k = k .before .before .before .before .before .before .before .before .before .before
 
-array-value-requires : (t : ℕ) → In-array t array-lts.Need-value-requires
-array-value-requires t c κs =
+array-inner-requires : (t : ℕ) → In-array t array-lts.Need-inner-requires
+array-inner-requires t c κs =
     let l = c .before .before in
     let b = array-entry t l .pre in
     let p = l .loop .inv in (
@@ -168,11 +186,11 @@ array-value-requires t c κs =
     )
 
 -- both arrays of keys are as long as they were
-array-kept : (t : ℕ) (v : In-array t array-lts.After-value) → let a = array-entry t (value-loop t v) .args in
-    (length (v .value .last .1 .1 .1 .0) ≡ length (now (a .keys))) × (length (v .value .last .1 .1 .1 .1 .0) ≡ length (now (a .spare)))
+array-kept : (t : ℕ) (v : In-array t array-lts.After-inner) → let a = array-entry t (value-loop t v) .args in
+    (length (v .inner .last .1 .1 .1 .0) ≡ length (now (a .keys))) × (length (v .inner .last .1 .1 .1 .1 .0) ≡ length (now (a .spare)))
 array-kept t v =
     let p = value-loop t v .loop .inv in
-    (v .value .kept .1 .1 .1 .0 ∙ p .1, v .value .kept .1 .1 .1 .1 .0 ∙ p .2)
+    (v .inner .kept .1 .1 .1 .0 ∙ p .1, v .inner .kept .1 .1 .1 .1 .0 ∙ p .2)
 
 array-same-length : (t : ℕ) → In-array t array-lts.Need-same-length
 array-same-length t c = array-kept t (c .before .before .before .before .before .before .before) .0
@@ -183,7 +201,7 @@ array-same-length-2 t c = array-kept t (c .before .before .before .before .befor
 array-returns-2 : (t : ℕ) → In-array t array-lts.Need-returns-2
 array-returns-2 t c =
     let v = c .before .before .before .before .before .before .before in
-    arrays.stuck-element (value-loop t v .loop .inv .0) _ (rw (c .before .e .given .1) at (v .value .ensures))
+    arrays.stuck-element (value-loop t v .loop .inv .0) _ (rw (c .before .e .given .1) at (v .inner .ensures))
 
 -- the element that was read
 element : (t : ℕ) (c : In-array t array-lts.After-known-told) → let l = told-loop t c in let a = array-entry t l .args in
@@ -192,7 +210,7 @@ element t c =
     let l = told-loop t c in
     let a = array-entry t l .args in
     scans-value (now (a .s)) (read (a .depth) (drop (l .loop .i) (now (a .s)))) (c .before .f .given .0 .0)
-    (rw (c .before .f .given .1) at (c .before .before .before .before .before .before .before .value .ensures))
+    (rw (c .before .f .given .1) at (c .before .before .before .before .before .before .before .inner .ensures))
 
 array-added-requires : (t : ℕ) → In-array t array-lts.Need-added-requires
 array-added-requires t c κs =
@@ -292,7 +310,7 @@ object-entry t l = l .before .before .before .before .before .before .before
 abbrev name-loop : (t : ℕ) → In-object t object-lts.After-mark → In-object t object-lts.At-loop
 name-loop t m = m .before .before .before .before .before
 
-abbrev stored-loop : (t : ℕ) → In-object t object-lts.After-value → In-object t object-lts.At-loop
+abbrev stored-loop : (t : ℕ) → In-object t object-lts.After-inner → In-object t object-lts.At-loop
 stored-loop t v = v .before .before .before .before .before .before .before .before
 
 abbrev part-mark : (t : ℕ) → In-object t object-lts.After-known-told3 → In-object t object-lts.After-mark
@@ -338,17 +356,17 @@ object-slice-write-keys t c = free t c
 object-add-n : (t : ℕ) → In-object t object-lts.Need-add-n
 object-add-n t c = omega (arith, few-keys t (c .before .before .before .before .before))
 
-object-mul-value : (t : ℕ) → In-object t object-lts.Need-mul-value
-object-mul-value t c = omega (arith, few-keys t (c .before .before .before .before .before))
+object-mul-inner : (t : ℕ) → In-object t object-lts.Need-mul-inner
+object-mul-inner t c = omega (arith, few-keys t (c .before .before .before .before .before))
 
-object-sub-value : (t : ℕ) → In-object t object-lts.Need-sub-value
-object-sub-value t c = simp length-set (omega (arith, free t c))
+object-sub-inner : (t : ℕ) → In-object t object-lts.Need-sub-inner
+object-sub-inner t c = simp length-set (omega (arith, free t c))
 
-object-part-value-start : (t : ℕ) → In-object t object-lts.Need-part-value-start
-object-part-value-start t c = simp length-set (omega (arith, free t c))
+object-part-inner-start : (t : ℕ) → In-object t object-lts.Need-part-inner-start
+object-part-inner-start t c = simp length-set (omega (arith, free t c))
 
-object-value-requires : (t : ℕ) → In-object t object-lts.Need-value-requires
-object-value-requires t c κs =
+object-inner-requires : (t : ℕ) → In-object t object-lts.Need-inner-requires
+object-inner-requires t c κs =
     let m = c .before .before in
     let l = name-loop t m in
     let b = object-entry t l .pre in
@@ -364,30 +382,30 @@ object-value-requires t c κs =
     )
 
 -- the array of keys once the member's value was read
-abbrev keys-after : (t : ℕ) → In-object t object-lts.After-value → List ℕ
-keys-after t v = let l = stored-loop t v .loop in objects.withKey (l .keys) (l .n) (l .i) (v .value .last .1 .1 .1 .0)
+abbrev keys-after : (t : ℕ) → In-object t object-lts.After-inner → List ℕ
+keys-after t v = let l = stored-loop t v .loop in objects.withKey (l .keys) (l .n) (l .i) (v .inner .last .1 .1 .1 .0)
 
 -- both arrays of keys are as long as they were
-keys-kept : (t : ℕ) (v : In-object t object-lts.After-value) → length (keys-after t v) ≡ length (stored-loop t v .loop .keys)
+keys-kept : (t : ℕ) (v : In-object t object-lts.After-inner) → length (keys-after t v) ≡ length (stored-loop t v .loop .keys)
 keys-kept t v =
     let l = stored-loop t v .loop in
-    objects.stored-length (l .keys) (l .n) (l .i) (free t (v .before .before .before)) (v .value .last .1 .1 .1 .0) (v .value .kept .1 .1 .1 .0)
+    objects.stored-length (l .keys) (l .n) (l .i) (free t (v .before .before .before)) (v .inner .last .1 .1 .1 .0) (v .inner .kept .1 .1 .1 .0)
 
-object-kept : (t : ℕ) (v : In-object t object-lts.After-value) → let a = object-entry t (stored-loop t v) .args in
-    (length (keys-after t v) ≡ length (now (a .keys))) × (length (v .value .last .1 .1 .1 .1 .0) ≡ length (now (a .spare)))
+object-kept : (t : ℕ) (v : In-object t object-lts.After-inner) → let a = object-entry t (stored-loop t v) .args in
+    (length (keys-after t v) ≡ length (now (a .keys))) × (length (v .inner .last .1 .1 .1 .1 .0) ≡ length (now (a .spare)))
 object-kept t v =
     let p = stored-loop t v .loop .inv in
-    (keys-kept t v ∙ p .2, v .value .kept .1 .1 .1 .1 .0 ∙ p .3)
+    (keys-kept t v ∙ p .2, v .inner .kept .1 .1 .1 .1 .0 ∙ p .3)
 
 -- the keys so far are those before, and the member's
-keys-stored : (t : ℕ) (v : In-object t object-lts.After-value) → let l = stored-loop t v .loop in
+keys-stored : (t : ℕ) (v : In-object t object-lts.After-inner) → let l = stored-loop t v .loop in
     take (l .n + 1) (keys-after t v) ≡ take (l .n) (l .keys) ++ (l .i ∷ [])
 keys-stored t v =
     let l = stored-loop t v .loop in
-    objects.stored-keys (l .keys) (l .n) (l .i) (free t (v .before .before .before)) (v .value .last .1 .1 .1 .0) (v .value .kept .1 .1 .1 .0)
+    objects.stored-keys (l .keys) (l .n) (l .i) (free t (v .before .before .before)) (v .inner .last .1 .1 .1 .0) (v .inner .kept .1 .1 .1 .0)
 
 -- how many they are
-count-stored : (t : ℕ) (v : In-object t object-lts.After-value) → let l = stored-loop t v .loop in
+count-stored : (t : ℕ) (v : In-object t object-lts.After-inner) → let l = stored-loop t v .loop in
     length (take (l .n + 1) (keys-after t v)) ≡ l .n + 1
 count-stored t v =
     let l = stored-loop t v .loop in
@@ -402,7 +420,7 @@ object-same-length-4 t c = object-kept t (c .before .before .before .before .bef
 object-returns-3 : (t : ℕ) → In-object t object-lts.Need-returns-3
 object-returns-3 t c =
     let v = c .before .before .before .before .before .before .before in
-    (objects.stuck-value (stored-loop t v .loop .inv .0) (name t (v .before .before .before)) _ (rw (c .before .e2 .given .1) at (v .value .ensures)), tt)
+    (objects.stuck-value (stored-loop t v .loop .inv .0) (name t (v .before .before .before)) _ (rw (c .before .e2 .given .1) at (v .inner .ensures)), tt)
 
 -- the member's value that was read
 part : (t : ℕ) (c : In-object t object-lts.After-known-told3)
@@ -412,7 +430,7 @@ part t c =
     let m = part-mark t c in
     let a = object-entry t (name-loop t m) .args in
     scans-value (now (a .s)) (read (a .depth) (drop (m .before .before .end .given .0 .0) (now (a .s)))) (c .before .f .given .0 .0)
-    (rw (c .before .f .given .1) at (c .before .before .before .before .before .before .before .value .ensures))
+    (rw (c .before .f .given .1) at (c .before .before .before .before .before .before .before .inner .ensures))
 
 object-member-requires : (t : ℕ) → In-object t object-lts.Need-member-requires
 object-member-requires t c κs =
@@ -510,6 +528,25 @@ object-returns-5 t c =
     let w = rw (c .before .e3 .given .1) at (c .before .before .before .after-item .ensures) in
     (objects.sticks (name-loop t m .loop .inv .0) (name t m) (part t k) _ w, tt)
 
+-- a need or a place of `inner`, at the measure t
+abbrev In-inner : ℕ → (inner-lts.Claims → In 3 inner-kinds.ps → Out 3 inner-kinds.ps inner-kinds.r → Type 0) → Type 0
+In-inner t F = F (inner-calls t) (at-measure inner-kinds.ps μ-inner inner.Pre t) inner.Post
+
+inner-returns : (t : ℕ) → In-inner t inner-lts.Need-returns
+inner-returns t c =
+    let a = c .before .before .before .before .before .before .args in
+    let h = c .before .before .stands .ensures .0 (c .before .if1 .taken) in
+    let p = scalar-string (now (a .s)) (a .at) (h .0) (c .string .result) (h .1) (c .string .ensures) in
+    is-scalar (now (a .s)) (a .at) (a .depth) (c .string .result) p (h .0) (λ e. omega arith) (λ e. omega arith)
+
+inner-value-requires : (t : ℕ) → In-inner t inner-lts.Need-value-requires
+inner-value-requires t c κs =
+    let b = c .before .before .before .before .before .before .before .pre in
+    (omega (arith, b .0), b .1)
+
+inner-returns-2 : (t : ℕ) → In-inner t inner-lts.Need-returns-2
+inner-returns-2 t c = c .before .before .before .before .value .ensures
+
 -- a need or a place of `value`, at the measure t
 abbrev In-value : ℕ → (value-lts.Claims → In 3 value-kinds.ps → Out 3 value-kinds.ps value-kinds.r → Type 0) → Type 0
 In-value t F = F (value-calls t) (at-measure value-kinds.ps μ-value value.Pre t) value.Post
@@ -584,22 +621,24 @@ value-returns-3 t c =
     (λ w. at-end (now (a .s)) (a .at) (a .depth) (r .result) (r .ensures) (w .left)))
     (c .before .if1 .came)
 
-pub +array+object+value-spec : {M : Type 1} → statement M
-+array+object+value-spec =
-    close μ-array μ-object μ-value (λ t. array-lts.spec (array-calls t) (at-measure array-kinds.ps μ-array array.Pre t) array.Post array-Inv-loop
+pub +array+inner+object+value-spec : {M : Type 1} → statement M
++array+inner+object+value-spec =
+    close μ-array μ-inner μ-object μ-value (λ t. array-lts.spec (array-calls t) (at-measure array-kinds.ps μ-array array.Pre t) array.Post array-Inv-loop
     array-μ-loop (array-skip-spaces-requires t) (λ c κs. search needs) (array-add-plain t) (λ c κs. search needs) (array-returns t)
-    (array-loop-holds t) (array-value-requires t) (λ c. search needs) (λ c. search needs) (array-same-length t) (array-same-length-2 t)
+    (array-loop-holds t) (array-inner-requires t) (λ c. search needs) (λ c. search needs) (array-same-length t) (array-same-length-2 t)
     (array-returns-2 t) (array-added-requires t) (array-after-item-requires t) (λ c. search needs)
     (λ c. array-kept t (c .before .before .before .before .before .before .before .before .before .before .before .before .before) .0)
     (λ c. array-kept t (c .before .before .before .before .before .before .before .before .before .before .before .before .before) .1)
     (array-returns-3 t) (λ c. search needs) (array-loop-less t) (array-loop-again t) (λ c. search needs)
     (λ c. array-kept t (c .before .before .before .before .before .before .before .before .before .before .before .before .before) .0)
     (λ c. array-kept t (c .before .before .before .before .before .before .before .before .before .before .before .before .before) .1)
-    (array-returns-4 t)) (λ t. object-lts.spec (object-calls t) (at-measure object-kinds.ps μ-object object.Pre t) object.Post object-Inv-loop
+    (array-returns-4 t)) (λ t. inner-lts.spec (inner-calls t) (at-measure inner-kinds.ps μ-inner inner.Pre t) inner.Post (λ c κs. search needs)
+    (λ c κs. search needs) (inner-returns t) (inner-value-requires t) (λ c. search needs) (λ c. search needs) (inner-returns-2 t))
+    (λ t. object-lts.spec (object-calls t) (at-measure object-kinds.ps μ-object object.Pre t) object.Post object-Inv-loop
     object-μ-loop (object-skip-spaces-requires t) (λ c κs. search needs) (object-add-plain t) (λ c κs. search needs) (object-returns t)
     (object-loop-holds t) (object-key-requires t) (λ c. search needs) (object-mark-requires t) (λ c. search needs) (object-same-length t)
     (object-same-length-2 t) (object-returns-2 t) (object-cast-keys t) (object-mul-keys t) (object-slice-write-keys t) (object-add-n t)
-    (object-mul-value t) (object-sub-value t) (object-part-value-start t) (λ c. search needs) (object-value-requires t) (λ c. search needs)
+    (object-mul-inner t) (object-sub-inner t) (object-part-inner-start t) (λ c. search needs) (object-inner-requires t) (λ c. search needs)
     (λ c. search needs) (object-same-length-3 t) (object-same-length-4 t) (object-returns-3 t) (object-member-requires t) (object-added-requires t)
     (object-after-item-requires t) (λ c. search needs) (object-slice-relend-prefix-closed t) (object-slice-aggregate-closed t)
     (object-closed-requires t) (object-same-length-5 t) (object-same-length-6 t) (object-returns-4 t) (λ c. search needs) (object-loop-less t)
