@@ -41,3 +41,7 @@ pub record Storable (a : Algorithm) (signer digest text buffer : List ℕ) (used
   pub short : length text ≤ 16384
   pub digests : Digests a signer digest
   pub fits : Fits (imageWith a signer digest text) buffer used
+
+-- the record of the image with that algorithm, those digests and that text is put after the first `used` bytes
+abbrev pub PutsRecord : Algorithm → List ℕ → List ℕ → List ℕ → ℕ → List ℕ → List ℕ → Type 0
+PutsRecord a signer digest text used before after = after ≡ appended before used (recordOf (imageWith a signer digest text))

@@ -1,9 +1,8 @@
 // Whether an image's record can be appended to a store, and appending it.
 use reference_digests::algorithm::Algorithm;
-ghost use mathlib.Core.Path.{_≡_};
 ghost use Prim.Native.Nat.{_+_, _≤_};
-ghost use Rattle.store_record.specs.Record.{headSize, recordOf};
-ghost use Rattle.store_append.specs.Append.{appended, imageWith, NumberLeft, Storable};
+ghost use Rattle.store_record.specs.Record.{headSize};
+ghost use Rattle.store_append.specs.Append.{NumberLeft, Storable, PutsRecord};
 
 // Questions 13 and 14, once 11 and 12 do not apply: whether the image clashes is known, and how many images there are.
 pub fn number_left(a: Algorithm, size: usize, count: usize, left: usize, clashing: bool) -> usize
@@ -32,8 +31,7 @@ pub fn put_record(
     used: usize,
 )
     requires { ⌜ Storable a (now signer) (now digest) (now text) (now store) used ⌝ }
-    ensures { λ _. ⌜ now (store .exit)
-        ≡ appended (now (store .entry)) used (recordOf (imageWith a (now (signer .entry)) (now (digest .entry)) (now (text .entry)))) ⌝ }
+    ensures { λ _. ⌜ PutsRecord a (now (signer .entry)) (now (digest .entry)) (now (text .entry)) used (now (store .entry)) (now (store .exit)) ⌝ }
 {
     write_record(a, signer, digest, text, store, used);
 }
@@ -48,8 +46,7 @@ fn write_record(
     used: usize,
 )
     requires { ⌜ Storable a (now signer) (now digest) (now text) (now store) used ⌝ }
-    ensures { λ _. ⌜ now (store .exit)
-        ≡ appended (now (store .entry)) used (recordOf (imageWith a (now (signer .entry)) (now (digest .entry)) (now (text .entry)))) ⌝ }
+    ensures { λ _. ⌜ PutsRecord a (now (signer .entry)) (now (digest .entry)) (now (text .entry)) used (now (store .entry)) (now (store .exit)) ⌝ }
 {
     let head = store_write::write_head(a, signer, digest, text.len(), &mut store[used..]);
     let at = used + head;
