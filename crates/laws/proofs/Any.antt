@@ -29,7 +29,7 @@ module _ {A : Type 0} (p : A → Bool) where
 
 module _ {A : Type 0} (p : A → Bool) where
   -- Where no element passes a test, an element does not.
-  pub none_passes : {xs : List A} {a : A} → any_of p xs ≡ false → In a xs → p a ≡ false
+  pub none_passes : {a : A} {xs : List A} → any_of p xs ≡ false → In a xs → p a ≡ false
   unfolding any_of
   none_passes e (In.head {x = x} {xs = xs} q) = ap p q ∙ (or_none (p x) (any_of p xs) e).0
   none_passes e (In.tail {x = x} {xs = xs} m) = none_passes (or_none (p x) (any_of p xs) e).1 m
@@ -81,7 +81,7 @@ module _ {A : Type 0} where
   any_or p q (x ∷ xs) = ap (λ (b : Bool). (p x || q x) || b) (any_or p q xs) ∙ or_crossed (p x) (q x) (any_of p xs) (any_of q xs)
 
   -- A test that an element of the list passes is passed by some element.
-  pub in_any : (p : A → Bool) {xs : List A} {a : A} → In a xs → p a ≡ true → any_of p xs ≡ true
+  pub in_any : (p : A → Bool) {a : A} {xs : List A} → In a xs → p a ≡ true → any_of p xs ≡ true
   unfolding any_of
   in_any p (In.head {x = x} {xs = xs} e) h = ap (λ (b : Bool). b || any_of p xs) (ap p (sym e) ∙ h)
   in_any p (In.tail {x = x} m) h = ap (λ (b : Bool). p x || b) (in_any p m h) ∙ or-true (p x)

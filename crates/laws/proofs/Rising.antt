@@ -59,7 +59,7 @@ module _ {A : Type 0} (le : A → A → Bool) where
       first_least : {x : A} {xs : List A} → Rising le (x ∷ xs) → (j : ℕ) → j < length (x ∷ xs) → le x (get_or (x ∷ xs) j d) ≡ true
       first_least {x} r zero h = by_test (le x x) (λ e. e) (o.total x x)
       first_least rising_one (suc j) h = absurd (omega arith)
-      first_least {x} (rising_more {y = y} {ys = ys} e r) (suc j) h = o.trans x y (get_or (y ∷ ys) j d) e (first_least r j (omega arith))
+      first_least {x} (rising_more {y = y} {ys = ys} e r) (suc j) h = o.trans x y (get_or (y ∷ ys) j d) e (first_least {x = y} r j (omega arith))
 
       -- The element at an earlier place does not come after the one at a later place.
       pub rising_at : {xs : List A} → Rising le xs → (i j : ℕ) → i ≤ j → j < length xs → le (get_or xs i d) (get_or xs j d) ≡ true

@@ -25,11 +25,11 @@ ends_same : {p s : List ℕ} → s ≡ p → Ends p s
 ends_same {s = s} e = subst (λ (q : List ℕ). Ends q s) e all
 
 scalar_places : {s r p : List ℕ} {t u : Syntax} → Scalar s t r → Within u t → Begins p u → Ends p s
-scalar_places (Scalar.is-null q) itself b = absurd b
+scalar_places (Scalar.is_null q) itself b = absurd b
 scalar_places (Scalar.is_true q) itself b = absurd b
 scalar_places (Scalar.is_false q) itself b = absurd b
-scalar_places (Scalar.is_number q) itself b = ends_same b
-scalar_places (Scalar.is-string q) itself b = ends_same b
+scalar_places (Scalar.is_a_number q) itself b = ends_same b
+scalar_places (Scalar.is_a_string q) itself b = ends_same b
 
 module _ {Inner : List ℕ → Syntax → List ℕ → Type 0} (inner_ends : (s : List ℕ) (t : Syntax) (r : List ℕ) → Inner s t r → Ends r s)
     (inner_places : (s : List ℕ) (t : Syntax) (r : List ℕ) → Inner s t r → (p : List ℕ) (u : Syntax) → Within u t → Begins p u → Ends p s) where
@@ -75,11 +75,11 @@ module _ {Inner : List ℕ → Syntax → List ℕ → Type 0} (inner_ends : (s 
   listed_keys (Listed.items q k) l = ends_trans (keys_places k l) (space_ends q)
 
   nested_places : (s : List ℕ) (t : Syntax) (r : List ℕ) → Nested Inner s t r → (p : List ℕ) (u : Syntax) → Within u t → Begins p u → Ends p s
-  nested_places s t r (Nested.is-scalar q) p u w b = scalar_places q w b
-  nested_places s t r (Nested.is-array e q) p u itself b = absurd b
-  nested_places s t r (Nested.is-array e q) p u (in_array w) b = after (listed_elements q w b)
-  nested_places s t r (Nested.is-object e q) p u itself b = after (listed_keys q b.1)
-  nested_places s t r (Nested.is-object e q) p u (in_object w) b = after (listed_members q w b)
+  nested_places s t r (Nested.is_scalar q) p u w b = scalar_places q w b
+  nested_places s t r (Nested.is_an_array e q) p u itself b = absurd b
+  nested_places s t r (Nested.is_an_array e q) p u (in_array w) b = after (listed_elements q w b)
+  nested_places s t r (Nested.is_an_object e q) p u itself b = after (listed_keys q b.1)
+  nested_places s t r (Nested.is_an_object e q) p u (in_object w) b = after (listed_members q w b)
 
 value_places : (d : ℕ) (s : List ℕ) (t : Syntax) (r : List ℕ) → Value d s t r → (p : List ℕ) (u : Syntax) → Within u t → Begins p u → Ends p s
 value_places zero s t r q p u w b = scalar_places q w b
@@ -103,11 +103,11 @@ string_quoted : {s r : List ℕ} {cs : List Char} → String s cs r → starts (
 string_quoted (String.quoted {q} e c) = eq-eqb 0x22 q (sym e)
 
 scalar_quoted : (p : List ℕ) {s r : List ℕ} {t u : Syntax} → Scalar s t r → Within u t → Begins p u → Quoted p u
-scalar_quoted p (Scalar.is-null q) itself b = tt
+scalar_quoted p (Scalar.is_null q) itself b = tt
 scalar_quoted p (Scalar.is_true q) itself b = tt
 scalar_quoted p (Scalar.is_false q) itself b = tt
-scalar_quoted p (Scalar.is_number q) itself b = tt
-scalar_quoted p (Scalar.is-string q) itself b = subst (λ (p : List ℕ). starts (eqb 0x22) p ≡ true) b (string_quoted q)
+scalar_quoted p (Scalar.is_a_number q) itself b = tt
+scalar_quoted p (Scalar.is_a_string q) itself b = subst (λ (p : List ℕ). starts (eqb 0x22) p ≡ true) b (string_quoted q)
 
 module _ {Inner : List ℕ → Syntax → List ℕ → Type 0}
     (inner_quoted : (s : List ℕ) (t : Syntax) (r : List ℕ) → Inner s t r → (p : List ℕ) (u : Syntax) → Within u t → Begins p u → Quoted p u) where
@@ -154,11 +154,11 @@ module _ {Inner : List ℕ → Syntax → List ℕ → Type 0}
   listed_keys_quoted (Listed.items q k) l = keys_quoted k l
 
   nested_quoted : (s : List ℕ) (t : Syntax) (r : List ℕ) → Nested Inner s t r → (p : List ℕ) (u : Syntax) → Within u t → Begins p u → Quoted p u
-  nested_quoted s t r (Nested.is-scalar q) p u w b = scalar_quoted p q w b
-  nested_quoted s t r (Nested.is-array e q) p u itself b = tt
-  nested_quoted s t r (Nested.is-array e q) p u (in_array w) b = listed_elements_quoted p q w b
-  nested_quoted s t r (Nested.is-object e q) p u itself b = listed_keys_quoted q b.1
-  nested_quoted s t r (Nested.is-object e q) p u (in_object w) b = listed_members_quoted p q w b
+  nested_quoted s t r (Nested.is_scalar q) p u w b = scalar_quoted p q w b
+  nested_quoted s t r (Nested.is_an_array e q) p u itself b = tt
+  nested_quoted s t r (Nested.is_an_array e q) p u (in_array w) b = listed_elements_quoted p q w b
+  nested_quoted s t r (Nested.is_an_object e q) p u itself b = listed_keys_quoted q b.1
+  nested_quoted s t r (Nested.is_an_object e q) p u (in_object w) b = listed_members_quoted p q w b
 
 value_quoted : (d : ℕ) (s : List ℕ) (t : Syntax) (r : List ℕ) → Value d s t r → (p : List ℕ) (u : Syntax) → Within u t → Begins p u → Quoted p u
 value_quoted zero s t r q p u w b = scalar_quoted p q w b

@@ -22,7 +22,7 @@ use Rattle.text_canonical.proofs.Forms.{count}
 module _ (s : List ℕ) (p depth : ℕ) (k : List ℕ) (v : Value) (m : MemberAt s p depth k v) where
   -- From the position after the opening quotation mark on, a string has the content of the member's key.
   pub member_key : InString s (p + 1) k
-  member_key = rw (← m.key) (Strings.member-key s p depth m.tree m.rest m.derives).1
+  member_key = rw (← m.key) (Strings.member_key s p depth m.tree m.rest m.derives).1
 
   -- The content that is read from that position on is the member's key.
   pub member_content : content_from s (p + 1) ≡ k
@@ -51,8 +51,8 @@ members_insert s depth p k v m (member_at {p = q} {ks = ks} {k = j} {v = w} {fs 
         → MembersAt s depth (insert (key_le s) p (q ∷ ks)) (insert_field k (sorted v) (field j (sorted w) fs))
     go ih =
         by_test (leq k j)
-        (λ e. rw (Sort.insert-before (key_le s) p q ks (same true e), Same.insert-before k j (sorted v) (sorted w) fs e) (member_at m (member_at n h)))
-        (λ e. rw (Sort.insert-after (key_le s) p q ks (same false e), Same.insert-after k j (sorted v) (sorted w) fs e) (member_at n ih))
+        (λ e. rw (Sort.insert_before (key_le s) p q ks (same true e), Same.insert_before k j (sorted v) (sorted w) fs e) (member_at m (member_at n h)))
+        (λ e. rw (Sort.insert_after (key_le s) p q ks (same false e), Same.insert_after k j (sorted v) (sorted w) fs e) (member_at n ih))
 
 -- one member more, before the others in the text
 pub members_sort : (s : List ℕ) (depth p : ℕ) (k : List ℕ) (v : Value) (ks : List ℕ) (fs : Fields) → MemberAt s p depth k v

@@ -57,8 +57,8 @@ digits_split Digits.end = refl
 digits_split (Digits.more {b} e k) = ap (λ (l : List ℕ). b ∷ l) (digits_split k)
 
 int_split : {l ds r : List ℕ} → Int l ds r → l ≡ ds ++ r
-int_split (Int.lone-zero e) = refl
-int_split (Int.from-nonzero {b} e f k) = ap (λ (l : List ℕ). b ∷ l) (digits_split k)
+int_split (Int.lone_zero e) = refl
+int_split (Int.from_nonzero {b} e f k) = ap (λ (l : List ℕ). b ∷ l) (digits_split k)
 
 module _ (s : List ℕ) (at e v : ℕ) where
   -- by the test for a minus sign
@@ -122,11 +122,11 @@ module _ (s : List ℕ) (at d : ℕ) (v : Value) (p : ValueAt s at d v) where
 
   -- The position after the first byte of a value of the kind string stands in a string.
   pub string_inside : String ≡ kind_of v → Inside s (at + 1)
-  string_inside k = let c = Values.string-value v k in record { bytes = c.0; here = (Strings.string-value s at c.0 d (subst (ValueAt s at d) c.1 p)).1 }
+  string_inside k = let c = Values.string_value v k in record { bytes = c.0; here = (Strings.string_value s at c.0 d (subst (ValueAt s at d) c.1 p)).1 }
 
   -- The canonical form of a string is the content that is read after its quotation mark, quoted.
   pub string_bytes : String ≡ kind_of v → canonical v ≡ quoted (content_from s (at + 1))
   string_bytes k =
-      let c = Values.string-value v k in
-      let here = (Strings.string-value s at c.0 d (subst (ValueAt s at d) c.1 p)).1 in
+      let c = Values.string_value v k in
+      let here = (Strings.string_value s at c.0 d (subst (ValueAt s at d) c.1 p)).1 in
       ap canonical c.1 ∙ string_form c.0 ∙ ap quoted (sym (content_from_is s (at + 1) c.0 here))

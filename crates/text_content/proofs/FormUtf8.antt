@@ -163,11 +163,11 @@ Kept x r = x × (utf8 r ≡ true)
 
 scalar_utf8 : {s r : List ℕ} {t : Syntax} → Scalar s t r → utf8 s ≡ true → string_fault t ≡ 0 → Kept (Utf8Value (content t)) r
 unfolding content string_fault
-scalar_utf8 (Scalar.is-null h) w f = (utf8_null, word_utf8 (omega arith) h w)
+scalar_utf8 (Scalar.is_null h) w f = (utf8_null, word_utf8 (omega arith) h w)
 scalar_utf8 (Scalar.is_true h) w f = (utf8_boolean, word_utf8 (omega arith) h w)
 scalar_utf8 (Scalar.is_false h) w f = (utf8_boolean, word_utf8 (omega arith) h w)
-scalar_utf8 (Scalar.is_number h) w f = let t = number_utf8 h w in (utf8_number t.0, t.1)
-scalar_utf8 (Scalar.is-string h) w f = let t = named_utf8 h w f in (utf8_string t.0, t.1)
+scalar_utf8 (Scalar.is_a_number h) w f = let t = number_utf8 h w in (utf8_number t.0, t.1)
+scalar_utf8 (Scalar.is_a_string h) w f = let t = named_utf8 h w f in (utf8_string t.0, t.1)
 
 -- a mark with the spaces before it, and those after it
 before_mark : {m : ℕ} {s s₁ r : List ℕ} → m < 0x80 → Space s s₁ → Word (m ∷ []) s₁ r → utf8 s ≡ true → utf8 r ≡ true
@@ -225,11 +225,11 @@ pub content_utf8 : (d : ℕ) (s : List ℕ) (t : Syntax) (r : List ℕ) → Gram
     → Kept (Utf8Value (content t)) r
 unfolding content string_fault
 content_utf8 zero s t r h w f = scalar_utf8 h w f
-content_utf8 (suc d) s t r (Nested.is-scalar h) w f = scalar_utf8 h w f
-content_utf8 (suc d) _ _ r (Nested.is-array {b = b} {s = s} e h) w f =
+content_utf8 (suc d) s t r (Nested.is_scalar h) w f = scalar_utf8 h w f
+content_utf8 (suc d) _ _ r (Nested.is_an_array {b = b} {s = s} e h) w f =
     let a = listed_utf8 (Grammar.Value d) (content_utf8 d) (omega arith) h (mark_utf8 b 0x5B s e (omega arith) w) f in
     (utf8_array a.0, a.1)
-content_utf8 (suc d) _ _ r (Nested.is-object {b = b} {s = s} e h) w f =
+content_utf8 (suc d) _ _ r (Nested.is_an_object {b = b} {s = s} e h) w f =
     let a = members_utf8 (Grammar.Value d) (content_utf8 d) (omega arith) h (mark_utf8 b 0x7B s e (omega arith) w) f in
     (utf8_object a.0, a.1)
 

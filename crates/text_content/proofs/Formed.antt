@@ -45,8 +45,8 @@ digits_again (Digits.more e h) q = Digits.more e (digits_again h q)
 
 -- The digits of a number's int are an int of the grammar again, whatever follows them.
 pub int_again : {s ds r : List ℕ} → Int s ds r → (q : List ℕ) → Int (ds ++ q) ds q
-int_again (Int.lone-zero e) q = Int.lone-zero e
-int_again (Int.from-nonzero e n h) q = Int.from-nonzero e n (digits_again h q)
+int_again (Int.lone_zero e) q = Int.lone_zero e
+int_again (Int.from_nonzero e n h) q = Int.from_nonzero e n (digits_again h q)
 
 int_alone : {s ds r : List ℕ} → Int s ds r → Int ds ds []
 int_alone {ds = ds} h = subst (λ (s : List ℕ). Int s ds []) (append-nil ds) (int_again h [])
@@ -55,16 +55,16 @@ unsigned_int : {negative : Bool} {s r : List ℕ} {n : Numeral} → Unsigned neg
 unsigned_int (Unsigned.unsigned i f e) = int_alone i
 
 unsigned_place : {negative : Bool} {s r : List ℕ} {n : Numeral} → Unsigned negative s n r → Place s
-unsigned_place (Unsigned.unsigned (Int.lone-zero e) f g) = before
-unsigned_place (Unsigned.unsigned (Int.from-nonzero e n h) f g) = before
+unsigned_place (Unsigned.unsigned (Int.lone_zero e) f g) = before
+unsigned_place (Unsigned.unsigned (Int.from_nonzero e n h) f g) = before
 
 formed_scalar : (d : ℕ) {s r : List ℕ} {t : Syntax} → Scalar s t r → Formed d t
-formed_scalar d (Scalar.is-null h) = formed_null
+formed_scalar d (Scalar.is_null h) = formed_null
 formed_scalar d (Scalar.is_true h) = formed_boolean
 formed_scalar d (Scalar.is_false h) = formed_boolean
-formed_scalar d (Scalar.is_number (Number.plain h)) = formed_number (unsigned_place h) (unsigned_int h)
-formed_scalar d (Scalar.is_number (Number.minus e h)) = formed_number before (unsigned_int h)
-formed_scalar d (Scalar.is-string (String.quoted e h)) = formed_string before
+formed_scalar d (Scalar.is_a_number (Number.plain h)) = formed_number (unsigned_place h) (unsigned_int h)
+formed_scalar d (Scalar.is_a_number (Number.minus e h)) = formed_number before (unsigned_int h)
+formed_scalar d (Scalar.is_a_string (String.quoted e h)) = formed_string before
 
 module _ (d : ℕ) (Value : List ℕ → Syntax → List ℕ → Type 0) (formed : (s : List ℕ) (t : Syntax) (r : List ℕ) → Value s t r → Formed d t) where
   formed_items : {m : ℕ} {s r : List ℕ} {ts : List Syntax} → Items Value m s ts r → FormedElements d (elements ts)
@@ -93,6 +93,6 @@ module _ (d : ℕ) (Value : List ℕ → Syntax → List ℕ → Type 0) (formed
 -- The tree of a value of the grammar is at most `d` deep, its digits are ints, and its places are not the text's end.
 pub formed : (d : ℕ) (s : List ℕ) (t : Syntax) (r : List ℕ) → Grammar.Value d s t r → Formed d t
 formed zero s t r h = formed_scalar zero h
-formed (suc d) s t r (Nested.is-scalar h) = formed_scalar (suc d) h
-formed (suc d) s t r (Nested.is-array e h) = formed_array (formed_listed d (Grammar.Value d) (formed d) h)
-formed (suc d) s t r (Nested.is-object e h) = formed_object (formed_members d (Grammar.Value d) (formed d) h)
+formed (suc d) s t r (Nested.is_scalar h) = formed_scalar (suc d) h
+formed (suc d) s t r (Nested.is_an_array e h) = formed_array (formed_listed d (Grammar.Value d) (formed d) h)
+formed (suc d) s t r (Nested.is_an_object e h) = formed_object (formed_members d (Grammar.Value d) (formed d) h)

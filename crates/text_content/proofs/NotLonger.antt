@@ -38,8 +38,8 @@ some_digits_length (SomeDigits.digits e h) = omega (arith, digits_length h)
 
 -- An int takes as many bytes of the text as it has digits.
 pub int_length : {s ds r : List ℕ} → Int s ds r → length ds + length r ≡ length s
-int_length (Int.lone-zero e) = omega arith
-int_length (Int.from-nonzero e n h) = omega (arith, digits_length h)
+int_length (Int.lone_zero e) = omega arith
+int_length (Int.from_nonzero e n h) = omega (arith, digits_length h)
 
 -- What follows a fraction, or none, is no longer than the text with it.
 pub frac_length : {s r : List ℕ} {f : Bool} → Frac s f r → length r ≤ length s
@@ -179,11 +179,11 @@ string_length (String.quoted {cs = cs} e h) = simp length-append (omega (arith, 
 
 scalar_length : {s r : List ℕ} {t : Syntax} → Scalar s t r → size_of t + length r ≤ length s
 unfolding size_of
-scalar_length (Scalar.is-null h) = omega (arith, word_length h)
+scalar_length (Scalar.is_null h) = omega (arith, word_length h)
 scalar_length (Scalar.is_true h) = omega (arith, word_length h)
 scalar_length (Scalar.is_false h) = omega (arith, word_length h)
-scalar_length (Scalar.is_number h) = number_length h
-scalar_length (Scalar.is-string h) = string_length h
+scalar_length (Scalar.is_a_number h) = number_length h
+scalar_length (Scalar.is_a_string h) = string_length h
 
 -- the items of a list, each with the mark after it
 unfoldable pub total_size : {A : Type 0} → (A → ℕ) → List A → ℕ
@@ -229,9 +229,9 @@ pair_length Value fits s m r (Pair.pair k g w g' v) = omega (arith, string_lengt
 pub value_length : (d : ℕ) (s : List ℕ) (t : Syntax) (r : List ℕ) → Grammar.Value d s t r → size_of t + length r ≤ length s
 unfolding size_of
 value_length zero s t r h = scalar_length h
-value_length (suc d) s t r (Nested.is-scalar h) = scalar_length h
-value_length (suc d) s t r (Nested.is-array {ts = ts} e h) = rw (elements_size ts) (listed_length (Grammar.Value d) size_of (value_length d) h)
-value_length (suc d) s t r (Nested.is-object {ms = ms} e h) =
+value_length (suc d) s t r (Nested.is_scalar h) = scalar_length h
+value_length (suc d) s t r (Nested.is_an_array {ts = ts} e h) = rw (elements_size ts) (listed_length (Grammar.Value d) size_of (value_length d) h)
+value_length (suc d) s t r (Nested.is_an_object {ms = ms} e h) =
     rw (members_size ms) (listed_length (Pair (Grammar.Value d)) member_size (pair_length (Grammar.Value d) (value_length d)) h)
 
 -- A value takes at least as many bytes of the text as its canonical form has.

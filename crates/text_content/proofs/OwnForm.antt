@@ -53,8 +53,8 @@ digits_are Digits.end = refl
 digits_are (Digits.more {b = b} e h) = ap (λ (l : List ℕ). b ∷ l) (digits_are h)
 
 int_is : {s ds r : List ℕ} → Int s ds r → s ≡ ds ++ r
-int_is (Int.lone-zero e) = refl
-int_is (Int.from-nonzero {b = b} e n h) = ap (λ (l : List ℕ). b ∷ l) (digits_are h)
+int_is (Int.lone_zero e) = refl
+int_is (Int.from_nonzero {b = b} e n h) = ap (λ (l : List ℕ). b ∷ l) (digits_are h)
 
 unsigned_is : {negative : Bool} {s r : List ℕ} {n : Numeral} → Unsigned negative s n r → length n.digits + length r ≡ length s → s ≡ n.digits ++ r
 unsigned_is (Unsigned.unsigned {ds = ds} i f e) q =
@@ -114,11 +114,11 @@ string_is {r = r} (String.quoted {s = s} {cs = cs} e h) q =
 
 scalar_is : {s r : List ℕ} {t : Syntax} → Scalar s t r → size_of t + length r ≡ length s → s ≡ write (content t) ++ r
 unfolding size_of write content
-scalar_is (Scalar.is-null h) q = word_is h
+scalar_is (Scalar.is_null h) q = word_is h
 scalar_is (Scalar.is_true h) q = word_is h
 scalar_is (Scalar.is_false h) q = word_is h
-scalar_is (Scalar.is_number h) q = number_is h q
-scalar_is (Scalar.is-string h) q = string_is h q
+scalar_is (Scalar.is_a_number h) q = number_is h q
+scalar_is (Scalar.is_a_string h) q = string_is h q
 
 -- items written one after the other, with a comma between each two; `first` says whether nothing stands before
 joined : {A : Type 0} → (A → List ℕ) → Bool → List A → List ℕ
@@ -198,11 +198,11 @@ members_are first (m ∷ ms) =
 value_is : (d : ℕ) (s : List ℕ) (t : Syntax) (r : List ℕ) → Grammar.Value d s t r → size_of t + length r ≡ length s → s ≡ write (content t) ++ r
 unfolding size_of write content
 value_is zero s t r h q = scalar_is h q
-value_is (suc d) s t r (Nested.is-scalar h) q = scalar_is h q
-value_is (suc d) s t r (Nested.is-array {ts = ts} e h) q =
+value_is (suc d) s t r (Nested.is_scalar h) q = scalar_is h q
+value_is (suc d) s t r (Nested.is_an_array {ts = ts} e h) q =
     let p = listed_is (Grammar.Value d) size_of (value_length d) (λ t. write (content t)) (value_is d) h (rw (elements_size ts) at q) in
     λ i. e i ∷ (p ∙ sym (ap (λ (l : List ℕ). l ++ (0x5D ∷ []) ++ r) (elements_are true ts))) i
-value_is (suc d) s t r (Nested.is-object {ms = ms} e h) q =
+value_is (suc d) s t r (Nested.is_an_object {ms = ms} e h) q =
     let fits = pair_length (Grammar.Value d) (value_length d) in
     let is = pair_is (Grammar.Value d) (value_length d) (value_is d) in
     let p = listed_is (Pair (Grammar.Value d)) member_size fits member_form is h (rw (members_size ms) at q) in

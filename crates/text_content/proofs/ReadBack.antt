@@ -119,7 +119,7 @@ pub record Reads (d : ℕ) (s : List ℕ) (v : Value) (r : List ℕ) : Type 0 wh
 -- a scalar is a value at every depth
 scalar_value : (d : ℕ) {s r : List ℕ} {t : Syntax} → Scalar s t r → Grammar.Value d s t r
 scalar_value zero h = h
-scalar_value (suc d) h = Nested.is-scalar h
+scalar_value (suc d) h = Nested.is_scalar h
 
 -- the chars of a string in canonical form are its bytes
 bytes : List ℕ → List Char
@@ -272,11 +272,11 @@ reads_as d t h m c n = record { tree = t; reads = h; means = m; strings = c; num
 array_reads : {d : ℕ} {vs : Values} → ReadsBack d vs → (r : List ℕ) → Reads (suc d) (write (array vs) ++ r) (array vs) r
 unfolding content string_fault number_fault elements
 array_reads {d} none r = unfold write in
-    reads_as (suc d) (Syntax.array (elements [])) (Nested.is-array refl (Listed.empty Space.end (Word.more refl Word.end))) refl refl (λ x. refl)
+    reads_as (suc d) (Syntax.array (elements [])) (Nested.is_an_array refl (Listed.empty Space.end (Word.more refl Word.end))) refl refl (λ x. refl)
 array_reads {d} (more v {vs = vs} first h) r =
     let rest = values_read h v first r in
     rw (written_array v vs r)
-    (reads_as (suc d) (Syntax.array (elements rest.trees)) (Nested.is-array refl (Listed.items Space.end rest.reads)) (ap array rest.means)
+    (reads_as (suc d) (Syntax.array (elements rest.trees)) (Nested.is_an_array refl (Listed.items Space.end rest.reads)) (ap array rest.means)
     rest.strings (λ x. rest.numbers (range_of_array x)))
 
 pair_read : {d : ℕ} (k : List ℕ) (v : Value) (r : List ℕ) → any_control k ≡ false → (f : Reads d (write v ++ r) v r)
@@ -311,11 +311,11 @@ fields_read (more j c' w {fs = fs} second h) k c v first r =
 object_reads : {d : ℕ} {fs : Fields} → ReadableFields d fs → (r : List ℕ) → Reads (suc d) (write (object fs) ++ r) (object fs) r
 unfolding content string_fault number_fault members
 object_reads {d} none r = unfold write in
-    reads_as (suc d) (Syntax.object (members [])) (Nested.is-object refl (Listed.empty Space.end (Word.more refl Word.end))) refl refl (λ x. refl)
+    reads_as (suc d) (Syntax.object (members [])) (Nested.is_an_object refl (Listed.empty Space.end (Word.more refl Word.end))) refl refl (λ x. refl)
 object_reads {d} (more k c v {fs = fs} first h) r =
     let rest = fields_read h k c v first r in
     rw (written_object k v fs r)
-    (reads_as (suc d) (Syntax.object (members rest.pairs)) (Nested.is-object refl (Listed.items Space.end rest.reads)) (ap object rest.means)
+    (reads_as (suc d) (Syntax.object (members rest.pairs)) (Nested.is_an_object refl (Listed.items Space.end rest.reads)) (ap object rest.means)
     rest.strings (λ x. rest.numbers (range_of_object x)))
 
 scalar_reads : (d : ℕ) {s r : List ℕ} (t : Syntax) {v : Value} → Scalar s t r → content t ≡ v
@@ -330,13 +330,13 @@ boolean_reads d false r = scalar_reads d (Syntax.boolean false) (Scalar.is_false
 number_reads : (d : ℕ) (n : Bool) (ds r : List ℕ) → Int ds ds [] → Reads d (write (number n ds) ++ r) (number n ds) r
 unfolding write content string_fault number_fault mark
 number_reads d n ds r i =
-    scalar_reads d (Syntax.number (signed n ds ++ r) (record { negative = n; digits = ds; whole = true })) (Scalar.is_number (signed_number n ds r i)) refl refl
+    scalar_reads d (Syntax.number (signed n ds ++ r) (record { negative = n; digits = ds; whole = true })) (Scalar.is_a_number (signed_number n ds r i)) refl refl
     (λ x. rw (range_of_number x, mark))
 
 string_reads : (d : ℕ) (s r : List ℕ) → any_control s ≡ false → Reads d (write (string s) ++ r) (string s) r
 unfolding write content string_fault number_fault
 string_reads d s r c =
-    scalar_reads d (Syntax.string (quoted s ++ r) (bytes s)) (Scalar.is-string (quoted_string s r c)) (ap string (unescape_bytes s))
+    scalar_reads d (Syntax.string (quoted s ++ r) (bytes s)) (Scalar.is_a_string (quoted_string s r c)) (ap string (unescape_bytes s))
     (bytes_accepted s (quoted s ++ r) c) (λ x. refl)
 
 mutual
@@ -344,7 +344,7 @@ mutual
 
   -- A content that has a text is read as a value with that content and without a string fault where it is written, whatever follows.
   pub write_reads : {d : ℕ} {v : Value} → Plain d v → (r : List ℕ) → Reads d (write v ++ r) v r
-  write_reads (plain_null {d = d}) r = scalar_reads d Syntax.null (Scalar.is-null (word _ r)) refl refl (λ x. refl)
+  write_reads (plain_null {d = d}) r = scalar_reads d Syntax.null (Scalar.is_null (word _ r)) refl refl (λ x. refl)
   write_reads (plain_boolean {d = d} {b = b}) r = boolean_reads d b r
   write_reads (plain_number {d = d} {n = n} {ds = ds} i) r = number_reads d n ds r i
   write_reads (plain_string {d = d} {s = s} c) r = string_reads d s r c

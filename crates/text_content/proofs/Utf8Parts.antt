@@ -99,8 +99,8 @@ some_digits_utf8 : {s r : List ℕ} → SomeDigits s r → utf8 s ≡ true → u
 some_digits_utf8 (SomeDigits.digits {b = b} {s = s} e h) w = digits_utf8 h (ascii_after b s (digit_below b e) w)
 
 int_utf8 : {s ds r : List ℕ} → Int s ds r → utf8 s ≡ true → utf8 r ≡ true
-int_utf8 (Int.lone-zero {b = b} {s = s} e) w = mark_utf8 b 0x30 s e (omega arith) w
-int_utf8 (Int.from-nonzero {b = b} {s = s} e n h) w = digits_utf8 h (ascii_after b s (digit_below b e) w)
+int_utf8 (Int.lone_zero {b = b} {s = s} e) w = mark_utf8 b 0x30 s e (omega arith) w
+int_utf8 (Int.from_nonzero {b = b} {s = s} e n h) w = digits_utf8 h (ascii_after b s (digit_below b e) w)
 
 frac_utf8 : {s r : List ℕ} {f : Bool} → Frac s f r → utf8 s ≡ true → utf8 r ≡ true
 frac_utf8 Frac.absent w = w
@@ -118,8 +118,8 @@ digit_list_utf8 Digits.end = unfold utf8 utf8_from in refl
 digit_list_utf8 (Digits.more {b = b} {ds = ds} e h) = ascii_before b ds (digit_below b e) (digit_list_utf8 h)
 
 int_list_utf8 : {s ds r : List ℕ} → Int s ds r → utf8 ds ≡ true
-int_list_utf8 (Int.lone-zero {b = b} e) = ascii_before b [] (omega (arith, e)) (unfold utf8 utf8_from in refl)
-int_list_utf8 (Int.from-nonzero {b = b} {ds = ds} e n h) = ascii_before b ds (digit_below b e) (digit_list_utf8 h)
+int_list_utf8 (Int.lone_zero {b = b} e) = ascii_before b [] (omega (arith, e)) (unfold utf8 utf8_from in refl)
+int_list_utf8 (Int.from_nonzero {b = b} {ds = ds} e n h) = ascii_before b ds (digit_below b e) (digit_list_utf8 h)
 
 unsigned_utf8 : {negative : Bool} {s r : List ℕ} {n : Numeral} → Unsigned negative s n r → utf8 s ≡ true → (utf8 n.digits ≡ true) × (utf8 r ≡ true)
 unsigned_utf8 (Unsigned.unsigned i f e) w = (int_list_utf8 i, exp_utf8 e (frac_utf8 f (int_utf8 i w)))

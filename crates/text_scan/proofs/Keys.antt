@@ -51,18 +51,18 @@ object_keys s at depth keys z w h e p = subst (λ (x : Read Syntax). LeavesKeys 
 
 -- without an opening brace no object is read
 scalar_other : {l r : List ℕ} {t : Syntax} (ms : Members) → Scalar l t r → t ≡ object ms → ⊥
-scalar_other ms (Scalar.is-null p) e = let z : ◌≡◌ {A = ℕ} 0 1 = cc in omega arith
+scalar_other ms (Scalar.is_null p) e = let z : ◌≡◌ {A = ℕ} 0 1 = cc in omega arith
 scalar_other ms (Scalar.is_true p) e = let z : ◌≡◌ {A = ℕ} 0 1 = cc in omega arith
 scalar_other ms (Scalar.is_false p) e = let z : ◌≡◌ {A = ℕ} 0 1 = cc in omega arith
-scalar_other ms (Scalar.is_number p) e = let z : ◌≡◌ {A = ℕ} 0 1 = cc in omega arith
-scalar_other ms (Scalar.is-string p) e = let z : ◌≡◌ {A = ℕ} 0 1 = cc in omega arith
+scalar_other ms (Scalar.is_a_number p) e = let z : ◌≡◌ {A = ℕ} 0 1 = cc in omega arith
+scalar_other ms (Scalar.is_a_string p) e = let z : ◌≡◌ {A = ℕ} 0 1 = cc in omega arith
 
 brace_first : (s : List ℕ) (at d : ℕ) (l : List ℕ) (t : Syntax) (r : List ℕ) (ms : Members) → drop at s ≡ l → t ≡ object ms → Derives d l t r
     → (at < length s) × (get_or s at 0 ≡ 0x7B)
 brace_first s at zero l t r ms e f p = absurd (scalar_other ms p f)
-brace_first s at (suc d) l t r ms e f (Nested.is-scalar p) = absurd (scalar_other ms p f)
-brace_first s at (suc d) l t r ms e f (Nested.is-array q p) = let z : ◌≡◌ {A = ℕ} 0 1 = cc in absurd (omega arith)
-brace_first s at (suc d) l t r ms e f (Nested.is-object {b} {s = m} q p) =
+brace_first s at (suc d) l t r ms e f (Nested.is_scalar p) = absurd (scalar_other ms p f)
+brace_first s at (suc d) l t r ms e f (Nested.is_an_array q p) = let z : ◌≡◌ {A = ℕ} 0 1 = cc in absurd (omega arith)
+brace_first s at (suc d) l t r ms e f (Nested.is_an_object {b} {s = m} q p) =
     (rw add-zero at (below_at s at (b ∷ m) e 0 (omega arith)), rw add-zero at (byte_at s at (b ∷ m) e 0) ∙ q)
 
 -- If no opening brace stands at a position, no object is read there, and any keys may be left.

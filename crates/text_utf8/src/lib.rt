@@ -1,4 +1,6 @@
 // UTF-8 (RFC 3629): the check of a text, with the place of the first fault, and the bytes of a scalar value.
+#![tactic(auto)]
+
 ghost use Rattle.std.specs.Prelude.{◌≡◌, true, cond, [], ◌∷◌, ◌+◌, ◌≤◌, ◌<◌, length, take, drop};
 ghost use Rattle.text_utf8.specs.Utf8.{range, tail, verdict};
 ghost use Rattle.text_utf8.specs.Scalar.{encode};

@@ -88,8 +88,8 @@ some_digits_passes (SomeDigits.digits {b} e p) = one_passes (digit_other b e) (d
 
 int_passes : {l ds m : List ℕ} → Int l ds m → Passes l m
 unfolding is_other
-int_passes (Int.lone-zero e) o r h k = other h (ap is_other e) k
-int_passes (Int.from-nonzero {b} e f p) o r h k = other h (digit_other b e) (digits_passes p o r h k)
+int_passes (Int.lone_zero e) o r h k = other h (ap is_other e) k
+int_passes (Int.from_nonzero {b} e f p) o r h k = other h (digit_other b e) (digits_passes p o r h k)
 
 frac_passes : {l m : List ℕ} {f : Bool} → Frac l f m → Passes l m
 unfolding is_other
@@ -114,11 +114,11 @@ string_passes (String.quoted e p) o r h k = string h e p k
 
 scalar_passes : {l m : List ℕ} {t : Syntax} → Scalar l t m → Passes l m
 unfolding is_other every
-scalar_passes (Scalar.is-null p) = word_passes refl p
+scalar_passes (Scalar.is_null p) = word_passes refl p
 scalar_passes (Scalar.is_true p) = word_passes refl p
 scalar_passes (Scalar.is_false p) = word_passes refl p
-scalar_passes (Scalar.is_number p) = number_passes_is p
-scalar_passes (Scalar.is-string p) = string_passes p
+scalar_passes (Scalar.is_a_number p) = number_passes_is p
+scalar_passes (Scalar.is_a_string p) = string_passes p
 
 comma_passes : {l m : List ℕ} → Word (0x2C ∷ []) l m → Passes l m
 unfolding is_other every
@@ -157,9 +157,9 @@ module _ {Inner : List ℕ → Syntax → List ℕ → Type 0} (inner_passes : (
       string_passes p o r h (space_passes q o r h (colon_passes w o r h (space_passes i o r h (inner_passes _ _ _ j o r h k))))
 
   nested_passes : (l : List ℕ) (t : Syntax) (m : List ℕ) → Nested Inner l t m → Passes l m
-  nested_passes l t m (Nested.is-scalar p) o r h k = scalar_passes p o r h k
-  nested_passes l t m (Nested.is-array e p) o r h k = opens h (inl e) (listed_end inner_passes (inl refl) p o r k)
-  nested_passes l t m (Nested.is-object e p) o r h k = opens h (inr e) (listed_end pair_passes (inr refl) p o r k)
+  nested_passes l t m (Nested.is_scalar p) o r h k = scalar_passes p o r h k
+  nested_passes l t m (Nested.is_an_array e p) o r h k = opens h (inl e) (listed_end inner_passes (inl refl) p o r k)
+  nested_passes l t m (Nested.is_an_object e p) o r h k = opens h (inr e) (listed_end pair_passes (inr refl) p o r k)
 
 value_passes : (d : ℕ) (l : List ℕ) (t : Syntax) (m : List ℕ) → Derives d l t m → Passes l m
 value_passes zero l t m p = scalar_passes p

@@ -32,19 +32,19 @@ pub record Reads (l : List ℕ) (negative : Bool) (digits : List ℕ) : Type 0 w
 module _ (n : Bool) (ds : List ℕ) where
   scalar_number : (l : List ℕ) (t : Syntax) (r : List ℕ) → content t ≡ number n ds → Stops r → Scalar l t r → Reads l n ds
   unfolding content
-  scalar_number l t r m h (Scalar.is_number {n = x} k) =
+  scalar_number l t r m h (Scalar.is_a_number {n = x} k) =
       record { numeral = x; rest = r; reads = number_complete k h; sign = cc; magnitude = cc }
-  scalar_number l t r m h (Scalar.is-null k) = let z : ◌≡◌ {A = ℕ} 0 1 = cc in absurd (omega arith)
+  scalar_number l t r m h (Scalar.is_null k) = let z : ◌≡◌ {A = ℕ} 0 1 = cc in absurd (omega arith)
   scalar_number l t r m h (Scalar.is_true k) = let z : ◌≡◌ {A = ℕ} 0 1 = cc in absurd (omega arith)
   scalar_number l t r m h (Scalar.is_false k) = let z : ◌≡◌ {A = ℕ} 0 1 = cc in absurd (omega arith)
-  scalar_number l t r m h (Scalar.is-string k) = let z : ◌≡◌ {A = ℕ} 0 1 = cc in absurd (omega arith)
+  scalar_number l t r m h (Scalar.is_a_string k) = let z : ◌≡◌ {A = ℕ} 0 1 = cc in absurd (omega arith)
 
   value_number : (d : ℕ) (l : List ℕ) (t : Syntax) (r : List ℕ) → content t ≡ number n ds → Stops r → Derives d l t r → Reads l n ds
   unfolding content
   value_number zero l t r m h k = scalar_number l t r m h k
-  value_number (suc d) l t r m h (Nested.is-scalar k) = scalar_number l t r m h k
-  value_number (suc d) l t r m h (Nested.is-array f k) = let z : ◌≡◌ {A = ℕ} 0 1 = cc in absurd (omega arith)
-  value_number (suc d) l t r m h (Nested.is-object f k) = let z : ◌≡◌ {A = ℕ} 0 1 = cc in absurd (omega arith)
+  value_number (suc d) l t r m h (Nested.is_scalar k) = scalar_number l t r m h k
+  value_number (suc d) l t r m h (Nested.is_an_array f k) = let z : ◌≡◌ {A = ℕ} 0 1 = cc in absurd (omega arith)
+  value_number (suc d) l t r m h (Nested.is_an_object f k) = let z : ◌≡◌ {A = ℕ} 0 1 = cc in absurd (omega arith)
 
 -- a number without its sign is an int and what follows it
 tail_parts : (negative : Bool) (ds : List ℕ) (x : Read Bool) (n : Numeral) (r : List ℕ)

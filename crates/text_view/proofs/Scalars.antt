@@ -51,11 +51,11 @@ number_first : (s : List ℕ) (at : ℕ) (l : List ℕ) → drop at s ≡ l → 
 number_first s at l e (numeric b {l = m} low high) = let h = (begins s at b m e).byte in omega arith
 
 view_of : (s : List ℕ) (at : ℕ) (l : List ℕ) (t : Syntax) (r : List ℕ) → drop at s ≡ l → Scalar l t r → View s at (get_or s at 0) r
-view_of s at l t r e (Scalar.is-null p) = let h = word_at s at e p (omega arith) in at_null (word_first s at e p) h.0 h.1
+view_of s at l t r e (Scalar.is_null p) = let h = word_at s at e p (omega arith) in at_null (word_first s at e p) h.0 h.1
 view_of s at l t r e (Scalar.is_true p) = let h = word_at s at e p (omega arith) in at_true (word_first s at e p) h.0 h.1
 view_of s at l t r e (Scalar.is_false p) = let h = word_at s at e p (omega arith) in at_false (word_first s at e p) h.0 h.1
-view_of s at l t r e (Scalar.is_number {n = n} p) = let h = number_first s at l e (number_numeric p) in at_number n h.0 h.1 (rw e p)
-view_of s at l t r e (Scalar.is-string {cs = cs} p) = at_string cs (string_first s at l cs r e p) (rw e p)
+view_of s at l t r e (Scalar.is_a_number {n = n} p) = let h = number_first s at l e (number_numeric p) in at_number n h.0 h.1 (rw e p)
+view_of s at l t r e (Scalar.is_a_string {cs = cs} p) = at_string cs (string_first s at l cs r e p) (rw e p)
 
 -- where a token that was found ends
 module _ {A : Type 0} (refused : A → Bool) (size : A → ℕ) (s : List ℕ) where

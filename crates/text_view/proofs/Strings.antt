@@ -23,19 +23,19 @@ module _ (s : List ℕ) (p : ℕ) (c : List ℕ) where
   scalar_string : (l : List ℕ) (t : Syntax) (r : List ℕ) → drop p s ≡ l → content t ≡ string c → Scalar l t r
       → (get_or s p 0 ≡ 0x22) × InString s (p + 1) c
   unfolding content
-  scalar_string l t r e m (Scalar.is-string {cs = cs} k) = let f : unescape cs ≡ c = cc in rw f at (string_at s p l cs r e k)
-  scalar_string l t r e m (Scalar.is-null k) = let z : ◌≡◌ {A = ℕ} 0 1 = cc in absurd (omega arith)
+  scalar_string l t r e m (Scalar.is_a_string {cs = cs} k) = let f : unescape cs ≡ c = cc in rw f at (string_at s p l cs r e k)
+  scalar_string l t r e m (Scalar.is_null k) = let z : ◌≡◌ {A = ℕ} 0 1 = cc in absurd (omega arith)
   scalar_string l t r e m (Scalar.is_true k) = let z : ◌≡◌ {A = ℕ} 0 1 = cc in absurd (omega arith)
   scalar_string l t r e m (Scalar.is_false k) = let z : ◌≡◌ {A = ℕ} 0 1 = cc in absurd (omega arith)
-  scalar_string l t r e m (Scalar.is_number k) = let z : ◌≡◌ {A = ℕ} 0 1 = cc in absurd (omega arith)
+  scalar_string l t r e m (Scalar.is_a_number k) = let z : ◌≡◌ {A = ℕ} 0 1 = cc in absurd (omega arith)
 
   value_string : (d : ℕ) (l : List ℕ) (t : Syntax) (r : List ℕ) → drop p s ≡ l → content t ≡ string c → Derives d l t r
       → (get_or s p 0 ≡ 0x22) × InString s (p + 1) c
   unfolding content
   value_string zero l t r e m k = scalar_string l t r e m k
-  value_string (suc d) l t r e m (Nested.is-scalar k) = scalar_string l t r e m k
-  value_string (suc d) l t r e m (Nested.is-array f k) = let z : ◌≡◌ {A = ℕ} 0 1 = cc in absurd (omega arith)
-  value_string (suc d) l t r e m (Nested.is-object f k) = let z : ◌≡◌ {A = ℕ} 0 1 = cc in absurd (omega arith)
+  value_string (suc d) l t r e m (Nested.is_scalar k) = scalar_string l t r e m k
+  value_string (suc d) l t r e m (Nested.is_an_array f k) = let z : ◌≡◌ {A = ℕ} 0 1 = cc in absurd (omega arith)
+  value_string (suc d) l t r e m (Nested.is_an_object f k) = let z : ◌≡◌ {A = ℕ} 0 1 = cc in absurd (omega arith)
 
   -- a value that is a string: its quotation mark, and its content after it
   pub string_value : (d : ℕ) → ValueAt s p d (string c) → (get_or s p 0 ≡ 0x22) × InString s (p + 1) c

@@ -76,8 +76,8 @@ pub data Numeric : List ℕ → Type 0 where
   numeric : (b : ℕ) {l : List ℕ} → 0x2D ≤ b → b ≤ 0x39 → Numeric (b ∷ l)
 
 int_numeric : {l ds r : List ℕ} → Int l ds r → Numeric l
-int_numeric (Int.lone-zero {b} e) = numeric b (omega arith) (omega arith)
-int_numeric (Int.from-nonzero {b} e f p) = let h = digit_range b e in numeric b (omega arith) (omega arith)
+int_numeric (Int.lone_zero {b} e) = numeric b (omega arith) (omega arith)
+int_numeric (Int.from_nonzero {b} e f p) = let h = digit_range b e in numeric b (omega arith) (omega arith)
 
 unsigned_numeric : {negative : Bool} {l r : List ℕ} {n : Numeral} → Unsigned negative l n r → Numeric l
 unsigned_numeric (Unsigned.unsigned p q e) = int_numeric p
@@ -94,18 +94,18 @@ kind_numeric (numeric b l h) =
 
 scalar_kind : {l r : List ℕ} {t : Syntax} → Scalar l t r → kind_from l ≡ kind_of (content t)
 unfolding kind_from kind_at kind_of content
-scalar_kind (Scalar.is-null (Word.more e p)) = rw e
+scalar_kind (Scalar.is_null (Word.more e p)) = rw e
 scalar_kind (Scalar.is_true (Word.more e p)) = rw e
 scalar_kind (Scalar.is_false (Word.more e p)) = rw e
-scalar_kind (Scalar.is_number p) = kind_numeric (number_numeric p)
-scalar_kind (Scalar.is-string (String.quoted e p)) = rw e
+scalar_kind (Scalar.is_a_number p) = kind_numeric (number_numeric p)
+scalar_kind (Scalar.is_a_string (String.quoted e p)) = rw e
 
 value_kind : (d : ℕ) (l : List ℕ) (t : Syntax) (r : List ℕ) → Derives d l t r → kind_from l ≡ kind_of (content t)
 unfolding kind_from kind_at kind_of content
 value_kind zero l t r p = scalar_kind p
-value_kind (suc d) l t r (Nested.is-scalar p) = scalar_kind p
-value_kind (suc d) l t r (Nested.is-array e p) = rw e
-value_kind (suc d) l t r (Nested.is-object e p) = rw e
+value_kind (suc d) l t r (Nested.is_scalar p) = scalar_kind p
+value_kind (suc d) l t r (Nested.is_an_array e p) = rw e
+value_kind (suc d) l t r (Nested.is_an_object e p) = rw e
 
 -- A position at which the grammar finds a value is below the text's length.
 pub value_within : (s : List ℕ) (at d : ℕ) (t : Syntax) (r : List ℕ) → Derives d (drop at s) t r → at < length s
@@ -153,11 +153,11 @@ open_branch true = refl
 
 scalar_leaf : {l r : List ℕ} {t : Syntax} → Scalar l t r → is_branch (kind_of (content t)) ≡ false
 unfolding kind_of content
-scalar_leaf (Scalar.is-null p) = refl
+scalar_leaf (Scalar.is_null p) = refl
 scalar_leaf (Scalar.is_true p) = refl
 scalar_leaf (Scalar.is_false p) = refl
-scalar_leaf (Scalar.is_number p) = refl
-scalar_leaf (Scalar.is-string p) = refl
+scalar_leaf (Scalar.is_a_number p) = refl
+scalar_leaf (Scalar.is_a_string p) = refl
 
 no_branch : {C : Type 0} (object : Bool) {l r : List ℕ} {t : Syntax} → kind_of (content t) ≡ open_kind object → Scalar l t r → C
 no_branch object k p = both_ways (ap is_branch k ∙ open_branch object) (scalar_leaf p)
@@ -173,15 +173,15 @@ opened_list : (s : List ℕ) (at : ℕ) (object : Bool) (d : ℕ) (l : List ℕ)
     → kind_of (content t) ≡ open_kind object → Derives d l t r → Opened s at d object t r
 unfolding kind_of content
 opened_list s at object zero l t r e k p = no_branch object k p
-opened_list s at object (suc d) l t r e k (Nested.is-scalar p) = no_branch object k p
-opened_list s at false (suc d) l t r e k (Nested.is-array {b} {s = m} {ts = ts} q p) =
+opened_list s at object (suc d) l t r e k (Nested.is_scalar p) = no_branch object k p
+opened_list s at false (suc d) l t r e k (Nested.is_an_array {b} {s = m} {ts = ts} q p) =
     let f : suc d - 1 ≡ d = omega arith in
     record { some = omega arith; trees = ts; items = rw (f, (begins s at b m e).next) p; tree = refl }
-opened_list s at true (suc d) l t r e k (Nested.is-object {b} {s = m} {ms = ms} q p) =
+opened_list s at true (suc d) l t r e k (Nested.is_an_object {b} {s = m} {ms = ms} q p) =
     let f : suc d - 1 ≡ d = omega arith in
     record { some = omega arith; trees = ms; items = rw (f, (begins s at b m e).next) p; tree = refl }
-opened_list s at true (suc d) l t r e k (Nested.is-array q p) = let z : ◌≡◌ {A = ℕ} 0 1 = cc in absurd (omega arith)
-opened_list s at false (suc d) l t r e k (Nested.is-object q p) = let z : ◌≡◌ {A = ℕ} 0 1 = cc in absurd (omega arith)
+opened_list s at true (suc d) l t r e k (Nested.is_an_array q p) = let z : ◌≡◌ {A = ℕ} 0 1 = cc in absurd (omega arith)
+opened_list s at false (suc d) l t r e k (Nested.is_an_object q p) = let z : ◌≡◌ {A = ℕ} 0 1 = cc in absurd (omega arith)
 
 module _ (s : List ℕ) (at d : ℕ) (t : Syntax) (r : List ℕ) (p : Derives d (drop at s) t r) where
   -- Where the content of a value is an array or an object, its items stand after its first byte.
@@ -200,9 +200,9 @@ module _ (s : List ℕ) (at d : ℕ) (t : Syntax) (r : List ℕ) (p : Derives d 
 scalar_list : (s : List ℕ) (at d : ℕ) (l : List ℕ) (t : Syntax) (r : List ℕ) → drop at s ≡ l → (get_or s at 0 ≡ 0x5B → ⊥) → (get_or s at 0 ≡ 0x7B → ⊥)
     → Derives d l t r → Scalar l t r
 scalar_list s at zero l t r e a o p = p
-scalar_list s at (suc d) l t r e a o (Nested.is-scalar p) = p
-scalar_list s at (suc d) l t r e a o (Nested.is-array {b} {s = m} q p) = absurd (a ((begins s at b m e).byte ∙ q))
-scalar_list s at (suc d) l t r e a o (Nested.is-object {b} {s = m} q p) = absurd (o ((begins s at b m e).byte ∙ q))
+scalar_list s at (suc d) l t r e a o (Nested.is_scalar p) = p
+scalar_list s at (suc d) l t r e a o (Nested.is_an_array {b} {s = m} q p) = absurd (a ((begins s at b m e).byte ∙ q))
+scalar_list s at (suc d) l t r e a o (Nested.is_an_object {b} {s = m} q p) = absurd (o ((begins s at b m e).byte ∙ q))
 
 -- A value that begins with no opening mark is neither an array nor an object.
 pub is_scalar : (s : List ℕ) (at d : ℕ) (t : Syntax) (r : List ℕ) → (get_or s at 0 ≡ 0x5B → ⊥) → (get_or s at 0 ≡ 0x7B → ⊥)

@@ -122,7 +122,7 @@ In-array t F =
     F (write_array_calls t) (at_measure write-array-kinds.ps μ_write_array write-array.Pre t) write-array.Post write-array-Inv-loop write-array-μ-loop
 
 write-array-slice-write-out : (t : ℕ) → In-array t write-array-lts.Need-slice-write-out
-write-array-slice-write-out t c = Arrays.mark-fits c.before.before.before.before.requires.1
+write-array-slice-write-out t c = Arrays.mark_fits c.before.before.before.before.requires.1
 
 write-array-add-i : (t : ℕ) → In-array t write-array-lts.Need-overflow-add-i
 write-array-add-i t c =
@@ -155,7 +155,7 @@ element_given t c =
 write-array-separate-requires : (t : ℕ) → In-array t write-array-lts.Need-separate-requires
 write-array-separate-requires t c κs =
     let k = c.before in
-    Arrays.comma-fits k.before.before.before.before.loop.invariant.0 _ _ _ (element_given t k)
+    Arrays.comma_fits k.before.before.before.before.loop.invariant.0 _ _ _ (element_given t k)
 
 write-array-sub-write-value : (t : ℕ) → In-array t write-array-lts.Need-overflow-sub-write-value
 write-array-sub-write-value t c = omega (arith, c.before.before.before.before.before.before.before.before.loop.invariant.0.some)
@@ -166,7 +166,7 @@ write-array-sub-write-value-2 t c =
     let k = d.before.before in
     let p = k.before.before.before.before.loop.invariant.0 in
     let w = d.separate.ensures.1 _ _ p.size p.written in
-    Arrays.part-fits p _ _ _ (element_given t k) _ _ d.separate.ensures.0 w
+    Arrays.part_fits p _ _ _ (element_given t k) _ _ d.separate.ensures.0 w
 
 write-array-part-write-value-start : (t : ℕ) → In-array t write-array-lts.Need-slice-bounds-write-value-start
 write-array-part-write-value-start t c = write-array-sub-write-value-2 t c
@@ -257,17 +257,17 @@ In-member t F = F (write_member_calls t) (at_measure write-member-kinds.ps μ_wr
 write-member-write-string-requires : (t : ℕ) → In-member t write-member-lts.Need-write-string-requires
 write-member-write-string-requires t c κs =
     let p = c.before.before.before.before.before.requires.1 in
-    (MemberParts.key-inside p, MemberParts.key_fits p)
+    (MemberParts.key_inside p, MemberParts.key_fits p)
 
 write-member-slice-write-out : (t : ℕ) → In-member t write-member-lts.Need-slice-write-out
 write-member-slice-write-out t c =
     let d = c.before.before in
-    MemberParts.colon-fits d.before.before.before.before.before.before.requires.1 _ _ d.write-string.ensures
+    MemberParts.colon_fits d.before.before.before.before.before.before.requires.1 _ _ d.write-string.ensures
 
 write-member-add-start : (t : ℕ) → In-member t write-member-lts.Need-overflow-add-start
 write-member-add-start t c =
     let d = c.before.before in
-    let f = MemberParts.colon-fits d.before.before.before.before.before.before.requires.1 _ _ d.write-string.ensures in
+    let f = MemberParts.colon_fits d.before.before.before.before.before.before.requires.1 _ _ d.write-string.ensures in
     omega (arith, f, d.write-string.auto.1.1.0, d.before.before.before.before.before.before.well-formed)
 
 write-member-item-value-requires : (t : ℕ) → In-member t write-member-lts.Need-item-value-requires
@@ -276,7 +276,7 @@ write-member-item-value-requires t c κs = MemberParts.item c.before.before.befo
 write-member-sub-write-value : (t : ℕ) → In-member t write-member-lts.Need-overflow-sub-write-value
 write-member-sub-write-value t c =
     let d = c.before.before.before in
-    MemberParts.part-fits d.before.before.before.before.before.before.requires.1 _ _ d.write-string.ensures
+    MemberParts.part_fits d.before.before.before.before.before.before.requires.1 _ _ d.write-string.ensures
 
 write-member-part-write-value-start : (t : ℕ) → In-member t write-member-lts.Need-slice-bounds-write-value-start
 write-member-part-write-value-start t c = write-member-sub-write-value t c
@@ -330,7 +330,7 @@ In-members t F =
     write-members-μ-loop
 
 write-members-slice-write-out : (t : ℕ) → In-members t write-members-lts.Need-slice-write-out
-write-members-slice-write-out t c = Objects.mark-fits c.before.before.before.before.requires.1
+write-members-slice-write-out t c = Objects.mark_fits c.before.before.before.before.requires.1
 
 write-members-loop-holds : (t : ℕ) → In-members t write-members-lts.Need-loop-init
 write-members-loop-holds t c = (Objects.started c.before.before.before.before.requires.1, omega arith, refl)
@@ -352,7 +352,7 @@ write-members-cast-key t c = omega (arith, c.slice-known4.given c.before.before.
 write-members-separate-requires : (t : ℕ) → In-members t write-members-lts.Need-separate-requires
 write-members-separate-requires t c κs =
     let n = c.before.before in
-    Objects.comma-fits n.before.loop.invariant.0 n.loop-test.true
+    Objects.comma_fits n.before.loop.invariant.0 n.loop-test.true
 
 write-members-sub-write-member : (t : ℕ) → In-members t write-members-lts.Need-overflow-sub-write-member
 write-members-sub-write-member t c = omega (arith, c.before.before.before.before.before.before.loop.invariant.0.some)
@@ -364,7 +364,7 @@ write-members-sub-write-member-2 t c =
     let l = n.before in
     let p = l.loop.invariant.0 in
     let w = d.separate.ensures.1 _ _ p.size p.written in
-    Objects.part-fits p n.loop-test.true _ _ d.separate.ensures.0 w
+    Objects.part_fits p n.loop-test.true _ _ d.separate.ensures.0 w
 
 write-members-part-write-member-start : (t : ℕ) → In-members t write-members-lts.Need-slice-bounds-write-member-start
 write-members-part-write-member-start t c = write-members-sub-write-member-2 t c
@@ -461,7 +461,7 @@ write-object-write-members-requires t c κs =
     let k = c.before.before.before.before.before.before.before in
     let f = k.sorted-keys in
     let b = k.before.before.before.before.before.before.before in
-    (omega (arith, b.requires.0), Objects.keys-given b.requires.1 _ _ _ f.auto.1.1.1.0 f.auto.1.1.1.1.0 f.ensures)
+    (omega (arith, b.requires.0), Objects.keys_given b.requires.1 _ _ _ f.auto.1.1.1.0 f.auto.1.1.1.1.0 f.ensures)
 
 write-object-returns : (t : ℕ) → In-object t write-object-lts.Need-returns
 write-object-returns t c = c.before.before.before.before.before.before.write-members.ensures

@@ -92,9 +92,9 @@ some_digits_kept (SomeDigits.digits {b} e p) = SomeDigits.digits (kept is_digit 
 
 int_kept : {s ds r : List ℕ} → Int s ds r → Int (as_bytes s) (as_bytes ds) (as_bytes r)
 unfolding as_bytes
-int_kept (Int.lone-zero {b} e) = Int.lone-zero (equal_below b 0x30 (omega arith) e)
-int_kept (Int.from-nonzero {b} e n p) =
-    Int.from-nonzero (kept is_digit b e (digit_below b e)) (λ z. n (sym (byte_same b (digit_below b e)) ∙ z)) (digits_kept p)
+int_kept (Int.lone_zero {b} e) = Int.lone_zero (equal_below b 0x30 (omega arith) e)
+int_kept (Int.from_nonzero {b} e n p) =
+    Int.from_nonzero (kept is_digit b e (digit_below b e)) (λ z. n (sym (byte_same b (digit_below b e)) ∙ z)) (digits_kept p)
 
 frac_kept : {s r : List ℕ} {f : Bool} → Frac s f r → Frac (as_bytes s) f (as_bytes r)
 unfolding as_bytes
@@ -167,11 +167,11 @@ string_kept (String.quoted {q} e p) = elim (chars_kept p) [ has h ↦ has (Strin
 
 scalar_kept : {s r : List ℕ} {t : Syntax} → Scalar s t r → Has Scalar (as_bytes s) (as_bytes r)
 unfolding as_bytes as_byte
-scalar_kept (Scalar.is-null p) = has (Scalar.is-null (word_kept p))
+scalar_kept (Scalar.is_null p) = has (Scalar.is_null (word_kept p))
 scalar_kept (Scalar.is_true p) = has (Scalar.is_true (word_kept p))
 scalar_kept (Scalar.is_false p) = has (Scalar.is_false (word_kept p))
-scalar_kept (Scalar.is_number p) = elim (number_kept p) [ has q ↦ has (Scalar.is_number q) ]
-scalar_kept (Scalar.is-string p) = elim (string_kept p) [ has q ↦ has (Scalar.is-string q) ]
+scalar_kept (Scalar.is_a_number p) = elim (number_kept p) [ has q ↦ has (Scalar.is_a_number q) ]
+scalar_kept (Scalar.is_a_string p) = elim (string_kept p) [ has q ↦ has (Scalar.is_a_string q) ]
 
 module _ {A : Type 0} (Item : List ℕ → A → List ℕ → Type 0) (mark : ℕ) (small : mark < 256)
     (item_kept : (s : List ℕ) (t : A) (r : List ℕ) → Item s t r → Has Item (as_bytes s) (as_bytes r)) where
@@ -202,11 +202,11 @@ module _ {Inner : List ℕ → Syntax → List ℕ → Type 0}
 
   nested_kept : (s : List ℕ) (t : Syntax) (r : List ℕ) → Nested Inner s t r → Has (Nested Inner) (as_bytes s) (as_bytes r)
   unfolding as_bytes
-  nested_kept s t r (Nested.is-scalar p) = elim (scalar_kept p) [ has q ↦ has (Nested.is-scalar q) ]
-  nested_kept s t r (Nested.is-array {b} e p) =
-      elim (listed_kept Inner 0x5D (omega arith) inner_kept p) [ has q ↦ has (Nested.is-array (equal_below b 0x5B (omega arith) e) q) ]
-  nested_kept s t r (Nested.is-object {b} e p) =
-      elim (listed_kept (Pair Inner) 0x7D (omega arith) pair_kept p) [ has q ↦ has (Nested.is-object (equal_below b 0x7B (omega arith) e) q) ]
+  nested_kept s t r (Nested.is_scalar p) = elim (scalar_kept p) [ has q ↦ has (Nested.is_scalar q) ]
+  nested_kept s t r (Nested.is_an_array {b} e p) =
+      elim (listed_kept Inner 0x5D (omega arith) inner_kept p) [ has q ↦ has (Nested.is_an_array (equal_below b 0x5B (omega arith) e) q) ]
+  nested_kept s t r (Nested.is_an_object {b} e p) =
+      elim (listed_kept (Pair Inner) 0x7D (omega arith) pair_kept p) [ has q ↦ has (Nested.is_an_object (equal_below b 0x7B (omega arith) e) q) ]
 
 value_kept : (d : ℕ) (s : List ℕ) (t : Syntax) (r : List ℕ) → Value d s t r → Has (Value d) (as_bytes s) (as_bytes r)
 value_kept zero s t r p = scalar_kept p

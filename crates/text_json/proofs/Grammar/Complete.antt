@@ -67,8 +67,8 @@ some_digits_complete (SomeDigits.digits e p) h = rw (e, read_some_digits) (cc (d
 -- An integer part by the grammar is found, with the same digits and rest, if no digit follows.
 pub int_complete : {s ds r : List ℕ} → Int s ds r → starts is_digit r ≡ false → read_int s ≡ found ds r
 unfolding read_int
-int_complete (Int.lone-zero {b} e) h = rw (eq-eqb b 0x30 e, read_int)
-int_complete (Int.from-nonzero {b} e f p) h = rw (ne_eqb b 0x30 f, read_int) (rw e (cc ((digits_complete p h).0, (digits_complete p h).1)))
+int_complete (Int.lone_zero {b} e) h = rw (eq-eqb b 0x30 e, read_int)
+int_complete (Int.from_nonzero {b} e f p) h = rw (ne_eqb b 0x30 f, read_int) (rw e (cc ((digits_complete p h).0, (digits_complete p h).1)))
 
 -- A fraction by the grammar, present or absent, is found, with the same rest, if no digit and no decimal point follows.
 pub frac_complete : {s r : List ℕ} {f : Bool} → Frac s f r → starts is_digit r ≡ false → starts is_point r ≡ false → read_frac s ≡ found f r
@@ -120,8 +120,8 @@ unsigned_complete (Unsigned.unsigned p q e) h =
 
 int_first : {s ds r : List ℕ} → Int s ds r → starts is_digit s ≡ true
 unfolding is_digit between
-int_first (Int.lone-zero e) = rw e
-int_first (Int.from-nonzero e f p) = e
+int_first (Int.lone_zero e) = rw e
+int_first (Int.from_nonzero e f p) = e
 
 number_plain : (s : List ℕ) → starts is_digit s ≡ true → read_number s ≡ read_unsigned false s
 unfolding read_number is_digit between
@@ -183,11 +183,11 @@ number_first (Number.minus e p) = rw e
 
 scalar_first : {s r : List ℕ} {t : Syntax} → Scalar s t r → starts is_plain s ≡ true
 unfolding is_plain is_numeric is_digit between
-scalar_first (Scalar.is-null (Word.more e p)) = rw e
+scalar_first (Scalar.is_null (Word.more e p)) = rw e
 scalar_first (Scalar.is_true (Word.more e p)) = rw e
 scalar_first (Scalar.is_false (Word.more e p)) = rw e
-scalar_first {s} (Scalar.is_number p) = starts_map is_numeric is_plain (λ b e. rw e) s (number_first p)
-scalar_first (Scalar.is-string (String.quoted e p)) = rw e
+scalar_first {s} (Scalar.is_a_number p) = starts_map is_numeric is_plain (λ b e. rw e) s (number_first p)
+scalar_first (Scalar.is_a_string (String.quoted e p)) = rw e
 
 -- A string begins with one of the bytes that begin values.
 pub string_begins : {s r : List ℕ} {cs : List Char} → String s cs r → starts is_first s ≡ true
@@ -196,9 +196,9 @@ string_begins (String.quoted e p) = rw e
 
 nested_first : {Inner : List ℕ → Syntax → List ℕ → Type 0} {s r : List ℕ} {t : Syntax} → Nested Inner s t r → starts is_first s ≡ true
 unfolding is_first is_plain is_numeric is_digit between
-nested_first {s} (Nested.is-scalar p) = starts_map is_plain is_first (λ b e. rw e) s (scalar_first p)
-nested_first (Nested.is-array e p) = rw e
-nested_first (Nested.is-object e p) = rw e
+nested_first {s} (Nested.is_scalar p) = starts_map is_plain is_first (λ b e. rw e) s (scalar_first p)
+nested_first (Nested.is_an_array e p) = rw e
+nested_first (Nested.is_an_object e p) = rw e
 
 -- A value begins with a digit, a minus sign, a quotation mark, a letter n, t or f, or an opening bracket or brace.
 pub value_first : (d : ℕ) (s : List ℕ) (t : Syntax) (r : List ℕ) → Value d s t r → starts is_first s ≡ true
@@ -225,11 +225,11 @@ number_scalar (b ∷ s) h =
 -- A value by the grammar, no array or object, is found, with the same rest, if that does not go on as a number does.
 pub scalar_complete : {s r : List ℕ} {t : Syntax} → Scalar s t r → Stops r → read_scalar s ≡ found t r
 unfolding read_scalar and_then
-scalar_complete (Scalar.is-null (Word.more e p)) h = rw e (rw (word_complete p))
+scalar_complete (Scalar.is_null (Word.more e p)) h = rw e (rw (word_complete p))
 scalar_complete (Scalar.is_true (Word.more e p)) h = rw e (rw (word_complete p))
 scalar_complete (Scalar.is_false (Word.more e p)) h = rw e (rw (word_complete p))
-scalar_complete {s} (Scalar.is_number p) h = rw (number_scalar s (number_first p)) (rw (number_complete p h))
-scalar_complete (Scalar.is-string (String.quoted {q} e p)) h = rw (eq-eqb q 0x22 e, read_scalar) (rw (chars_complete p))
+scalar_complete {s} (Scalar.is_a_number p) h = rw (number_scalar s (number_first p)) (rw (number_complete p h))
+scalar_complete (Scalar.is_a_string (String.quoted {q} e p)) h = rw (eq-eqb q 0x22 e, read_scalar) (rw (chars_complete p))
 
 -- what stands after an item: spaces, then a comma or the end mark
 
@@ -346,9 +346,9 @@ module _ {Inner : List ℕ → Syntax → List ℕ → Type 0} {inner : List ℕ
   -- The same for a value that may hold such inner values in arrays and objects.
   pub nested_complete : (s : List ℕ) (t : Syntax) (r : List ℕ) → Nested Inner s t r → Stops r → read_nested inner s ≡ found t r
   unfolding read_nested and_then
-  nested_complete s t r (Nested.is-scalar p) h = rw (plain_nested inner s (scalar_first p)) (scalar_complete p h)
-  nested_complete s t r (Nested.is-array e p) h = rw e (rw (listed_complete 0x5D bracket_closes complete inner_inside inner_first p))
-  nested_complete s t r (Nested.is-object e p) h =
+  nested_complete s t r (Nested.is_scalar p) h = rw (plain_nested inner s (scalar_first p)) (scalar_complete p h)
+  nested_complete s t r (Nested.is_an_array e p) h = rw e (rw (listed_complete 0x5D bracket_closes complete inner_inside inner_first p))
+  nested_complete s t r (Nested.is_an_object e p) h =
       rw e (rw (listed_complete 0x7D brace_closes pair_complete (pair_inside (λ s t r p. inside_ends (inner_inside s t r p))) pair_first p))
 
 -- values

@@ -135,8 +135,8 @@ some_digits_again : {s r : List ℕ} → SomeDigits s r → (z : List ℕ) → A
 some_digits_again (SomeDigits.digits e p) z = again_next (λ _ q. SomeDigits.digits e q) (digits_again p z)
 
 int_again : {s ds r : List ℕ} → Int s ds r → (z : List ℕ) → Again (Has Int) s r z
-int_again (Int.lone-zero e) z = again (next here) (has (Int.lone-zero e))
-int_again (Int.from-nonzero e f p) z = again_next (λ _ q. has (Int.from-nonzero e f q)) (digits_again p z)
+int_again (Int.lone_zero e) z = again (next here) (has (Int.lone_zero e))
+int_again (Int.from_nonzero e f p) z = again_next (λ _ q. has (Int.from_nonzero e f q)) (digits_again p z)
 
 frac_again : {s r : List ℕ} {f : Bool} → Frac s f r → (z : List ℕ) → Again (Has Frac) s r z
 frac_again Frac.absent z = again here (has Frac.absent)
@@ -176,17 +176,17 @@ string_again : {s r : List ℕ} {cs : List Char} → String s cs r → (z : List
 string_again (String.quoted e p) z = again_next (λ _ q. has (String.quoted e q)) (chars_again p z)
 
 to_number : {s r : List ℕ} → Has Number s r → Has Scalar s r
-to_number (has p) = has (Scalar.is_number p)
+to_number (has p) = has (Scalar.is_a_number p)
 
 to_string : {s r : List ℕ} → Has String s r → Has Scalar s r
-to_string (has p) = has (Scalar.is-string p)
+to_string (has p) = has (Scalar.is_a_string p)
 
 scalar_again : {s r : List ℕ} {t : Syntax} → Scalar s t r → (z : List ℕ) → Again (Has Scalar) s r z
-scalar_again (Scalar.is-null p) z = again_map (λ _ q. has (Scalar.is-null q)) (word_again p z)
+scalar_again (Scalar.is_null p) z = again_map (λ _ q. has (Scalar.is_null q)) (word_again p z)
 scalar_again (Scalar.is_true p) z = again_map (λ _ q. has (Scalar.is_true q)) (word_again p z)
 scalar_again (Scalar.is_false p) z = again_map (λ _ q. has (Scalar.is_false q)) (word_again p z)
-scalar_again (Scalar.is_number p) z = again_map (λ _ q. to_number q) (number_again p z)
-scalar_again (Scalar.is-string p) z = again_map (λ _ q. to_string q) (string_again p z)
+scalar_again (Scalar.is_a_number p) z = again_map (λ _ q. to_number q) (number_again p z)
+scalar_again (Scalar.is_a_string p) z = again_map (λ _ q. to_string q) (string_again p z)
 
 module _ {A : Type 0} (Item : List ℕ → A → List ℕ → Type 0) (mark : ℕ) where
   -- what follows an item and spaces
@@ -224,13 +224,13 @@ module _ (Inner : List ℕ → Syntax → List ℕ → Type 0) where
   to_pair (then (has p) (then q (then h (then i (has j))))) = has (Pair.pair p q h i j)
 
   to_nested : {s r : List ℕ} → Has Scalar s r → Has (Nested Inner) s r
-  to_nested (has p) = has (Nested.is-scalar p)
+  to_nested (has p) = has (Nested.is_scalar p)
 
   to_array : {b : ℕ} → b ≡ 0x5B → {s r : List ℕ} → Has (Listed Inner 0x5D) s r → Has (Nested Inner) (b ∷ s) r
-  to_array e (has p) = has (Nested.is-array e p)
+  to_array e (has p) = has (Nested.is_an_array e p)
 
   to_object : {b : ℕ} → b ≡ 0x7B → {s r : List ℕ} → Has (Listed (Pair Inner) 0x7D) s r → Has (Nested Inner) (b ∷ s) r
-  to_object e (has p) = has (Nested.is-object e p)
+  to_object e (has p) = has (Nested.is_an_object e p)
 
 module _ {Inner : List ℕ → Syntax → List ℕ → Type 0}
     (inner_again : (s : List ℕ) (t : Syntax) (r : List ℕ) → Inner s t r → (z : List ℕ) → Again (Has Inner) s r z) where
@@ -240,9 +240,9 @@ module _ {Inner : List ℕ → Syntax → List ℕ → Type 0}
       (again_then (string_again p) (again_then (space_again q) (again_then (word_again h) (again_then (space_again i) (inner_again _ _ _ j z)))))
 
   nested_again : (s : List ℕ) (t : Syntax) (r : List ℕ) → Nested Inner s t r → (z : List ℕ) → Again (Has (Nested Inner)) s r z
-  nested_again s t r (Nested.is-scalar p) z = again_map (λ _ q. to_nested Inner q) (scalar_again p z)
-  nested_again s t r (Nested.is-array e p) z = again_next (λ _ q. to_array Inner e q) (listed_again inner_again p z)
-  nested_again s t r (Nested.is-object e p) z = again_next (λ _ q. to_object Inner e q) (listed_again pair_again p z)
+  nested_again s t r (Nested.is_scalar p) z = again_map (λ _ q. to_nested Inner q) (scalar_again p z)
+  nested_again s t r (Nested.is_an_array e p) z = again_next (λ _ q. to_array Inner e q) (listed_again inner_again p z)
+  nested_again s t r (Nested.is_an_object e p) z = again_next (λ _ q. to_object Inner e q) (listed_again pair_again p z)
 
 value_again : (d : ℕ) (s : List ℕ) (t : Syntax) (r : List ℕ) → Value d s t r → (z : List ℕ) → Again (Has (Value d)) s r z
 value_again zero s t r p z = scalar_again p z
@@ -262,7 +262,7 @@ unfolding is_digit between
 some_digits z = some {m = 0x30 ∷ z} (SomeDigits.digits refl Digits.end)
 
 some_int : (z : List ℕ) → Some (Has Int) z
-some_int z = some {m = 0x30 ∷ z} (has (Int.lone-zero refl))
+some_int z = some {m = 0x30 ∷ z} (has (Int.lone_zero refl))
 
 some_options : (z : List ℕ) → Some (Then (Has Frac) (Has Exp)) z
 some_options z = some (then (has Frac.absent) (has Exp.absent))
@@ -271,7 +271,7 @@ some_exp : (z : List ℕ) → Some (Has Exp) z
 some_exp z = some (has Exp.absent)
 
 some_number : (z : List ℕ) → Some (Has Number) z
-some_number z = some {m = 0x30 ∷ z} (has (Number.plain (Unsigned.unsigned (Int.lone-zero refl) Frac.absent Exp.absent)))
+some_number z = some {m = 0x30 ∷ z} (has (Number.plain (Unsigned.unsigned (Int.lone_zero refl) Frac.absent Exp.absent)))
 
 some_chars : (z : List ℕ) → Chars (0x22 ∷ z) [] z
 some_chars z = Chars.close refl
@@ -294,11 +294,11 @@ some_string : (z : List ℕ) → Some (Has String) z
 some_string z = some {m = 0x22 ∷ 0x22 ∷ z} (has (String.quoted refl (some_chars z)))
 
 some_scalar : (z : List ℕ) → Some (Has Scalar) z
-some_scalar z = some {m = 0x22 ∷ 0x22 ∷ z} (has (Scalar.is-string (String.quoted refl (some_chars z))))
+some_scalar z = some {m = 0x22 ∷ 0x22 ∷ z} (has (Scalar.is_a_string (String.quoted refl (some_chars z))))
 
 some_value : (d : ℕ) (z : List ℕ) → Some (Has (Value d)) z
 some_value zero z = some_scalar z
-some_value (suc d) z = some {m = 0x22 ∷ 0x22 ∷ z} (has (Nested.is-scalar (Scalar.is-string (String.quoted refl (some_chars z)))))
+some_value (suc d) z = some {m = 0x22 ∷ 0x22 ∷ z} (has (Nested.is_scalar (Scalar.is_a_string (String.quoted refl (some_chars z)))))
 
 -- where reading is stuck
 
@@ -422,7 +422,7 @@ scalar_opens (b ∷ s) =
     (λ e. rw (e, read_scalar) (opens_as _ (opens_next (λ _ _ p. to_string (to_quoted (eqb-true b 0x22 e) p)) (rest_opens Pending.char s))))
     (λ e. rw (e, read_scalar)
     (by_test (eqb b 0x6E)
-    (λ f. rw f (opens_as _ (opens_next (λ _ _ p. has (Scalar.is-null (Word.more (eqb-true b 0x6E f) p))) (word_opens _ s))))
+    (λ f. rw f (opens_as _ (opens_next (λ _ _ p. has (Scalar.is_null (Word.more (eqb-true b 0x6E f) p))) (word_opens _ s))))
     (λ f. rw f
     (by_test (eqb b 0x74)
     (λ g. rw g (opens_as _ (opens_next (λ _ _ p. has (Scalar.is_true (Word.more (eqb-true b 0x74 g) p))) (word_opens _ s))))

@@ -32,8 +32,8 @@ some_digits_inside (SomeDigits.digits e p) = inside (digits_ends p)
 
 -- The same for an integer part.
 pub int_inside : {s ds r : List ℕ} → Int s ds r → Inside r s
-int_inside (Int.lone-zero e) = inside all
-int_inside (Int.from-nonzero e f p) = inside (digits_ends p)
+int_inside (Int.lone_zero e) = inside all
+int_inside (Int.from_nonzero e f p) = inside (digits_ends p)
 
 -- The rest after a fraction, present or absent, is an end of the text.
 pub frac_ends : {s r : List ℕ} {f : Bool} → Frac s f r → Ends r s
@@ -68,11 +68,11 @@ string_inside (String.quoted e p) = inside (inside_ends (chars_inside p))
 
 -- The same for a value that is neither an array nor an object.
 pub scalar_inside : {s r : List ℕ} {t : Syntax} → Scalar s t r → Inside r s
-scalar_inside (Scalar.is-null p) = word_inside p
+scalar_inside (Scalar.is_null p) = word_inside p
 scalar_inside (Scalar.is_true p) = word_inside p
 scalar_inside (Scalar.is_false p) = word_inside p
-scalar_inside (Scalar.is_number p) = number_inside p
-scalar_inside (Scalar.is-string p) = string_inside p
+scalar_inside (Scalar.is_a_number p) = number_inside p
+scalar_inside (Scalar.is_a_string p) = string_inside p
 
 module _ {A : Type 0} {Item : List ℕ → A → List ℕ → Type 0} (item_ends : (s : List ℕ) (x : A) (r : List ℕ) → Item s x r → Ends r s) where
   -- If the rest after an item is an end of its text, so is the rest after items and their end mark.
@@ -98,9 +98,9 @@ module _ {Inner : List ℕ → Syntax → List ℕ → Type 0} (inner_ends : (s 
 
   -- If the rest after an inner value is an end of its text, that after a value is an end that leaves out the text's first byte.
   pub nested_inside : (s : List ℕ) (t : Syntax) (r : List ℕ) → Nested Inner s t r → Inside r s
-  nested_inside s t r (Nested.is-scalar p) = scalar_inside p
-  nested_inside s t r (Nested.is-array e p) = inside (listed_ends inner_ends p)
-  nested_inside s t r (Nested.is-object e p) = inside (listed_ends pair_ends p)
+  nested_inside s t r (Nested.is_scalar p) = scalar_inside p
+  nested_inside s t r (Nested.is_an_array e p) = inside (listed_ends inner_ends p)
+  nested_inside s t r (Nested.is_an_object e p) = inside (listed_ends pair_ends p)
 
 -- The rest after a value of bounded depth is an end that leaves out the text's first byte.
 pub value_inside : (d : ℕ) (s : List ℕ) (t : Syntax) (r : List ℕ) → Value d s t r → Inside r s

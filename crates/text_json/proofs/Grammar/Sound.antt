@@ -59,8 +59,8 @@ pub int_reads : (s : List ℕ) → Reads Int s (read_int s)
 unfolding read_int
 int_reads [] = is_stuck all
 int_reads (b ∷ s) =
-    by_test (eqb b 0x30) (λ e. rw (e, read_int) (is_found (Int.lone-zero (eqb-true b 0x30 e)))) (λ e. rw (e, read_int)
-    (by_test (is_digit b) (λ f. rw f (is_found (Int.from-nonzero f (eqb-false b 0x30 e) (digits_sound s)))) (λ f. rw f (is_stuck all))))
+    by_test (eqb b 0x30) (λ e. rw (e, read_int) (is_found (Int.lone_zero (eqb-true b 0x30 e)))) (λ e. rw (e, read_int)
+    (by_test (is_digit b) (λ f. rw f (is_found (Int.from_nonzero f (eqb-false b 0x30 e) (digits_sound s)))) (λ f. rw f (is_stuck all))))
 
 -- An integer part that is found is one by the grammar, with the same digits and rest.
 pub int_sound : (s ds r : List ℕ) → read_int s ≡ found ds r → Int s ds r
@@ -198,12 +198,12 @@ module _ (b : ℕ) (s : List ℕ) where
   scalar_reads_cons =
       by_test (eqb b 0x22)
       (λ e. rw (e, read_scalar) (reads_within (after all)
-      (reads_as (λ cs. string (b ∷ s) cs) (chars_reads s) (λ _ _ p. Scalar.is-string (String.quoted (eqb-true b 0x22 e) p)))))
+      (reads_as (λ cs. string (b ∷ s) cs) (chars_reads s) (λ _ _ p. Scalar.is_a_string (String.quoted (eqb-true b 0x22 e) p)))))
       (λ e. rw (e, read_scalar)
-      (by_test (eqb b 0x6E) (λ f. rw f (name_reads _ _ (λ _ p. Scalar.is-null p) f)) (λ f. rw f
+      (by_test (eqb b 0x6E) (λ f. rw f (name_reads _ _ (λ _ p. Scalar.is_null p) f)) (λ f. rw f
       (by_test (eqb b 0x74) (λ g. rw g (name_reads _ _ (λ _ p. Scalar.is_true p) g)) (λ g. rw g
       (by_test (eqb b 0x66) (λ h. rw h (name_reads _ _ (λ _ p. Scalar.is_false p) h)) (λ h. rw h
-      (reads_as (λ n. number (b ∷ s) n) (number_reads (b ∷ s)) (λ _ _ p. Scalar.is_number p)))))))))
+      (reads_as (λ n. number (b ∷ s) n) (number_reads (b ∷ s)) (λ _ _ p. Scalar.is_a_number p)))))))))
 
 -- The same for every text.
 pub scalar_reads : (s : List ℕ) → Reads Scalar s (read_scalar s)
@@ -268,12 +268,12 @@ module _ {Inner : List ℕ → Syntax → List ℕ → Type 0} {inner : List ℕ
   nested_reads_cons b s =
       by_test (eqb b 0x5B)
       (λ e. rw (e, read_nested) (reads_within (after all) (reads_as (λ ts. array (elements ts)) (listed_reads 0x5D inner_reads inner_ends s)
-      (λ _ _ p. Nested.is-array (eqb-true b 0x5B e) p))))
+      (λ _ _ p. Nested.is_an_array (eqb-true b 0x5B e) p))))
       (λ e. rw (e, read_nested)
       (by_test (eqb b 0x7B)
       (λ f. rw f (reads_within (after all) (reads_as (λ ms. object (members ms)) (listed_reads 0x7D pair_reads (pair_ends inner_ends) s)
-      (λ _ _ p. Nested.is-object (eqb-true b 0x7B f) p))))
-      (λ f. rw f (answer_map (λ _ _ p. Nested.is-scalar p) (λ _ p. p) (scalar_reads (b ∷ s))))))
+      (λ _ _ p. Nested.is_an_object (eqb-true b 0x7B f) p))))
+      (λ f. rw f (answer_map (λ _ _ p. Nested.is_scalar p) (λ _ p. p) (scalar_reads (b ∷ s))))))
 
   -- Under these conditions, reading a value that may hold inner values finds one by the grammar, or is stuck at an end of the text.
   pub nested_reads : (s : List ℕ) → Reads (Nested Inner) s (read_nested inner s)

@@ -12,33 +12,33 @@ use Rattle.laws.proofs.Spans.{span_none, span_next}
 use Rattle.text_utf8.proofs.ascii_block.Statement.{statement}
 use Rattle.text_utf8.proofs.ascii_block.Tie as tie
 
-abbrev invariant-loop : tie.invariant-loop
+abbrev invariant-loop : tie.invariant-loop-n
 invariant-loop text at all₀ n₀ all n = (n ≤ 16) × (all ≡ true → Ascii text at (at + n))
 
-abbrev decreases-loop : tie.decreases-loop
+abbrev decreases-loop : tie.decreases-loop-n
 decreases-loop text at all₀ n₀ all n = 16 - n
 
-loop-holds : tie.Need-loop-init invariant-loop decreases-loop
-loop-holds c = (omega arith, λ e. span_none _ _ _ _ (omega arith) (omega arith))
+loop-n-init : tie.Need-loop-n-init invariant-loop decreases-loop
+loop-n-init c = (omega arith, λ e. span_none _ _ _ _ (omega arith) (omega arith))
 
-loop-again : tie.Need-loop-preserved invariant-loop decreases-loop
-loop-again c =
+loop-n-preserved : tie.Need-loop-n-preserved invariant-loop decreases-loop
+loop-n-preserved c =
     let l = c.before.before in
-    let a = l.before.args in
+    let a = l.args in
     let s = a.text.now in
-    let j = a.at + l.loop.n in (
+    let j = a.at + l.loop-n.n in (
       omega arith,
       λ e.
-          let p = (and-eq-true_iff l.loop.all (leb (get_or s j 0) 0x7F)).0 e in
+          let p = (and-eq-true_iff l.loop-n.all (leb (get_or s j 0) 0x7F)).0 e in
           let b = leb-true (get_or s j 0) 0x7F p.1 in
-          span_next _ s a.at j _ (l.loop.invariant.1 p.0) (omega arith) (omega arith) (omega arith),
+          span_next _ s a.at j _ (l.loop-n.invariant.1 p.0) (omega arith) (omega arith) (omega arith),
     )
 
 returns : tie.Need-returns invariant-loop decreases-loop
 returns c =
-    let l = c.before.loop in
+    let l = c.loop-n in
     let o : l.n ≡ 16 = omega arith in rw o at l.invariant.1
 
-pub ascii-block-spec : {M : Type 1} → statement M
-ascii-block-spec =
-    tie.close (tie.spec invariant-loop decreases-loop loop-holds (λ c. omega arith) (λ c. omega arith) (λ c. omega arith) (λ c. omega arith) loop-again returns)
+pub ascii_block_spec : {M : Type 1} → statement M
+ascii_block_spec =
+    tie.close (tie.spec invariant-loop decreases-loop loop-n-init (λ c. omega arith) (λ c. omega arith) (λ c. omega arith) (λ c. omega arith) loop-n-preserved returns)

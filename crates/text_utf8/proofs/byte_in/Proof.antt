@@ -9,26 +9,26 @@ use Rattle.text_utf8.proofs.Chars.{byte_meets, byte_misses, end_misses}
 use Rattle.text_utf8.proofs.byte_in.Statement.{statement}
 use Rattle.text_utf8.proofs.byte_in.Tie as tie
 
-returns : tie.Need-returns
-returns c =
-    let a = c.before.before.before.before.args in
+returns-then-b-high : tie.Need-returns-then-b-high
+returns-then-b-high c =
+    let a = c.args in
     sym (byte_meets (range a.low a.high) a.text.now a.at (omega arith) (within_in a.low a.high _ (omega arith) (omega arith)))
 
-returns-2 : tie.Need-returns-2
-returns-2 c =
-    let a = c.before.before.before.before.args in
+returns-else-b-high : tie.Need-returns-else-b-high
+returns-else-b-high c =
+    let a = c.args in
     sym (byte_misses (range a.low a.high) a.text.now a.at (omega arith) (within_over (range a.low a.high) _ (omega arith)))
 
-returns-3 : tie.Need-returns-3
-returns-3 c =
-    let a = c.before.before.before.args in
+returns-else-low-b : tie.Need-returns-else-low-b
+returns-else-low-b c =
+    let a = c.args in
     sym (byte_misses (range a.low a.high) a.text.now a.at (omega arith) (within_under (range a.low a.high) _ (omega arith)))
 
-returns-4 : tie.Need-returns-4
-returns-4 c =
-    let a = c.before.args in
+returns-else-at-text : tie.Need-returns-else-at-text
+returns-else-at-text c =
+    let a = c.args in
     sym (end_misses (range a.low a.high) a.text.now a.at (omega arith))
 
-pub byte-in-spec : {M : Type 1} → statement M
-byte-in-spec =
-    tie.close (tie.spec (λ c. search rules) returns returns-2 returns-3 returns-4)
+pub byte_in_spec : {M : Type 1} → statement M
+byte_in_spec =
+    tie.close (tie.spec (λ c. search rules) returns-then-b-high returns-else-b-high returns-else-low-b returns-else-at-text)

@@ -13,69 +13,69 @@ use Rattle.text_utf8.proofs.Chars.{length_follows, length_none}
 use Rattle.text_utf8.proofs.char_len.Statement.{statement}
 use Rattle.text_utf8.proofs.char_len.Tie as tie
 
-returns : tie.Need-returns
-returns c =
-    let a = c.before.before.before.before.args in
+returns-in-224 : tie.Need-returns-in-224
+returns-in-224 c =
+    let a = c.args in
     let h : a.at < length a.text.now = omega arith in
     c.three.ensures ∙ sym (length_follows a.text.now a.at h (range 0xA0 0xBF ∷ tail ∷ []) (lead_e0 _ (omega arith)))
 
-returns-2 : tie.Need-returns-2
-returns-2 c =
-    let a = c.before.before.before.before.args in
+returns-in-237 : tie.Need-returns-in-237
+returns-in-237 c =
+    let a = c.args in
     let h : a.at < length a.text.now = omega arith in
-    c.three2.ensures ∙ sym (length_follows a.text.now a.at h (range 0x80 0x9F ∷ tail ∷ []) (lead_ed _ (omega arith)))
+    c.three-in-237.ensures ∙ sym (length_follows a.text.now a.at h (range 0x80 0x9F ∷ tail ∷ []) (lead_ed _ (omega arith)))
 
-returns-3 : tie.Need-returns-3
-returns-3 c =
-    let a = c.before.before.before.before.args in
+returns-in-240 : tie.Need-returns-in-240
+returns-in-240 c =
+    let a = c.args in
     let h : a.at < length a.text.now = omega arith in
     c.four.ensures ∙ sym (length_follows a.text.now a.at h (range 0x90 0xBF ∷ tail ∷ tail ∷ []) (lead_f0 _ (omega arith)))
 
-returns-4 : tie.Need-returns-4
-returns-4 c =
-    let a = c.before.before.before.before.args in
+returns-in-244 : tie.Need-returns-in-244
+returns-in-244 c =
+    let a = c.args in
     let h : a.at < length a.text.now = omega arith in
-    c.four2.ensures ∙ sym (length_follows a.text.now a.at h (range 0x80 0x8F ∷ tail ∷ tail ∷ []) (lead_f4 _ (omega arith)))
+    c.four-in-244.ensures ∙ sym (length_follows a.text.now a.at h (range 0x80 0x8F ∷ tail ∷ tail ∷ []) (lead_f4 _ (omega arith)))
 
-returns-5 : tie.Need-returns-5
+returns-in-0-to-127 : tie.Need-returns-in-0-to-127
 unfolding meets
-returns-5 c =
-    let a = c.before.before.before.before.args in
+returns-in-0-to-127 c =
+    let a = c.args in
     let h : a.at < length a.text.now = omega arith in
     sym (length_follows a.text.now a.at h [] (lead_1 _ (omega arith)))
 
-returns-6 : tie.Need-returns-6
-returns-6 c =
-    let a = c.before.before.before.before.before.before.before.args in
+returns-in-194-to-223 : tie.Need-returns-in-194-to-223
+returns-in-194-to-223 c =
+    let a = c.args in
     let h : a.at < length a.text.now = omega arith in
     c.two.ensures ∙ sym (length_follows a.text.now a.at h (tail ∷ []) (lead_2 _ (omega arith) (omega arith)))
 
-returns-7 : tie.Need-returns-7
-returns-7 c =
-    let a = c.before.before.before.before.before.before.before.before.args in
+returns-in-225-to-239 : tie.Need-returns-in-225-to-239
+returns-in-225-to-239 c =
+    let a = c.args in
     let h : a.at < length a.text.now = omega arith in
-    c.three3.ensures ∙ sym (length_follows a.text.now a.at h (tail ∷ tail ∷ []) (lead_3 _ (omega arith) (omega arith) (omega arith) (omega arith)))
+    c.three-in-225-to-239.ensures ∙ sym (length_follows a.text.now a.at h (tail ∷ tail ∷ []) (lead_3 _ (omega arith) (omega arith) (omega arith) (omega arith)))
 
-returns-8 : tie.Need-returns-8
-returns-8 c =
-    let a = c.before.before.before.before.before.before.before.before.before.args in
+returns-in-241-to-243 : tie.Need-returns-in-241-to-243
+returns-in-241-to-243 c =
+    let a = c.args in
     let h : a.at < length a.text.now = omega arith in
-    c.four3.ensures ∙ sym (length_follows a.text.now a.at h (tail ∷ tail ∷ tail ∷ []) (lead_f1 _ (omega arith) (omega arith)))
+    c.four-in-241-to-243.ensures ∙ sym (length_follows a.text.now a.at h (tail ∷ tail ∷ tail ∷ []) (lead_f1 _ (omega arith) (omega arith)))
 
-returns-9 : tie.Need-returns-9
-returns-9 c =
-    let a = c.before.before.before.before.before.args in
+returns-in_default : tie.Need-returns-in_default
+returns-in_default c =
+    let a = c.args in
     let h : a.at < length a.text.now = omega arith in
     sym (length_none a.text.now a.at h (lead_80 _ (omega arith) (omega arith)))
 
-returns-10 : tie.Need-returns-10
-returns-10 c =
-    let a = c.before.before.before.before.before.before.before.before.args in
+returns-in_default-2 : tie.Need-returns-in_default-2
+returns-in_default-2 c =
+    let a = c.args in
     let h : a.at < length a.text.now = omega arith in
     sym (length_none a.text.now a.at h (lead_f5 _ (omega arith)))
 
-pub char-len-spec : {M : Type 1} → statement M
-char-len-spec =
+pub char_len_spec : {M : Type 1} → statement M
+char_len_spec =
     tie.close (tie.spec (λ c. search rules) (λ c. search rules) (λ c κs. search rules) (λ c κs. search rules) (λ c κs. search rules)
-    (λ c κs. search rules) (λ c κs. search rules) (λ c κs. search rules) (λ c κs. search rules) returns returns-2 returns-3 returns-4 returns-5
-    returns-6 returns-7 returns-8 returns-9 returns-10)
+    (λ c κs. search rules) (λ c κs. search rules) (λ c κs. search rules) (λ c κs. search rules) returns-in-224 returns-in-237 returns-in-240 returns-in-244 returns-in-0-to-127
+    returns-in-194-to-223 returns-in-225-to-239 returns-in-241-to-243 returns-in_default returns-in_default-2)

@@ -12,21 +12,21 @@ use Rattle.text_utf8.proofs.three.Statement.{statement}
 use Rattle.text_utf8.proofs.three.Tie as tie
 
 -- where the first byte is as it has to be, the test is the one of the second
-second : (c : tie.After-byte-in2) → let a = c.before.before.before.before.args in
-    meets (range a.low a.high ∷ tail ∷ []) (drop a.at a.text.now) ≡ c.byte-in2.result
+second : (c : tie.After-byte_in-then-byte_in) → let a = c.args in
+    meets (range a.low a.high ∷ tail ∷ []) (drop a.at a.text.now) ≡ c.byte_in-then-byte_in.result
 second c =
     let t = c.before in
-    let a = t.before.before.before.args in
-    meets_next (range a.low a.high) (tail ∷ []) a.text.now a.at _ t.before.byte-in.ensures t.if1.true ∙ sym c.byte-in2.ensures
+    let a = t.args in
+    meets_next (range a.low a.high) (tail ∷ []) a.text.now a.at _ t.byte_in.ensures t.if-byte_in.true ∙ sym c.byte_in-then-byte_in.ensures
 
-returns-3 : tie.Need-returns-3
-returns-3 c =
-    let a = c.before.before.before.args in
+returns-else-byte_in : tie.Need-returns-else-byte_in
+returns-else-byte_in c =
+    let a = c.args in
     sym
     (ap (λ x. cond x 3 0)
-    (misses_next (range a.low a.high) (tail ∷ []) a.text.now a.at _ c.before.byte-in.ensures c.if1.false))
+    (misses_next (range a.low a.high) (tail ∷ []) a.text.now a.at _ c.byte_in.ensures c.if-byte_in.false))
 
-pub three-spec : {M : Type 1} → statement M
-three-spec =
+pub three_spec : {M : Type 1} → statement M
+three_spec =
     tie.close (tie.spec (λ c κs. search rules) (λ c. search rules) (λ c κs. search rules)
-    (λ c. sym (ap (λ x. cond x 3 0) (second c.before ∙ c.if2.true))) (λ c. sym (ap (λ x. cond x 3 0) (second c.before ∙ c.if2.false))) returns-3)
+    (λ c. sym (ap (λ x. cond x 3 0) (second c.before ∙ c.if-byte_in-2.true))) (λ c. sym (ap (λ x. cond x 3 0) (second c.before ∙ c.if-byte_in-2.false))) returns-else-byte_in)

@@ -6,12 +6,12 @@ use mathlib.Core.Bool.{cond}
 use Rattle.text_utf8.proofs.two.Statement.{statement}
 use Rattle.text_utf8.proofs.two.Tie as tie
 
+returns-then-byte_in : tie.Need-returns-then-byte_in
+returns-then-byte_in c = ap (λ x. cond x 2 0) (sym c.if-byte_in.true ∙ c.byte_in.ensures)
+
 returns : tie.Need-returns
-returns c = ap (λ x. cond x 2 0) (sym c.if1.true ∙ c.before.byte-in.ensures)
+returns c = ap (λ x. cond x 2 0) (sym c.if-byte_in.false ∙ c.byte_in.ensures)
 
-returns-2 : tie.Need-returns-2
-returns-2 c = ap (λ x. cond x 2 0) (sym c.if1.false ∙ c.before.byte-in.ensures)
-
-pub two-spec : {M : Type 1} → statement M
-two-spec =
-    tie.close (tie.spec (λ c κs. search rules) returns returns-2)
+pub two_spec : {M : Type 1} → statement M
+two_spec =
+    tie.close (tie.spec (λ c κs. search rules) returns-then-byte_in returns)
