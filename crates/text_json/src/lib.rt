@@ -1,4 +1,6 @@
 // Reading JSON (RFC 8259) in place: a position in the text goes in, and where the reading ended comes out.
+#![tactic(auto)]
+
 pub mod bytes;
 pub mod space;
 

@@ -5,14 +5,14 @@ use Rattle.text_json.specs.Bytes.{between}
 use Rattle.text_json.proofs.bytes.between.Statement.{statement}
 use Rattle.text_json.proofs.bytes.between.Tie as tie
 
-returns : tie.Need-returns
+returns-then-low-n : tie.Need-returns-then-low-n
 unfolding between
-returns c = simp (le-leb _ _ c.if1.true)
+returns-then-low-n c = simp (le-leb _ _ c.if-low-n.true)
 
-returns-2 : tie.Need-returns-2
+returns-else-low-n : tie.Need-returns-else-low-n
 unfolding between
-returns-2 c = simp (lt-leb _ _ c.if1.false)
+returns-else-low-n c = simp (lt-leb _ _ c.if-low-n.false)
 
-pub between-spec : {M : Type 1} → statement M
-between-spec =
-    tie.close (tie.spec returns returns-2)
+pub between_spec : {M : Type 1} → statement M
+between_spec =
+    tie.close (tie.spec returns-then-low-n returns-else-low-n)

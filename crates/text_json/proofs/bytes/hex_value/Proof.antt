@@ -9,25 +9,25 @@ use Rattle.text_json.proofs.ByteTests.{hex_low, hex_lower}
 use Rattle.text_json.proofs.bytes.hex_value.Statement.{statement}
 use Rattle.text_json.proofs.bytes.hex_value.Tie as tie
 
-sub-result : tie.Need-overflow-sub-result
-sub-result c = hex_low _ c.before.requires
+overflow_sub-result : tie.Need-overflow_sub-result
+overflow_sub-result c = hex_low _ c.requires
 
-sub-result-3 : tie.Need-overflow-sub-result-3
-sub-result-3 c = omega (arith, hex_lower _ c.before.before.requires c.if2.false)
+overflow_sub-result-else-b-le70 : tie.Need-overflow_sub-result-else-b-le70
+overflow_sub-result-else-b-le70 c = omega (arith, hex_lower _ c.requires c.if-b-le70.false)
 
-returns : tie.Need-returns
+returns-then-b-le57 : tie.Need-returns-then-b-le57
 unfolding hex_value
-returns c = rw (hex_value, le-leb _ _ c.if1.true)
+returns-then-b-le57 c = rw (hex_value, le-leb _ _ c.if-b-le57.true)
 
-returns-2 : tie.Need-returns-2
+returns-then-b-le70 : tie.Need-returns-then-b-le70
 unfolding hex_value
-returns-2 c = rw (hex_value, lt-leb _ _ c.before.if1.false, le-leb _ _ c.if2.true)
+returns-then-b-le70 c = rw (hex_value, lt-leb _ _ c.if-b-le57.false, le-leb _ _ c.if-b-le70.true)
 
-returns-3 : tie.Need-returns-3
+returns-else-b-le70 : tie.Need-returns-else-b-le70
 unfolding hex_value
-returns-3 c = rw (hex_value, lt-leb _ _ c.before.if1.false, lt-leb _ _ c.if2.false)
+returns-else-b-le70 c = rw (hex_value, lt-leb _ _ c.if-b-le57.false, lt-leb _ _ c.if-b-le70.false)
 
-pub hex-value-spec : {M : Type 1} → statement M
-hex-value-spec =
-    tie.close (tie.spec sub-result (λ c. search rules) (λ c. search rules) (λ c. search rules) sub-result-3 (λ c. search rules) returns returns-2
-    returns-3)
+pub hex_value_spec : {M : Type 1} → statement M
+hex_value_spec =
+    tie.close (tie.spec overflow_sub-result (λ c. search rules) (λ c. search rules) (λ c. search rules) overflow_sub-result-else-b-le70 (λ c. search rules) returns-then-b-le57 returns-then-b-le70
+    returns-else-b-le70)

@@ -5,7 +5,7 @@ use Rattle.text_json.specs.Content.{is_control}
 use Rattle.text_json.proofs.bytes.is_control.Statement.{statement}
 use Rattle.text_json.proofs.bytes.is_control.Tie as tie
 
-pub is-control-spec : {M : Type 1} → statement M
+pub is_control_spec : {M : Type 1} → statement M
 unfolding is_control
-is-control-spec =
-    tie.close (tie.spec (λ c. simp (le-leb _ _ c.if1.true)) (λ c. simp (lt-leb _ _ c.if1.false)))
+is_control_spec =
+    tie.close (tie.spec (λ c. simp (le-leb _ _ c.if-b-le31.true)) (λ c. simp (lt-leb _ _ c.if-b-le31.false)))

@@ -9,6 +9,6 @@ returns : tie.Need-returns
 unfolding is_digit
 returns c = c.between.ensures
 
-pub is-digit-spec : {M : Type 1} → statement M
-is-digit-spec =
+pub is_digit_spec : {M : Type 1} → statement M
+is_digit_spec =
     tie.close (tie.spec (λ c κs. search rules) returns)

@@ -5,7 +5,7 @@ use Rattle.text_json.specs.Bytes.{is_exp}
 use Rattle.text_json.proofs.bytes.is_exp.Statement.{statement}
 use Rattle.text_json.proofs.bytes.is_exp.Tie as tie
 
-pub is-exp-spec : {M : Type 1} → statement M
+pub is_exp_spec : {M : Type 1} → statement M
 unfolding is_exp
-is-exp-spec =
-    tie.close (tie.spec (λ c. rw c.if1.true) (λ c. simp (ne_eqb _ _ c.if1.false)))
+is_exp_spec =
+    tie.close (tie.spec (λ c. rw c.if-b-eq101.true) (λ c. simp (ne_eqb _ _ c.if-b-eq101.false)))

@@ -5,21 +5,21 @@ use Rattle.text_json.specs.Bytes.{is_hex}
 use Rattle.text_json.proofs.bytes.is_hex.Statement.{statement}
 use Rattle.text_json.proofs.bytes.is_hex.Tie as tie
 
-returns : tie.Need-returns
+returns-then-between : tie.Need-returns-then-between
 unfolding is_hex
-returns c = rw (← c.before.between.ensures, c.if1.true)
+returns-then-between c = rw (← c.between.ensures, c.if-between.true)
 
-returns-2 : tie.Need-returns-2
+returns-then-between-2 : tie.Need-returns-then-between-2
 unfolding is_hex
-returns-2 c =
-    rw (← c.before.between2.ensures, ← c.before.before.before.between.ensures, c.before.before.if1.false, c.if2.true)
+returns-then-between-2 c =
+    rw (← c.between-else-between.ensures, ← c.between.ensures, c.if-between.false, c.if-between-2.true)
 
-returns-3 : tie.Need-returns-3
+returns-else-between-2 : tie.Need-returns-else-between-2
 unfolding is_hex
-returns-3 c =
+returns-else-between-2 c =
     let at2 = c.before.before in
-    rw (← c.between3.ensures, ← at2.between2.ensures, ← at2.before.before.between.ensures, at2.before.if1.false, c.before.if2.false)
+    rw (← c.between-else-between-2.ensures, ← at2.between-else-between.ensures, ← at2.between.ensures, at2.if-between.false, c.if-between-2.false)
 
-pub is-hex-spec : {M : Type 1} → statement M
-is-hex-spec =
-    tie.close (tie.spec (λ c κs. search rules) (λ c κs. search rules) (λ c κs. search rules) returns returns-2 returns-3)
+pub is_hex_spec : {M : Type 1} → statement M
+is_hex_spec =
+    tie.close (tie.spec (λ c κs. search rules) (λ c κs. search rules) (λ c κs. search rules) returns-then-between returns-then-between-2 returns-else-between-2)

@@ -5,7 +5,7 @@ use Rattle.text_json.specs.Bytes.{is_plain}
 use Rattle.text_json.proofs.bytes.is_plain.Statement.{statement}
 use Rattle.text_json.proofs.bytes.is_plain.Tie as tie
 
-pub is-plain-spec : {M : Type 1} → statement M
+pub is_plain_spec : {M : Type 1} → statement M
 unfolding is_plain
-is-plain-spec =
+is_plain_spec =
     tie.close (tie.spec (λ c. refl))

@@ -5,21 +5,21 @@ use Rattle.text_json.specs.Bytes.{is_short}
 use Rattle.text_json.proofs.bytes.is_short.Statement.{statement}
 use Rattle.text_json.proofs.bytes.is_short.Tie as tie
 
-returns-8 : tie.Need-returns-8
+returns-else-b-eq114 : tie.Need-returns-else-b-eq114
 unfolding is_short
-returns-8 c =
+returns-else-b-eq114 c =
     simp (
-      ne_eqb _ _ c.before.before.before.before.before.before.if1.false,
-      ne_eqb _ _ c.before.before.before.before.before.if2.false,
-      ne_eqb _ _ c.before.before.before.before.if3.false,
-      ne_eqb _ _ c.before.before.before.if4.false,
-      ne_eqb _ _ c.before.before.if5.false,
-      ne_eqb _ _ c.before.if6.false,
-      ne_eqb _ _ c.if7.false,
+      ne_eqb _ _ c.if-b-eq34.false,
+      ne_eqb _ _ c.if-b-eq92.false,
+      ne_eqb _ _ c.if-b-eq47.false,
+      ne_eqb _ _ c.if-b-eq98.false,
+      ne_eqb _ _ c.if-b-eq102.false,
+      ne_eqb _ _ c.if-b-eq110.false,
+      ne_eqb _ _ c.if-b-eq114.false,
     )
 
-pub is-short-spec : {M : Type 1} → statement M
+pub is_short_spec : {M : Type 1} → statement M
 unfolding is_short
-is-short-spec =
-    tie.close (tie.spec (λ c. rw c.if1.true) (λ c. rw c.if2.true) (λ c. rw c.if3.true) (λ c. rw c.if4.true)
-    (λ c. rw c.if5.true) (λ c. rw c.if6.true) (λ c. rw c.if7.true) returns-8)
+is_short_spec =
+    tie.close (tie.spec (λ c. rw c.if-b-eq34.true) (λ c. rw c.if-b-eq92.true) (λ c. rw c.if-b-eq47.true) (λ c. rw c.if-b-eq98.true)
+    (λ c. rw c.if-b-eq102.true) (λ c. rw c.if-b-eq110.true) (λ c. rw c.if-b-eq114.true) returns-else-b-eq114)

@@ -5,7 +5,7 @@ use Rattle.text_json.specs.Bytes.{is_sign}
 use Rattle.text_json.proofs.bytes.is_sign.Statement.{statement}
 use Rattle.text_json.proofs.bytes.is_sign.Tie as tie
 
-pub is-sign-spec : {M : Type 1} → statement M
+pub is_sign_spec : {M : Type 1} → statement M
 unfolding is_sign
-is-sign-spec =
-    tie.close (tie.spec (λ c. rw c.if1.true) (λ c. simp (ne_eqb _ _ c.if1.false)))
+is_sign_spec =
+    tie.close (tie.spec (λ c. rw c.if-b-eq45.true) (λ c. simp (ne_eqb _ _ c.if-b-eq45.false)))

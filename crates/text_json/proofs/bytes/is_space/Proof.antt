@@ -5,8 +5,8 @@ use Rattle.text_json.specs.Bytes.{is_space}
 use Rattle.text_json.proofs.bytes.is_space.Statement.{statement}
 use Rattle.text_json.proofs.bytes.is_space.Tie as tie
 
-pub is-space-spec : {M : Type 1} → statement M
+pub is_space_spec : {M : Type 1} → statement M
 unfolding is_space
-is-space-spec =
-    tie.close (tie.spec (λ c. rw c.if1.true) (λ c. rw c.if2.true) (λ c. rw c.if3.true)
-    (λ c. simp (ne_eqb _ _ c.before.before.if1.false, ne_eqb _ _ c.before.if2.false, ne_eqb _ _ c.if3.false)))
+is_space_spec =
+    tie.close (tie.spec (λ c. rw c.if-b-eq32.true) (λ c. rw c.if-b-eq10.true) (λ c. rw c.if-b-eq13.true)
+    (λ c. simp (ne_eqb _ _ c.if-b-eq32.false, ne_eqb _ _ c.if-b-eq10.false, ne_eqb _ _ c.if-b-eq13.false)))

@@ -5,10 +5,10 @@ use Rattle.text_json.specs.Bytes.{short_value}
 use Rattle.text_json.proofs.bytes.short_value.Statement.{statement}
 use Rattle.text_json.proofs.bytes.short_value.Tie as tie
 
-returns-6 : tie.Need-returns-6
+returns-in_default : tie.Need-returns-in_default
 unfolding short_value
-returns-6 c =
-    let rest = c.match.rest in
+returns-in_default c =
+    let rest = c.in_default.in_default-own.rest in
     simp (
       short_value,
       ne_eqb _ _ rest.1,
@@ -18,8 +18,8 @@ returns-6 c =
       ne_eqb _ _ rest.0.0.0.0.1,
     )
 
-pub short-value-spec : {M : Type 1} → statement M
+pub short_value_spec : {M : Type 1} → statement M
 unfolding short_value
-short-value-spec =
-    tie.close (tie.spec (λ c. rw c.match.keys1) (λ c. rw c.match.keys2) (λ c. rw c.match.keys3) (λ c. rw c.match.keys4)
-    (λ c. rw c.match.keys5) returns-6)
+short_value_spec =
+    tie.close (tie.spec (λ c. rw c.in-98.is) (λ c. rw c.in-102.is) (λ c. rw c.in-110.is) (λ c. rw c.in-114.is)
+    (λ c. rw c.in-116.is) returns-in_default)

@@ -11,33 +11,33 @@ use Rattle.text_json.proofs.Words.{spaces_more, spaces_stop, spaces_end}
 use Rattle.text_json.proofs.space.skip_spaces.Statement.{statement}
 use Rattle.text_json.proofs.space.skip_spaces.Tie as tie
 
-abbrev invariant-loop : tie.invariant-loop
+abbrev invariant-loop : tie.invariant-loop-i
 invariant-loop s at i₀ i = (at ≤ i) × (i ≤ length s) × (spaces (drop at s) ≡ spaces (drop i s))
 
-abbrev decreases-loop : tie.decreases-loop
+abbrev decreases-loop : tie.decreases-loop-i
 decreases-loop s at i₀ i = length s - i
 
-loop-holds : tie.Need-loop-init invariant-loop decreases-loop
-loop-holds c = (omega arith, c.before.requires, refl)
+loop-i-init : tie.Need-loop-i-init invariant-loop decreases-loop
+loop-i-init c = (omega arith, c.requires, refl)
+
+returns-then-not-is_space : tie.Need-returns-then-not-is_space invariant-loop decreases-loop
+returns-then-not-is_space c =
+    let inv = c.loop-i.invariant in
+    let other = sym c.is_space.ensures ∙ not-true _ c.if-not-is_space.true-raw in
+    (inv.0, (inv.1, inv.2 ∙ spaces_stop _ _ c.loop-i-test.true other))
+
+loop-i-preserved : tie.Need-loop-i-preserved invariant-loop decreases-loop
+loop-i-preserved c =
+    let inv = c.loop-i.invariant in
+    let space = sym c.is_space.ensures ∙ not-false _ c.if-not-is_space.false-raw in
+    (omega arith, omega arith, inv.2 ∙ spaces_more _ _ c.loop-i-test.true space)
 
 returns : tie.Need-returns invariant-loop decreases-loop
 returns c =
-    let inv = c.before.before.before.before.loop.invariant in
-    let other = sym c.before.is-space.ensures ∙ not-true _ c.if1.true in
-    (inv.0, (inv.1, inv.2 ∙ spaces_stop _ _ c.before.before.before.loop-test.true other))
+    let inv = c.loop-i.invariant in
+    (inv.0, (inv.1, inv.2 ∙ spaces_end _ _ c.loop-i-test.false))
 
-loop-again : tie.Need-loop-preserved invariant-loop decreases-loop
-loop-again c =
-    let inv = c.before.before.before.before.loop.invariant in
-    let space = sym c.before.is-space.ensures ∙ not-false _ c.if1.false in
-    (omega arith, omega arith, inv.2 ∙ spaces_more _ _ c.before.before.before.loop-test.true space)
-
-returns-2 : tie.Need-returns-2 invariant-loop decreases-loop
-returns-2 c =
-    let inv = c.before.loop.invariant in
-    (inv.0, (inv.1, inv.2 ∙ spaces_end _ _ c.loop-test.false))
-
-pub skip-spaces-spec : {M : Type 1} → statement M
-skip-spaces-spec =
-    tie.close (tie.spec invariant-loop decreases-loop loop-holds (λ c. omega arith) (λ c κs. search rules) returns (λ c. omega arith) (λ c. omega arith) loop-again
-    returns-2)
+pub skip_spaces_spec : {M : Type 1} → statement M
+skip_spaces_spec =
+    tie.close (tie.spec invariant-loop decreases-loop loop-i-init (λ c. omega arith) (λ c κs. search rules) returns-then-not-is_space (λ c. omega arith) (λ c. omega arith) loop-i-preserved
+    returns)
