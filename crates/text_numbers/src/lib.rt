@@ -1,4 +1,6 @@
 // Numbers (RFC 8259, section 6): where one ends, whether it is refused, and how long its canonical form is.
+#![tactic(auto)]
+
 ghost use Rattle.std.specs.Prelude.{◌≡◌, ◌+◌, ◌*◌, ◌≤◌, ◌<◌, length, drop};
 ghost use Rattle.text_json.specs.Read.{read_some_digits, read_signed, read_frac, read_exp, read_unsigned, read_number};
 ghost use Rattle.text_json.specs.Content.{refused_number};

@@ -8,21 +8,21 @@ use Rattle.text_numbers.proofs.Numerals.{within_minus, within_plain}
 use Rattle.text_numbers.proofs.number.Statement.{statement}
 use Rattle.text_numbers.proofs.number.Tie as tie
 
-returns : tie.Need-returns
-returns c = (omega arith, scans_stuck _ _ c.before.before.requires _ _ _ (number_end _ _ c.if1.true))
+returns-then-s-at : tie.Need-returns-then-s-at
+returns-then-s-at c = (omega arith, scans_stuck _ _ c.requires _ _ _ (number_end _ _ c.if-s-at.true))
 
-returns-2 : tie.Need-returns-2
-returns-2 c =
+returns-then-s-at-eq45 : tie.Need-returns-then-s-at-eq45
+returns-then-s-at-eq45 c =
     let start = c.before.before.before.before.before in
-    let read = number_minus start.args.s.now start.args.at c.before.before.before.if1.false c.before.if2.true in
+    let read = number_minus start.args.s.now start.args.at c.if-s-at.false c.if-s-at-eq45.true in
     (within_minus start.args.at c.unsigned.result c.unsigned.ensures.0, rw read c.unsigned.ensures.1)
 
-returns-3 : tie.Need-returns-3
-returns-3 c =
+returns-else-s-at-eq45 : tie.Need-returns-else-s-at-eq45
+returns-else-s-at-eq45 c =
     let start = c.before.before.before.before.before in
-    let read = number_plain start.args.s.now start.args.at c.before.before.before.if1.false c.before.if2.false in
-    (within_plain start.args.at c.unsigned2.result c.unsigned2.ensures.0, rw read c.unsigned2.ensures.1)
+    let read = number_plain start.args.s.now start.args.at c.if-s-at.false c.if-s-at-eq45.false in
+    (within_plain start.args.at c.unsigned-else-s-at-eq45.result c.unsigned-else-s-at-eq45.ensures.0, rw read c.unsigned-else-s-at-eq45.ensures.1)
 
-pub number-spec : {M : Type 1} → statement M
-number-spec =
-    tie.close (tie.spec returns (λ c. search rules) (λ c. search rules) (λ c κs. search rules) (λ c κs. search rules) returns-2 returns-3)
+pub number_spec : {M : Type 1} → statement M
+number_spec =
+    tie.close (tie.spec returns-then-s-at (λ c. search rules) (λ c. search rules) (λ c κs. search rules) (λ c κs. search rules) returns-then-s-at-eq45 returns-else-s-at-eq45)

@@ -6,22 +6,22 @@ use Rattle.text_numbers.specs.Parts.{refused_parts}
 use Rattle.text_numbers.proofs.refuses.Statement.{statement}
 use Rattle.text_numbers.proofs.refuses.Tie as tie
 
-returns : tie.Need-returns
+returns-then-not-whole : tie.Need-returns-then-not-whole
 unfolding refused_parts limit
-returns c = rw (not-true c.before.args.whole c.if1.true)
+returns-then-not-whole c = rw (not-true c.args.whole c.if-not-whole.true-raw)
 
-returns-2 : tie.Need-returns-2
+returns-then-n-eq0 : tie.Need-returns-then-n-eq0
 unfolding refused_parts limit
-returns-2 c = rw (not-false c.before.before.before.args.whole c.before.before.if1.false, c.before.if2.true, c.if3.true)
+returns-then-n-eq0 c = rw (not-false c.args.whole c.if-not-whole.false-raw, c.if-negative.true, c.if-n-eq0.true)
 
-returns-3 : tie.Need-returns-3
+returns-else-n-eq0 : tie.Need-returns-else-n-eq0
 unfolding refused_parts limit
-returns-3 c = rw (not-false c.before.before.before.args.whole c.before.before.if1.false, c.before.if2.true, ne_eqb _ _ c.if3.false)
+returns-else-n-eq0 c = rw (not-false c.args.whole c.if-not-whole.false-raw, c.if-negative.true, ne_eqb _ _ c.if-n-eq0.false)
 
-returns-4 : tie.Need-returns-4
+returns-else-negative : tie.Need-returns-else-negative
 unfolding refused_parts limit
-returns-4 c = rw (not-false c.before.before.args.whole c.before.if1.false, c.if2.false)
+returns-else-negative c = rw (not-false c.args.whole c.if-not-whole.false-raw, c.if-negative.false)
 
-pub refuses-spec : {M : Type 1} → statement M
-refuses-spec =
-    tie.close (tie.spec returns returns-2 returns-3 returns-4)
+pub refuses_spec : {M : Type 1} → statement M
+refuses_spec =
+    tie.close (tie.spec returns-then-not-whole returns-then-n-eq0 returns-else-n-eq0 returns-else-negative)

@@ -9,26 +9,26 @@ use Rattle.text_numbers.proofs.Numerals.{reaches_from}
 use Rattle.text_numbers.proofs.signed.Statement.{statement}
 use Rattle.text_numbers.proofs.signed.Tie as tie
 
-returns : tie.Need-returns
-returns c = record { past = omega arith; inside = c.before.before.requires; read = signed_end _ _ c.if1.true }
+returns-then-s-at : tie.Need-returns-then-s-at
+returns-then-s-at c = record { past = omega arith; inside = c.requires; read = signed_end _ _ c.if-s-at.true }
 
-returns-2 : tie.Need-returns-2
-returns-2 c =
+returns-then-is_sign : tie.Need-returns-then-is_sign
+returns-then-is_sign c =
     let sign = c.before.before in
-    let s = sign.before.before.before.before.args.s.now in
-    let at = sign.before.before.before.before.args.at in
-    let read = signed_more s at sign.before.before.if1.false (sym sign.is-sign.ensures ∙ c.before.if2.true) in
-    reaches_from s at (at + 1) _ _ c.some-digits.result (omega arith) read c.some-digits.ensures
+    let s = sign.args.s.now in
+    let at = sign.args.at in
+    let read = signed_more s at sign.if-s-at.false (sym sign.is_sign.ensures ∙ c.if-is_sign.true) in
+    reaches_from s at (at + 1) _ _ c.some_digits.result (omega arith) read c.some_digits.ensures
 
-returns-3 : tie.Need-returns-3
-returns-3 c =
+returns-else-is_sign : tie.Need-returns-else-is_sign
+returns-else-is_sign c =
     let sign = c.before.before in
-    let s = sign.before.before.before.before.args.s.now in
-    let at = sign.before.before.before.before.args.at in
-    let read = signed_stop s at sign.before.before.if1.false (sym sign.is-sign.ensures ∙ c.before.if2.false) in
-    reaches_from s at at _ _ c.some-digits2.result (omega arith) read c.some-digits2.ensures
+    let s = sign.args.s.now in
+    let at = sign.args.at in
+    let read = signed_stop s at sign.if-s-at.false (sym sign.is_sign.ensures ∙ c.if-is_sign.false) in
+    reaches_from s at at _ _ c.some_digits-else-is_sign.result (omega arith) read c.some_digits-else-is_sign.ensures
 
-pub signed-spec : {M : Type 1} → statement M
-signed-spec =
-    tie.close (tie.spec returns (λ c. search rules) (λ c κs. search rules) (λ c. search rules) (λ c κs. search rules) (λ c κs. search rules) returns-2
-    returns-3)
+pub signed_spec : {M : Type 1} → statement M
+signed_spec =
+    tie.close (tie.spec returns-then-s-at (λ c. search rules) (λ c κs. search rules) (λ c. search rules) (λ c κs. search rules) (λ c κs. search rules) returns-then-is_sign
+    returns-else-is_sign)

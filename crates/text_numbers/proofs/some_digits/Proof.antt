@@ -9,22 +9,22 @@ use Rattle.text_numbers.proofs.NumberSteps.{some_end, some_more, some_stop}
 use Rattle.text_numbers.proofs.some_digits.Statement.{statement}
 use Rattle.text_numbers.proofs.some_digits.Tie as tie
 
-returns-2 : tie.Need-returns-2
-returns-2 c =
-    let other = sym c.before.is_digit.ensures ∙ not-true _ c.if2.true in
-    record { past = omega arith; inside = omega arith; read = some_stop _ _ c.before.before.before.if1.false other }
+returns-then-not-is_digit : tie.Need-returns-then-not-is_digit
+returns-then-not-is_digit c =
+    let other = sym c.is_digit.ensures ∙ not-true _ c.if-not-is_digit.true-raw in
+    record { past = omega arith; inside = omega arith; read = some_stop _ _ c.if-s-at.false other }
 
-returns-3 : tie.Need-returns-3
-returns-3 c =
-    let got = c.digits.ensures in
-    let digit = sym c.before.before.is_digit.ensures ∙ not-false _ c.before.if2.false in
+returns : tie.Need-returns
+returns c =
+    let got = c.digits-r.ensures in
+    let digit = sym c.is_digit.ensures ∙ not-false _ c.if-not-is_digit.false-raw in
     record {
       past = omega arith;
       inside = got.inside;
-      read = some_more _ _ c.before.before.before.before.if1.false digit ∙ ap (found tt) got.rest;
+      read = some_more _ _ c.if-s-at.false digit ∙ ap (found tt) got.rest;
     }
 
-pub some-digits-spec : {M : Type 1} → statement M
-some-digits-spec =
-    tie.close (tie.spec (λ c. record { past = omega arith; inside = c.before.before.requires; read = some_end _ _ c.if1.true }) (λ c. search rules)
-    (λ c κs. search rules) returns-2 (λ c. search rules) (λ c κs. search rules) returns-3)
+pub some_digits_spec : {M : Type 1} → statement M
+some_digits_spec =
+    tie.close (tie.spec (λ c. record { past = omega arith; inside = c.before.before.requires; read = some_end _ _ c.if-s-at.true }) (λ c. search rules)
+    (λ c κs. search rules) returns-then-not-is_digit (λ c. search rules) (λ c κs. search rules) returns)

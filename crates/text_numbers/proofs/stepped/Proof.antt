@@ -5,7 +5,7 @@ use Rattle.text_numbers.specs.Parts.{part_of}
 use Rattle.text_numbers.proofs.stepped.Statement.{statement}
 use Rattle.text_numbers.proofs.stepped.Tie as tie
 
-pub stepped-spec : {M : Type 1} → statement M
-stepped-spec =
-    tie.close (tie.spec (λ c. search rules) (λ c. search rules) (λ c. sym (ap part_of c.before.step.given.1))
-    (λ c. sym (ap part_of c.before.step2.given.1)))
+pub stepped_spec : {M : Type 1} → statement M
+stepped_spec =
+    tie.close (tie.spec (λ c. search rules) (λ c. search rules) (λ c. sym (ap part_of c.in-End.is))
+    (λ c. sym (ap part_of c.in-Stuck.is)))
