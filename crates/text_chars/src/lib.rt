@@ -1,4 +1,6 @@
 // Strings (RFC 8259, section 7): where one ends, whether it is refused, and how long its canonical form is.
+#![tactic(auto)]
+
 ghost use Rattle.std.specs.Prelude.{◌≡◌, ◌||◌, [], ◌∷◌, ◌+◌, ◌≤◌, ◌<◌, leb, length, take, drop};
 ghost use Rattle.text_utf8.specs.Scalar.{encode};
 ghost use Rattle.text_json.specs.Syntax.{unit};

@@ -1,5 +1,5 @@
 -- What a cursor gives next.
-use Prim.Native.Nat.{ℕ, suc, ◌+◌, ◌-◌, ◌<◌, ◌≤◌}
+use Prim.Native.Nat.{ℕ, suc, ◌+◌, ◌<◌, ◌≤◌}
 use mathlib.Core.Path.{◌≡◌, refl, sym, ap, subst, ◌∙◌}
 use mathlib.Core.List.{List, [], ◌∷◌, ◌++◌}
 use mathlib.Core.Bool.{Bool, true, false}
@@ -11,7 +11,6 @@ use lib.Seq.{drop-cons, get_or-take, length-take-le, drop-nil}
 use Rattle.laws.proofs.Order.{by_test, false_true}
 use Rattle.text_utf8.specs.Scalar.{encode}
 use Rattle.text_json.specs.Bytes.{is_unescaped}
-use Rattle.text_json.specs.Syntax.{byte}
 use Rattle.text_json.specs.Content.{unescape}
 use Rattle.text_strings.specs.InString.{InString, Escapes, EscapeAt, Inside}
 use Rattle.text_strings.specs.Cursor.{held_bytes, Left, Given, GivesByte, Encodes, weight}

@@ -1,4 +1,6 @@
 // Strings of a JSON text in place: their content byte by byte.
+#![tactic(auto)]
+
 ghost use Rattle.std.specs.Prelude.{◌≡◌, List, true, ℕ, ◌+◌, ◌<◌, get_or};
 ghost use Rattle.text_json.specs.Grammar.{hex_number};
 ghost use Rattle.text_strings.specs.InString.{HexAt, EscapeAt, HighAt, Escapes};

@@ -8,16 +8,16 @@ use Rattle.text_json.specs.Content.{escaped}
 use Rattle.text_chars.proofs.byte_size.Statement.{statement}
 use Rattle.text_chars.proofs.byte_size.Tie as tie
 
-returns : tie.Need-returns
+returns-in-34 : tie.Need-returns-in-34
 unfolding escaped
-returns c = ⊎_elim (λ e. rw e (refl, omega arith)) (λ e. rw e (refl, omega arith)) c.match.keys1
+returns-in-34 c = ⊎_elim (λ e. rw e (refl, omega arith)) (λ e. rw e (refl, omega arith)) c.in-34.is
 
-returns-2 : tie.Need-returns-2
+returns-in_default : tie.Need-returns-in_default
 unfolding escaped
-returns-2 c =
-    let other = c.match.rest.1 in
+returns-in_default c =
+    let other = c.in_default.in_default-own.rest.1 in
     rw (escaped, ne_eqb _ 0x22 (λ e. other (inl e)), ne_eqb _ 0x5C (λ e. other (inr e))) (refl, omega arith)
 
-pub byte-size-spec : {M : Type 1} → statement M
-byte-size-spec =
-    tie.close (tie.spec returns returns-2)
+pub byte_size_spec : {M : Type 1} → statement M
+byte_size_spec =
+    tie.close (tie.spec returns-in-34 returns-in_default)

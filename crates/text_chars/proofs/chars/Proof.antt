@@ -16,123 +16,123 @@ use Rattle.text_chars.proofs.Weights.{add_add, add_none, add_close, add_stuck, m
 use Rattle.text_chars.proofs.chars.Statement.{statement}
 use Rattle.text_chars.proofs.chars.Tie as tie
 
-abbrev invariant-loop : tie.invariant-loop
+abbrev invariant-loop : tie.invariant-loop-i
 invariant-loop s at i₀ refused₀ size₀ i refused size =
     (at ≤ i)
     × (i ≤ length s)
     × (at + size ≤ i)
     × (measure (read_chars char (drop at s)) ≡ add refused size (measure (read_chars char (drop i s))))
 
-abbrev decreases-loop : tie.decreases-loop
+abbrev decreases-loop : tie.decreases-loop-i
 decreases-loop s at i₀ refused₀ size₀ i refused size = length s - i
 
-abbrev text : tie.At-loop invariant-loop decreases-loop → List ℕ
-text l = l.before.before.args.s.now
+abbrev text : tie.At-loop-i invariant-loop decreases-loop → List ℕ
+text l = l.args.s.now
 
 -- what is read at i is something added to what is read at e
-passes : (l : tie.At-loop invariant-loop decreases-loop) (e : ℕ) (f : Bool) (n : ℕ)
-    → measure (read_chars char (drop l.loop.i (text l))) ≡ add f n (measure (read_chars char (drop e (text l))))
-    → measure (read_chars char (drop l.before.before.args.at (text l)))
-    ≡ add (l.loop.refused || f) (l.loop.size + n) (measure (read_chars char (drop e (text l))))
-passes l e f n x = rw x at l.loop.invariant.3 ∙ add_add _ _ _ _ _
+passes : (l : tie.At-loop-i invariant-loop decreases-loop) (e : ℕ) (f : Bool) (n : ℕ)
+    → measure (read_chars char (drop l.loop-i.i (text l))) ≡ add f n (measure (read_chars char (drop e (text l))))
+    → measure (read_chars char (drop l.args.at (text l)))
+    ≡ add (l.loop-i.refused || f) (l.loop-i.size + n) (measure (read_chars char (drop e (text l))))
+passes l e f n x = rw x at l.loop-i.invariant.3 ∙ add_add _ _ _ _ _
 
 -- reading is stuck at a position
-stops : (l : tie.At-loop invariant-loop decreases-loop) (e : ℕ) → read_chars char (drop l.loop.i (text l)) ≡ stuck (drop e (text l))
-    → measure (read_chars char (drop l.before.before.args.at (text l))) ≡ stuck (drop e (text l))
-stops l e x = rw x at l.loop.invariant.3 ∙ add_stuck _ _ _
+stops : (l : tie.At-loop-i invariant-loop decreases-loop) (e : ℕ) → read_chars char (drop l.loop-i.i (text l)) ≡ stuck (drop e (text l))
+    → measure (read_chars char (drop l.args.at (text l))) ≡ stuck (drop e (text l))
+stops l e x = rw x at l.loop-i.invariant.3 ∙ add_stuck _ _ _
 
 -- a backslash stands at i
-abbrev head : tie.Then2 invariant-loop decreases-loop → tie.At-loop invariant-loop decreases-loop
+abbrev head : tie.Then-b-eq92 invariant-loop decreases-loop → tie.At-loop-i invariant-loop decreases-loop
 head c = c.before.before.before.before
 
-starts : (c : tie.Then2 invariant-loop decreases-loop)
-    → read_chars char (drop (head c).loop.i (text (head c))) ≡ read_chars escape (drop ((head c).loop.i + 1) (text (head c)))
-starts c = char_escape (text (head c)) (head c).loop.i c.before.before.before.loop-test.true c.if2.true
+starts : (c : tie.Then-b-eq92 invariant-loop decreases-loop)
+    → read_chars char (drop (head c).loop-i.i (text (head c))) ≡ read_chars escape (drop ((head c).loop-i.i + 1) (text (head c)))
+starts c = char_escape (text (head c)) (head c).loop-i.i c.loop-i-test.true c.if-b-eq92.true
 
-loop-holds : tie.Need-loop-init invariant-loop decreases-loop
-loop-holds c = (omega arith, c.before.requires, omega arith, add_none _)
+loop-i-init : tie.Need-loop-i-init invariant-loop decreases-loop
+loop-i-init c = (omega arith, c.requires, omega arith, add_none _)
 
-returns : tie.Need-returns invariant-loop decreases-loop
-returns c =
+returns-then-b-eq34 : tie.Need-returns-then-b-eq34 invariant-loop decreases-loop
+returns-then-b-eq34 c =
     let l = c.before.before.before in
-    let close = char_close (text l) l.loop.i c.before.before.loop-test.true c.if1.true in
-    (omega arith, scans_token (text l) (l.loop.i + 1) (omega arith) _ _ _ (rw close at l.loop.invariant.3 ∙ add_close _ _ _))
+    let close = char_close (text l) l.loop-i.i c.loop-i-test.true c.if-b-eq34.true in
+    (omega arith, scans_token (text l) (l.loop-i.i + 1) (omega arith) _ _ _ (rw close at l.loop-i.invariant.3 ∙ add_close _ _ _))
 
-one-escape-requires : tie.Need-one-escape-requires invariant-loop decreases-loop
-one-escape-requires c κs = c.before.before.before.loop-test.true
+one_escape-requires : tie.Need-one_escape-requires invariant-loop decreases-loop
+one_escape-requires c κs = c.loop-i-test.true
 
-add-size : tie.Need-overflow-add-size invariant-loop decreases-loop
-add-size c = let taken = rw c.before.end.given.1 at c.before.before.before.one-escape.ensures in omega arith
+overflow_add-size : tie.Need-overflow_add-size invariant-loop decreases-loop
+overflow_add-size c = let taken = rw c.in-Char.is at c.one_escape.ensures in omega arith
 
-loop-less : tie.Need-loop-smaller invariant-loop decreases-loop
-loop-less c = let taken = rw c.before.end.given.1 at c.before.before.before.one-escape.ensures in omega arith
+loop-i-smaller-in-Char : tie.Need-loop-i-smaller-in-Char invariant-loop decreases-loop
+loop-i-smaller-in-Char c = let taken = rw c.in-Char.is at c.one_escape.ensures in omega arith
 
-loop-again : tie.Need-loop-preserved invariant-loop decreases-loop
-loop-again c =
-    let taken = rw c.before.end.given.1 at c.before.before.before.one-escape.ensures in
-    let then2 = c.before.before.before.before in
-    (omega arith, omega arith, omega arith, passes (head then2) c.before.end.given.0.0 _ _ (ap measure (starts then2) ∙ taken.3))
+loop-i-preserved-in-Char : tie.Need-loop-i-preserved-in-Char invariant-loop decreases-loop
+loop-i-preserved-in-Char c =
+    let taken = rw c.in-Char.is at c.one_escape.ensures in
+    let then2 = c.before.before in
+    (omega arith, omega arith, omega arith, passes (head then2) c.in-Char.end _ _ (ap measure (starts then2) ∙ taken.3))
 
-returns-2 : tie.Need-returns-2 invariant-loop decreases-loop
-returns-2 c =
-    let taken = rw c.before.e.given.1 at c.before.before.before.one-escape.ensures in
-    let then2 = c.before.before.before.before in
+returns-in-NoEscape : tie.Need-returns-in-NoEscape invariant-loop decreases-loop
+returns-in-NoEscape c =
+    let taken = rw c.in-NoEscape.is at c.one_escape.ensures in
+    let then2 = c.before.before in
     let l = head then2 in
-    let e = c.before.e.given.0.0 in
+    let e = c.in-NoEscape.e in
     (omega arith, scans_none (text l) e taken.1 _ (stops l e (starts then2 ∙ taken.2)))
 
-returns-3 : tie.Need-returns-3 invariant-loop decreases-loop
-returns-3 c =
+returns-then-b-lt32 : tie.Need-returns-then-b-lt32 invariant-loop decreases-loop
+returns-then-b-lt32 c =
     let else1 = c.before.before in
     let l = else1.before.before.before in
-    let read = char_control (text l) l.loop.i else1.before.before.loop-test.true else1.if1.false c.before.if2.false c.if3.true in
-    (omega arith, scans_none (text l) l.loop.i l.loop.invariant.1 _ (stops l l.loop.i read))
+    let read = char_control (text l) l.loop-i.i else1.loop-i-test.true else1.if-b-eq34.false c.if-b-eq92.false c.if-b-lt32.true in
+    (omega arith, scans_none (text l) l.loop-i.i l.loop-i.invariant.1 _ (stops l l.loop-i.i read))
 
 -- what was passed ends in the text
-passed : (c : tie.After-plain-end invariant-loop decreases-loop) → c.plain-end.result ≤ length (text c.before.before.before.before.before.before)
+passed : (c : tie.After-plain_end-i invariant-loop decreases-loop) → c.plain_end-i.result ≤ length (text c.before.before.before.before.before.before)
 passed c =
     let l = c.before.before.before.before.before.before in
-    rw c.plain-end.ensures (end_fits (text l) (l.loop.i + 1) (omega arith))
+    rw c.plain_end-i.ensures (end_fits (text l) (l.loop-i.i + 1) (omega arith))
 
-sub-size : tie.Need-overflow-sub-size invariant-loop decreases-loop
-sub-size c = omega (arith, c.plain-end.ensures)
+overflow_sub-size : tie.Need-overflow_sub-size invariant-loop decreases-loop
+overflow_sub-size c = omega (arith, c.plain_end-i.ensures)
 
-add-size-2 : tie.Need-overflow-add-size-2 invariant-loop decreases-loop
-add-size-2 c = let fits = passed c in omega (arith, c.plain-end.ensures)
+overflow_add-size-else-b-lt32 : tie.Need-overflow_add-size-else-b-lt32 invariant-loop decreases-loop
+overflow_add-size-else-b-lt32 c = let fits = passed c in omega (arith, c.plain_end-i.ensures)
 
-add-size-3 : tie.Need-overflow-add-size-3 invariant-loop decreases-loop
-add-size-3 c = let fits = passed c in omega (arith, c.plain-end.ensures)
+overflow_add-size-else-b-lt32-2 : tie.Need-overflow_add-size-else-b-lt32-2 invariant-loop decreases-loop
+overflow_add-size-else-b-lt32-2 c = let fits = passed c in omega (arith, c.plain_end-i.ensures)
 
-loop-less-2 : tie.Need-loop-smaller-2 invariant-loop decreases-loop
-loop-less-2 c = omega (arith, c.plain-end.ensures)
+loop-i-smaller : tie.Need-loop-i-smaller invariant-loop decreases-loop
+loop-i-smaller c = omega (arith, c.plain_end-i.ensures)
 
-loop-again-2 : tie.Need-loop-preserved-2 invariant-loop decreases-loop
-loop-again-2 c =
+loop-i-preserved : tie.Need-loop-i-preserved invariant-loop decreases-loop
+loop-i-preserved c =
     let else3 = c.before in
     let else1 = else3.before.before in
     let l = else1.before.before.before in
-    let q = else1.if1.false in
-    let e = else3.before.if2.false in
-    let read = char_plain (text l) l.loop.i else1.before.before.loop-test.true q e else3.if3.false in
-    let p = c.plain-end.ensures in
-    let r = c.plain-end.result in (
+    let q = else1.if-b-eq34.false in
+    let e = else3.if-b-eq92.false in
+    let read = char_plain (text l) l.loop-i.i else1.loop-i-test.true q e else3.if-b-lt32.false in
+    let p = c.plain_end-i.ensures in
+    let r = c.plain_end-i.result in (
       omega (arith, p),
       passed c,
       omega (arith, p),
       passes l r _ _
           (ap measure read
-          ∙ measure_plain _ _ q e else3.if3.false
-          ∙ ap (add _ 1) (plain_run (text l) (l.loop.i + 1) r p)
+          ∙ measure_plain _ _ q e else3.if-b-lt32.false
+          ∙ ap (add _ 1) (plain_run (text l) (l.loop-i.i + 1) r p)
           ∙ add_plain _ 1 _ _),
     )
 
-returns-4 : tie.Need-returns-4 invariant-loop decreases-loop
-returns-4 c =
+returns : tie.Need-returns invariant-loop decreases-loop
+returns c =
     let l = c.before in
-    (omega arith, scans_none (text l) l.loop.i l.loop.invariant.1 _ (stops l l.loop.i (chars_end _ _ char c.loop-test.false)))
+    (omega arith, scans_none (text l) l.loop-i.i l.loop-i.invariant.1 _ (stops l l.loop-i.i (chars_end _ _ char c.loop-i-test.false)))
 
-pub chars-spec : {M : Type 1} → statement M
-chars-spec =
-    tie.close (tie.spec invariant-loop decreases-loop loop-holds (λ c. omega arith) (λ c. omega arith) returns one-escape-requires (λ c. search rules) add-size
-    loop-less loop-again (λ c. search rules) returns-2 returns-3 (λ c. omega arith) (λ c κs. omega arith) sub-size add-size-2 add-size-3 loop-less-2
-    loop-again-2 returns-4)
+pub chars_spec : {M : Type 1} → statement M
+chars_spec =
+    tie.close (tie.spec invariant-loop decreases-loop loop-i-init (λ c. omega arith) (λ c. omega arith) returns-then-b-eq34 one_escape-requires (λ c. search rules) overflow_add-size
+    loop-i-smaller-in-Char loop-i-preserved-in-Char (λ c. search rules) returns-in-NoEscape returns-then-b-lt32 (λ c. omega arith) (λ c κs. omega arith) overflow_sub-size overflow_add-size-else-b-lt32 overflow_add-size-else-b-lt32-2 loop-i-smaller
+    loop-i-preserved returns)

@@ -24,50 +24,49 @@ lows s at v true e h x = (h, (v, sym e, x))
 lows s at v false e h x = λ u. rw x (paired_unit u v _ (sym e))
 
 -- past the tests: a backslash and a u stand at the position
-abbrev start : tie.Else4 → tie.Start
+abbrev start : tie.Else-s-next-ne117 → tie.Start
 start c = c.before.before.before.before.before.before.before
 
-abbrev text : tie.Else4 → List ℕ
+abbrev text : tie.Else-s-next-ne117 → List ℕ
 text c = (start c).args.s.now
 
-starts : (c : tie.Else4)
+starts : (c : tie.Else-s-next-ne117)
     → read_chars char (drop (start c).args.at (text c)) ≡ read_chars (hex 3 0) (drop ((start c).args.at + 2) (text c))
-starts c = unit_start (text c) (start c).args.at c.before.before.if3.false c.before.before.before.if2.false c.if4.false
+starts c = unit_start (text c) (start c).args.at c.if-s-next.false c.if-s-at-ne92.false c.if-s-next-ne117.false
 
-returns : tie.Need-returns
-returns c u = rw (chars_end _ _ char c.if1.true) (paired_stuck u _)
+returns-then-s-at : tie.Need-returns-then-s-at
+returns-then-s-at c u = rw (chars_end _ _ char c.if-s-at.true) (paired_stuck u _)
 
-returns-2 : tie.Need-returns-2
-returns-2 c u = paired_plain u _ _ c.before.before.if1.false c.if2.true
+returns-then-s-at-ne92 : tie.Need-returns-then-s-at-ne92
+returns-then-s-at-ne92 c u = paired_plain u _ _ c.if-s-at.false c.if-s-at-ne92.true
 
-returns-3 : tie.Need-returns-3
-returns-3 c u =
-    rw (char_escape _ _ c.before.before.before.if1.false c.before.if2.false, chars_end _ _ escape c.if3.true)
+returns-then-s-next : tie.Need-returns-then-s-next
+returns-then-s-next c u =
+    rw (char_escape _ _ c.if-s-at.false c.if-s-at-ne92.false, chars_end _ _ escape c.if-s-next.true)
     (paired_stuck u _)
 
-returns-4 : tie.Need-returns-4
-returns-4 c u =
+returns-then-s-next-ne117 : tie.Need-returns-then-s-next-ne117
+returns-then-s-next-ne117 c u =
     let else2 = c.before.before.before in
-    rw (char_escape _ _ else2.before.before.if1.false else2.if2.false)
-    (paired_escape u _ _ c.before.before.if3.false c.if4.true)
+    rw (char_escape _ _ else2.if-s-at.false else2.if-s-at-ne92.false)
+    (paired_escape u _ _ c.if-s-next.false c.if-s-next-ne117.true)
 
-returns-5 : tie.Need-returns-5
+returns-in-Number : tie.Need-returns-in-Number
 unfolding is_low
-returns-5 c =
-    let h = c.before.before.before.before in
-    let told = c.before.before.v.given in
-    let read = rw told.1 at h.hex4.ensures in
+returns-in-Number c =
+    let h = c.before.before in
+    let read = rw c.in-Number.is at h.hex4.ensures in
     let next : (start h.before).args.at + 2 + 4 ≡ (start h.before).args.at + 6 = omega arith in
-    lows (text h.before) (start h.before).args.at told.0.0 _ c.between.ensures (omega arith)
+    lows (text h.before) (start h.before).args.at c.in-Number.v _ c.between.ensures (omega arith)
     (starts h.before ∙ rw next at read.2)
 
-returns-6 : tie.Need-returns-6
-returns-6 c u =
-    let h = c.before.before in
-    let read = rw c.enum_told.given.1 at h.hex4.ensures in
+returns-in-NoHex : tie.Need-returns-in-NoHex
+returns-in-NoHex c u =
+    let h = c.before in
+    let read = rw c.in-NoHex.is at h.hex4.ensures in
     rw (starts h.before, read.2) (paired_stuck u _)
 
-pub low-half-spec : {M : Type 1} → statement M
-low-half-spec =
-    tie.close (tie.spec returns (λ c. search rules) returns-2 (λ c. search rules) returns-3 (λ c. search rules) returns-4 (λ c. search rules)
-    (λ c κs. search rules) (λ c. search rules) (λ c κs. search rules) (λ c. search rules) returns-5 returns-6)
+pub low_half_spec : {M : Type 1} → statement M
+low_half_spec =
+    tie.close (tie.spec returns-then-s-at (λ c. search rules) returns-then-s-at-ne92 (λ c. search rules) returns-then-s-next (λ c. search rules) returns-then-s-next-ne117 (λ c. search rules)
+    (λ c κs. search rules) (λ c. search rules) (λ c κs. search rules) (λ c. search rules) returns-in-Number returns-in-NoHex)

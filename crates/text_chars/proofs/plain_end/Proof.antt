@@ -10,38 +10,38 @@ use Rattle.text_chars.proofs.Plain.{goes_far}
 use Rattle.text_chars.proofs.plain_end.Statement.{statement}
 use Rattle.text_chars.proofs.plain_end.Tie as tie
 
-abbrev invariant-loop : tie.invariant-loop
+abbrev invariant-loop : tie.invariant-loop-i
 invariant-loop s at i₀ i = (i ≤ length s) × (at + plain_length (drop at s) ≡ i + plain_length (drop i s))
 
-abbrev decreases-loop : tie.decreases-loop
+abbrev decreases-loop : tie.decreases-loop-i
 decreases-loop s at i₀ i = length s - i
 
-loop-holds : tie.Need-loop-init invariant-loop decreases-loop
-loop-holds c = (c.before.requires, refl)
+loop-i-init : tie.Need-loop-i-init invariant-loop decreases-loop
+loop-i-init c = (c.requires, refl)
 
-plain-left-requires : tie.Need-plain-left-requires invariant-loop decreases-loop
-plain-left-requires c κs = c.loop.invariant.0
+plain_left-requires : tie.Need-plain_left-requires invariant-loop decreases-loop
+plain_left-requires c κs = c.loop-i.invariant.0
 
 -- the place behind sixteen bytes more
-behind : (c : tie.Then1 invariant-loop decreases-loop) → let i = c.before.before.loop.i in let s = c.before.before.before.before.args.s.now in
+behind : (c : tie.In-loop-i invariant-loop decreases-loop) → let i = c.loop-i.i in let s = c.args.s.now in
     (i + 16 ≤ length s) × (i + plain_length (drop i s) ≡ i + 16 + plain_length (drop (i + 16) s))
-behind c = goes_far _ _ 16 c.before.before.loop.invariant.0 (sym c.before.plain-left.ensures ∙ c.if1.true)
+behind c = goes_far _ _ 16 c.loop-i.invariant.0 (sym c.plain_left.ensures ∙ c.loop-i-test.true)
 
-add-i : tie.Need-overflow-add-i invariant-loop decreases-loop
-add-i c = omega (arith, (behind c).0)
+overflow_add-i : tie.Need-overflow_add-i invariant-loop decreases-loop
+overflow_add-i c = omega (arith, (behind c).0)
 
-loop-less : tie.Need-loop-smaller invariant-loop decreases-loop
-loop-less c = omega (arith, (behind c).0)
+loop-i-smaller : tie.Need-loop-i-smaller invariant-loop decreases-loop
+loop-i-smaller c = omega (arith, (behind c).0)
 
-loop-again : tie.Need-loop-preserved invariant-loop decreases-loop
-loop-again c = let b = behind c in (b.0, c.before.before.loop.invariant.1 ∙ b.1)
+loop-i-preserved : tie.Need-loop-i-preserved invariant-loop decreases-loop
+loop-i-preserved c = let b = behind c in (b.0, c.loop-i.invariant.1 ∙ b.1)
 
-plain-rest-requires : tie.Need-plain-rest-requires invariant-loop decreases-loop
-plain-rest-requires c κs = c.before.before.loop.invariant.0
+plain_rest-requires : tie.Need-plain_rest-requires invariant-loop decreases-loop
+plain_rest-requires c κs = c.loop-i.invariant.0
 
 returns : tie.Need-returns invariant-loop decreases-loop
-returns c = c.plain-rest.ensures ∙ sym c.before.before.before.loop.invariant.1
+returns c = c.plain_rest.ensures ∙ sym c.loop-i.invariant.1
 
-pub plain-end-spec : {M : Type 1} → statement M
-plain-end-spec =
-    tie.close (tie.spec invariant-loop decreases-loop loop-holds plain-left-requires add-i loop-less loop-again plain-rest-requires returns)
+pub plain_end_spec : {M : Type 1} → statement M
+plain_end_spec =
+    tie.close (tie.spec invariant-loop decreases-loop loop-i-init plain_left-requires overflow_add-i loop-i-smaller loop-i-preserved plain_rest-requires returns)

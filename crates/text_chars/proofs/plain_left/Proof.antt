@@ -8,14 +8,14 @@ use Rattle.text_chars.proofs.Plain.{every_plain, run_short, run_enough}
 use Rattle.text_chars.proofs.plain_left.Statement.{statement}
 use Rattle.text_chars.proofs.plain_left.Tie as tie
 
-returns : tie.Need-returns
-returns c = run_short _ _ (rw length-drop (omega arith))
+returns-then-s-at : tie.Need-returns-then-s-at
+returns-then-s-at c = run_short _ _ (rw length-drop (omega arith))
 
-returns-2 : tie.Need-returns-2
-returns-2 c =
-    rw (c.before.before.before.none-below-space.ensures, c.before.before.none-is.ensures, c.before.none-is2.ensures, c.none-is3.ensures)
+returns : tie.Need-returns
+returns c =
+    rw (c.none_below_space.ensures, c.none_is.ensures, c.none_is-2.ensures, c.none_is-3.ensures)
     (every_plain _ ∙ run_enough _ _ (rw length-drop (omega arith)))
 
-pub plain-left-spec : {M : Type 1} → statement M
-plain-left-spec =
-    tie.close (tie.spec (λ c. search rules) returns (λ c κs. search rules) (λ c κs. search rules) (λ c κs. search rules) (λ c κs. search rules) returns-2)
+pub plain_left_spec : {M : Type 1} → statement M
+plain_left_spec =
+    tie.close (tie.spec (λ c. search rules) returns-then-s-at (λ c κs. search rules) (λ c κs. search rules) (λ c κs. search rules) (λ c κs. search rules) returns)

@@ -23,27 +23,27 @@ abbrev next : tie.Start → Read (List Char)
 next b = read_chars char (drop (b.args.at + 6) b.args.s.now)
 
 -- past the tests: it is no second half
-alone : (c : tie.Joined1) → paired c.before.before.before.args.u (next c.before.before.before) ≡ false
+alone : (c : tie.Joined-between) → paired c.args.u (next c.before.before.before) ≡ false
 unfolding is_high
 alone c =
-    let u = c.before.before.before.args.u in
+    let u = c.args.u in
     let x = next c.before.before.before in
-    ⊎_elim (λ w. (rw w.2.left at w.1.ensures) u) (λ w. paired_high u x (sym c.before.between.ensures ∙ w.left)) c.if1.branch
+    ⊎_elim (λ w. (rw w.if-low_half.false at w.low_half.ensures) u) (λ w. paired_high u x (sym c.between.ensures ∙ w.if-between.false)) c.if-between.branch-raw
 
-returns : tie.Need-returns
+returns-then-low_half : tie.Need-returns-then-low_half
 unfolding is_high
-returns c =
-    let low = rw c.if2.true at c.before.low_half_lem.ensures in
-    let u = c.before.before.before.before.before.args.u in
-    let high = sym c.before.before.before.between.ensures ∙ c.before.before.if1.true in
+returns-then-low_half c =
+    let low = rw c.if-low_half.true at c.before.low_half.ensures in
+    let u = c.args.u in
+    let high = sym c.between.ensures ∙ c.if-between.true in
     (omega arith, omega arith, omega arith, rw low.1.2 (measure_surrogates u low.1.0 _ high low.1.1))
 
-returns-2 : tie.Need-returns-2
-returns-2 c =
-    let u = c.before.before.before.before.before.args.u in
-    (omega arith, omega arith, omega arith, rw (c.before.unit-refused.ensures, c.unit_size.ensures.0) (measure_unit u _ (alone c.before.before)))
+returns : tie.Need-returns
+returns c =
+    let u = c.args.u in
+    (omega arith, omega arith, omega arith, rw (c.unit_refused.ensures, c.unit_size.ensures.0) (measure_unit u _ (alone c.before.before)))
 
-pub unit-escape-spec : {M : Type 1} → statement M
-unit-escape-spec =
-    tie.close (tie.spec (λ c. search rules) (λ c κs. search rules) (λ c κs. search rules) (λ c. search rules) returns (λ c κs. search rules)
-    (λ c κs. search rules) returns-2)
+pub unit_escape_spec : {M : Type 1} → statement M
+unit_escape_spec =
+    tie.close (tie.spec (λ c. search rules) (λ c κs. search rules) (λ c κs. search rules) (λ c. search rules) returns-then-low_half (λ c κs. search rules)
+    (λ c κs. search rules) returns)

@@ -10,16 +10,16 @@ use Rattle.text_chars.proofs.Encoded.{control_one, control_high}
 use Rattle.text_chars.proofs.unit_refused.Statement.{statement}
 use Rattle.text_chars.proofs.unit_refused.Tie as tie
 
-returns : tie.Need-returns
+returns-then-u-lt128 : tie.Need-returns-then-u-lt128
 unfolding is_surrogate between
-returns c =
-    let small = c.before.if1.true in
-    rw (control_one _ small, lt-leb 0xD800 c.before.before.args.u (omega arith)) c.is_control.ensures
+returns-then-u-lt128 c =
+    let small = c.if-u-lt128.true in
+    rw (control_one _ small, lt-leb 0xD800 c.args.u (omega arith)) c.is_control.ensures
 
-returns-2 : tie.Need-returns-2
+returns-else-u-lt128 : tie.Need-returns-else-u-lt128
 unfolding is_surrogate
-returns-2 c = rw (control_high _ c.before.if1.false, or-false) c.between.ensures
+returns-else-u-lt128 c = rw (control_high _ c.if-u-lt128.false, or-false) c.between.ensures
 
-pub unit-refused-spec : {M : Type 1} → statement M
-unit-refused-spec =
-    tie.close (tie.spec (λ c. search rules) (λ c κs. search rules) (λ c κs. search rules) returns returns-2)
+pub unit_refused_spec : {M : Type 1} → statement M
+unit_refused_spec =
+    tie.close (tie.spec (λ c. search rules) (λ c κs. search rules) (λ c κs. search rules) returns-then-u-lt128 returns-else-u-lt128)

@@ -6,8 +6,8 @@ use Rattle.text_chars.proofs.unmarked.Statement.{statement}
 use Rattle.text_chars.proofs.unmarked.Tie as tie
 
 returns : tie.Need-returns
-returns c = rw (c.before.none-is.ensures, c.none-is2.ensures) (every_unmarked _)
+returns c = rw (c.none_is.ensures, c.none_is-2.ensures) (every_unmarked _)
 
-pub unmarked-spec : {M : Type 1} → statement M
-unmarked-spec =
+pub unmarked_spec : {M : Type 1} → statement M
+unmarked_spec =
     tie.close (tie.spec (λ c κs. search rules) (λ c κs. search rules) returns)

@@ -5,9 +5,6 @@ use Rattle.text_json.specs.Grammar.{hex_number}
 use Rattle.text_strings.proofs.Escapes.{hex_small}
 use Rattle.text_strings.proofs.hex_number.Statement.{statement}
 use Rattle.text_strings.proofs.hex_number.Tie as tie
-use Rattle.text_strings.proofs.hex_number.Reads as reads
-use Rattle.text_strings.proofs.hex_number.Lts as lts
-use Rattle.text_json.proofs.bytes.hex_value.Reads as hex-value-reads
 
 -- src/lib.rt:14:36
 -- src/lib.rt:14:9
@@ -21,52 +18,52 @@ use Rattle.text_json.proofs.bytes.hex_value.Reads as hex-value-reads
 -- src/lib.rt:17:36
 -- src/lib.rt:17:9
 -- each digit's number is below 16
-first_small : (c : tie.After-hex-value4) → c.before.before.before.before.before.before.hex-value.result < 16
-first_small c = hex_small _ _ c.before.before.before.before.before.before.before.before.before.requires.first
-    c.before.before.before.before.before.before.hex-value.ensures
+first_small : (c : tie.After-hex_value-d) → c.hex_value-a.result < 16
+first_small c = hex_small _ _ c.requires.first
+    c.hex_value-a.ensures
 
-second_small : (c : tie.After-hex-value4) → c.before.before.before.before.hex-value2.result < 16
-second_small c = hex_small _ _ c.before.before.before.before.before.before.before.before.before.requires.second
-    c.before.before.before.before.hex-value2.ensures
+second_small : (c : tie.After-hex_value-d) → c.hex_value-b.result < 16
+second_small c = hex_small _ _ c.requires.second
+    c.hex_value-b.ensures
 
-third_small : (c : tie.After-hex-value4) → c.before.before.hex-value3.result < 16
-third_small c = hex_small _ _ c.before.before.before.before.before.before.before.before.before.requires.third c.before.before.hex-value3.ensures
+third_small : (c : tie.After-hex_value-d) → c.hex_value-c.result < 16
+third_small c = hex_small _ _ c.requires.third c.hex_value-c.ensures
 
-fourth_small : (c : tie.After-hex-value4) → c.hex-value4.result < 16
-fourth_small c = hex_small _ _ c.before.before.before.before.before.before.before.before.before.requires.fourth c.hex-value4.ensures
+fourth_small : (c : tie.After-hex_value-d) → c.hex_value-d.result < 16
+fourth_small c = hex_small _ _ c.requires.fourth c.hex_value-d.ensures
 
-mul-result : tie.Need-overflow-mul-result
-mul-result c = omega (arith, first_small c)
+overflow_mul-result : tie.Need-overflow_mul-result
+overflow_mul-result c = omega (arith, first_small c)
 
-add-result : tie.Need-overflow-add-result
-add-result c = omega (arith, first_small c, second_small c)
+overflow_add-result : tie.Need-overflow_add-result
+overflow_add-result c = omega (arith, first_small c, second_small c)
 
-mul-result-2 : tie.Need-overflow-mul-result-2
-mul-result-2 c = omega (arith, first_small c, second_small c)
+overflow_mul-result-2 : tie.Need-overflow_mul-result-2
+overflow_mul-result-2 c = omega (arith, first_small c, second_small c)
 
-add-result-2 : tie.Need-overflow-add-result-2
-add-result-2 c = omega (arith, first_small c, second_small c, third_small c)
+overflow_add-result-2 : tie.Need-overflow_add-result-2
+overflow_add-result-2 c = omega (arith, first_small c, second_small c, third_small c)
 
-mul-result-3 : tie.Need-overflow-mul-result-3
-mul-result-3 c = omega (arith, first_small c, second_small c, third_small c)
+overflow_mul-result-3 : tie.Need-overflow_mul-result-3
+overflow_mul-result-3 c = omega (arith, first_small c, second_small c, third_small c)
 
-add-result-3 : tie.Need-overflow-add-result-3
-add-result-3 c = omega (arith, first_small c, second_small c, third_small c, fourth_small c)
+overflow_add-result-3 : tie.Need-overflow_add-result-3
+overflow_add-result-3 c = omega (arith, first_small c, second_small c, third_small c, fourth_small c)
 
 returns : tie.Need-returns
 unfolding hex_number
 returns c = (
   cc (
-    c.before.before.before.before.before.before.hex-value.ensures,
-    c.before.before.before.before.hex-value2.ensures,
-    c.before.before.hex-value3.ensures,
-    c.hex-value4.ensures,
+    c.hex_value-a.ensures,
+    c.hex_value-b.ensures,
+    c.hex_value-c.ensures,
+    c.hex_value-d.ensures,
   ),
   omega (arith, first_small c, second_small c, third_small c, fourth_small c),
 )
 
-pub hex-number-spec : {M : Type 1} → statement M
-hex-number-spec =
+pub hex_number_spec : {M : Type 1} → statement M
+hex_number_spec =
     tie.close (tie.spec (λ c. search rules) (λ c κs. search rules) (λ c. search rules) (λ c. search rules) (λ c κs. search rules) (λ c. search rules)
-    (λ c. search rules) (λ c κs. search rules) (λ c. search rules) (λ c. search rules) (λ c κs. search rules) mul-result add-result mul-result-2
-    add-result-2 mul-result-3 add-result-3 returns)
+    (λ c. search rules) (λ c κs. search rules) (λ c. search rules) (λ c. search rules) (λ c κs. search rules) overflow_mul-result overflow_add-result overflow_mul-result-2
+    overflow_add-result-2 overflow_mul-result-3 overflow_add-result-3 returns)

@@ -4,38 +4,34 @@ use Rattle.text_strings.proofs.Cursors.{gives_held, byte_within, gives_end, give
 use Rattle.laws.proofs.Order.{false_true}
 use Rattle.text_strings.proofs.Cursor.next.Statement.{statement}
 use Rattle.text_strings.proofs.Cursor.next.Tie as tie
-use Rattle.text_strings.proofs.Cursor.next.Reads as reads
-use Rattle.text_strings.proofs.Cursor.next.Lts as lts
-use Rattle.text_strings.proofs.from_escape.Reads as from-escape-reads
-use Rattle.text_strings.proofs.read_escape.Reads as read-escape-reads
+
+returns-then-from-count : tie.Need-returns-then-from-count
+returns-then-from-count c = (λ x l. gives_held _ _ x l c.if-from-count.true, λ _. omega arith)
+
+bounds-s-at : tie.Need-bounds-s-at
+bounds-s-at c = byte_within _ _ c.if-from-count.false _ c.requires.left
+
+returns-then-byte-eq34 : tie.Need-returns-then-byte-eq34
+returns-then-byte-eq34 c = (λ x l. gives_end _ _ c.if-from-count.false x l c.if-byte-eq34.true, λ e. false_true e)
+
+returns-then-byte-eq92 : tie.Need-returns-then-byte-eq92
+returns-then-byte-eq92 c = (
+  λ x l. gives_escape _ _ c.if-from-count.false x _ _ _ l c.read_escape.ensures
+      c.from_escape.ensures,
+  λ _. escape_lighter c.args.s.now
+      c.args.self _ _ _ c.read_escape.ensures c.from_escape.ensures,
+)
+
+overflow_add-rest-2 : tie.Need-overflow_add-rest-2
+overflow_add-rest-2 c = omega (arith, byte_within _ _ c.if-from-count.false _ c.requires.left)
 
 returns : tie.Need-returns
-returns c = (λ x l. gives_held _ _ x l c.if1.true, λ _. omega arith)
-
-shared-slice-read-byte : tie.Need-shared-slice-read-byte
-shared-slice-read-byte c = byte_within _ _ c.before.if1.false _ c.before.before.before.before.requires.left
-
-returns-2 : tie.Need-returns-2
-returns-2 c = (λ x l. gives_end _ _ c.before.before.if1.false x l c.if2.true, λ e. false_true e)
-
-returns-3 : tie.Need-returns-3
-returns-3 c = (
-  λ x l. gives_escape _ _ c.before.before.before.before.before.if1.false x _ _ _ l c.before.read-escape.ensures
-      c.from-escape.ensures,
-  λ _. escape_lighter c.before.before.before.before.before.before.before.before.args.s.now
-      c.before.before.before.before.before.before.before.before.args.self _ _ _ c.before.read-escape.ensures c.from-escape.ensures,
+returns c = (
+  λ x l. gives_plain _ _ c.if-from-count.false x l c.if-byte-eq34.false c.if-byte-eq92.false,
+  λ _. omega (arith, byte_within _ _ c.if-from-count.false _ c.requires.left),
 )
 
-add-t20 : tie.Need-overflow-add-t20
-add-t20 c = omega (arith, byte_within _ _ c.before.before.before.if1.false _ c.before.before.before.before.before.before.requires.left)
-
-returns-4 : tie.Need-returns-4
-returns-4 c = (
-  λ x l. gives_plain _ _ c.before.before.before.if1.false x l c.before.if2.false c.if3.false,
-  λ _. omega (arith, byte_within _ _ c.before.before.before.if1.false _ c.before.before.before.before.before.before.requires.left),
-)
-
-pub next-spec : {M : Type 1} → statement M
-next-spec =
-    tie.close (tie.spec (λ c. search rules) (λ c. search rules) returns shared-slice-read-byte returns-2 (λ c κs. search rules) (λ c κs. search rules)
-    returns-3 add-t20 returns-4)
+pub next_spec : {M : Type 1} → statement M
+next_spec =
+    tie.close (tie.spec (λ c. search rules) (λ c. search rules) returns-then-from-count bounds-s-at returns-then-byte-eq34 (λ c κs. search rules) (λ c κs. search rules)
+    returns-then-byte-eq92 overflow_add-rest-2 returns)
