@@ -1,4 +1,6 @@
 // Strings of a JSON text compared by their content.
+#![tactic(auto)]
+
 ghost use Rattle.std.specs.Prelude.{◌≡◌, List, true, ◌||◌, eqb, ℕ, ◌+◌, ◌<◌, ◌≤◌, length, take, drop};
 ghost use Rattle.laws.specs.Order.{same};
 ghost use Rattle.text_strings.specs.InString.{InString, Inside};

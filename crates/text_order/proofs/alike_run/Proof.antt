@@ -10,25 +10,25 @@ use Rattle.text_order.proofs.Alike.{few_first, few_second, not_same, enough}
 use Rattle.text_order.proofs.alike_run.Statement.{statement}
 use Rattle.text_order.proofs.alike_run.Tie as tie
 
+returns-then-s-i : tie.Need-returns-then-s-i
+returns-then-s-i c = few_first _ _ _ (rw length-drop (omega arith))
+
+returns-then-t-j : tie.Need-returns-then-t-j
+returns-then-t-j c = few_second _ _ _ (rw length-drop (omega arith)) (rw length-drop (omega arith))
+
+same_run-requires : tie.Need-same_run-requires
+same_run-requires c κs = (omega arith, omega arith)
+
+returns-then-not-same_run : tie.Need-returns-then-not-same_run
+returns-then-not-same_run c =
+    not_same _ _ _ (rw length-drop (omega arith)) (rw length-drop (omega arith)) (sym c.same_run.ensures ∙ not-true _ c.if-not-same_run.true-raw)
+
 returns : tie.Need-returns
-returns c = few_first _ _ _ (rw length-drop (omega arith))
-
-returns-2 : tie.Need-returns-2
-returns-2 c = few_second _ _ _ (rw length-drop (omega arith)) (rw length-drop (omega arith))
-
-same-run-requires : tie.Need-same-run-requires
-same-run-requires c κs = (omega arith, omega arith)
-
-returns-3 : tie.Need-returns-3
-returns-3 c =
-    not_same _ _ _ (rw length-drop (omega arith)) (rw length-drop (omega arith)) (sym c.before.same-run.ensures ∙ not-true _ c.if3.true)
-
-returns-4 : tie.Need-returns-4
-returns-4 c =
+returns c =
     c.unmarked.ensures
-    ∙ enough _ _ _ (rw length-drop (omega arith)) (rw length-drop (omega arith)) (sym c.before.before.same-run.ensures
-    ∙ not-false _ c.before.if3.false)
+    ∙ enough _ _ _ (rw length-drop (omega arith)) (rw length-drop (omega arith)) (sym c.same_run.ensures
+    ∙ not-false _ c.if-not-same_run.false-raw)
 
-pub alike-run-spec : {M : Type 1} → statement M
-alike-run-spec =
-    tie.close (tie.spec (λ c. search rules) returns (λ c. search rules) returns-2 same-run-requires returns-3 (λ c κs. omega arith) returns-4)
+pub alike_run_spec : {M : Type 1} → statement M
+alike_run_spec =
+    tie.close (tie.spec (λ c. search rules) returns-then-s-i (λ c. search rules) returns-then-t-j same_run-requires returns-then-not-same_run (λ c κs. omega arith) returns)

@@ -10,75 +10,75 @@ use Rattle.text_order.proofs.compare_cursors.Reads as reads
 use Rattle.text_order.proofs.compare_cursors.Lts as lts
 use Rattle.text_strings.proofs.Cursor.next.Reads as next-reads
 
-abbrev invariant-loop : tie.invariant-loop
+abbrev invariant-loop : tie.invariant-loop-x
 invariant-loop s t i₀ j₀ i j = ReadableCursor s i × ReadableCursor t j × Tracks (Left s i₀) (Left t j₀) (Left s i) (Left t j)
 
-abbrev decreases-loop : tie.decreases-loop
+abbrev decreases-loop : tie.decreases-loop-x
 decreases-loop s t i₀ j₀ i j = weight s i
 
-loop-holds : tie.Need-loop-init invariant-loop decreases-loop
-loop-holds c = (c.before.before.requires.0, c.before.before.requires.1, λ x y p q. (x, y, p, q, refl))
+loop-x-init : tie.Need-loop-x-init invariant-loop decreases-loop
+loop-x-init c = (c.requires.0, c.requires.1, λ x y p q. (x, y, p, q, refl))
 
-next-requires : tie.Need-next-requires invariant-loop decreases-loop
-next-requires c κs = c.loop.invariant.0
+next-x-requires : tie.Need-next-x-requires invariant-loop decreases-loop
+next-x-requires c κs = c.loop-x.invariant.0
 
-next-requires-2 : tie.Need-next-requires-2 invariant-loop decreases-loop
-next-requires-2 c κs = c.before.loop.invariant.1
+next-y-requires : tie.Need-next-y-requires invariant-loop decreases-loop
+next-y-requires c κs = c.loop-x.invariant.1
 
-returns : tie.Need-returns invariant-loop decreases-loop
-returns c =
+returns-then-y : tie.Need-returns-then-y invariant-loop decreases-loop
+returns-then-y c =
     let d = c.before.before.before in
-    first_ends _ _ d.before.before.loop.invariant.2 d.before.next.result d.next2.result d.before.next.ensures.0 d.next2.ensures.0
-    (not-true _ c.before.if1.true) c.if2.true
+    first_ends _ _ d.loop-x.invariant.2 d.next-x.result d.next-y.result d.next-x.ensures.0 d.next-y.ensures.0
+    (not-true _ c.if-not-x.true) c.if-y.true
 
-returns-2 : tie.Need-returns-2 invariant-loop decreases-loop
-returns-2 c =
+returns-then-not-x : tie.Need-returns-then-not-x invariant-loop decreases-loop
+returns-then-not-x c =
     let d = c.before.before.before in
-    both_end _ _ d.before.before.loop.invariant.2 d.before.next.result d.next2.result d.before.next.ensures.0 d.next2.ensures.0
-    (not-true _ c.before.if1.true) c.if2.false
+    both_end _ _ d.loop-x.invariant.2 d.next-x.result d.next-y.result d.next-x.ensures.0 d.next-y.ensures.0
+    (not-true _ c.if-not-x.true) c.if-y.false
 
-returns-3 : tie.Need-returns-3 invariant-loop decreases-loop
-returns-3 c =
+returns-then-not-y : tie.Need-returns-then-not-y invariant-loop decreases-loop
+returns-then-not-y c =
     let d = c.before.before.before.before in
-    second_ends _ _ d.before.before.loop.invariant.2 d.before.next.result d.next2.result d.before.next.ensures.0 d.next2.ensures.0
-    (not-false _ c.before.before.if1.false) (not-true _ c.if3.true)
+    second_ends _ _ d.loop-x.invariant.2 d.next-x.result d.next-y.result d.next-x.ensures.0 d.next-y.ensures.0
+    (not-false _ c.if-not-x.false) (not-true _ c.if-not-y.true)
 
-returns-4 : tie.Need-returns-4 invariant-loop decreases-loop
-returns-4 c =
+returns-then-x-y : tie.Need-returns-then-x-y invariant-loop decreases-loop
+returns-then-x-y c =
     let d = c.before.before.before.before.before.before.before in
-    first_less _ _ d.before.before.loop.invariant.2 d.before.next.result d.next2.result d.before.next.ensures.0 d.next2.ensures.0
-    (not-false _ c.before.before.before.before.before.if1.false) (not-false _ c.before.before.before.if3.false) c.if4.true
+    first_less _ _ d.loop-x.invariant.2 d.next-x.result d.next-y.result d.next-x.ensures.0 d.next-y.ensures.0
+    (not-false _ c.if-not-x.false) (not-false _ c.if-not-y.false) c.if-x-y.true
 
-returns-5 : tie.Need-returns-5 invariant-loop decreases-loop
-returns-5 c =
+returns-then-y-x : tie.Need-returns-then-y-x invariant-loop decreases-loop
+returns-then-y-x c =
     let d = c.before.before.before.before.before.before.before.before.before.before in
-    first_more _ _ d.before.before.loop.invariant.2 d.before.next.result d.next2.result d.before.next.ensures.0 d.next2.ensures.0
-    (not-false _ c.before.before.before.before.before.before.before.before.if1.false)
-    (not-false _ c.before.before.before.before.before.before.if3.false) c.if5.true
+    first_more _ _ d.loop-x.invariant.2 d.next-x.result d.next-y.result d.next-x.ensures.0 d.next-y.ensures.0
+    (not-false _ c.if-not-x.false)
+    (not-false _ c.if-not-y.false) c.if-y-x.true
 
-loop-less : tie.Need-loop-smaller invariant-loop decreases-loop
-loop-less c = c.before.before.before.before.before.before.before.before.before.before.before.before.before.next.ensures.1
-    (not-false _ c.before.before.before.before.before.before.before.before.before.before.if1.false)
+loop-x-smaller : tie.Need-loop-x-smaller invariant-loop decreases-loop
+loop-x-smaller c = c.next-x.ensures.1
+    (not-false _ c.if-not-x.false)
 
-loop-again : tie.Need-loop-preserved invariant-loop decreases-loop
-loop-again c =
+loop-x-preserved : tie.Need-loop-x-preserved invariant-loop decreases-loop
+loop-x-preserved c =
     let d = c.before.before.before.before.before.before.before.before.before.before.before.before in
-    let a = not-false _ c.before.before.before.before.before.before.before.before.before.before.if1.false in
-    let b = not-false _ c.before.before.before.before.before.before.before.before.if3.false in
-    let n = d.before.next.result in
-    let m = d.next2.result in
-    let inv = d.before.before.loop.invariant in
-    let x = given_byte _ _ n a (d.before.next.ensures.0 inv.0.bytes inv.0.left) in
-    let y = given_byte _ _ m b (d.next2.ensures.0 inv.1.bytes inv.1.left) in (
+    let a = not-false _ c.if-not-x.false in
+    let b = not-false _ c.if-not-y.false in
+    let n = d.next-x.result in
+    let m = d.next-y.result in
+    let inv = d.loop-x.invariant in
+    let x = given_byte _ _ n a (d.next-x.ensures.0 inv.0.bytes inv.0.left) in
+    let y = given_byte _ _ m b (d.next-y.ensures.0 inv.1.bytes inv.1.left) in (
       record { bytes = x.0; left = x.2 },
       record { bytes = y.0; left = y.2 },
-      goes_on _ _ inv.2 n m d.before.next.ensures.0 d.next2.ensures.0 a b (omega (
+      goes_on _ _ inv.2 n m d.next-x.ensures.0 d.next-y.ensures.0 a b (omega (
         arith,
-        c.before.before.before.before.before.if4.false,
-        c.before.before.if5.false,
+        c.if-x-y.false,
+        c.if-y-x.false,
       )),
     )
 
-pub compare-cursors-spec : {M : Type 1} → statement M
-compare-cursors-spec =
-    tie.close (tie.spec invariant-loop decreases-loop loop-holds next-requires next-requires-2 returns returns-2 returns-3 returns-4 returns-5 loop-less loop-again)
+pub compare_cursors_spec : {M : Type 1} → statement M
+compare_cursors_spec =
+    tie.close (tie.spec invariant-loop decreases-loop loop-x-init next-x-requires next-y-requires returns-then-y returns-then-not-x returns-then-not-y returns-then-x-y returns-then-y-x loop-x-smaller loop-x-preserved)

@@ -4,9 +4,9 @@ use Rattle.text_order.specs.Compare.{differs}
 use Rattle.text_order.proofs.differ.Statement.{statement}
 use Rattle.text_order.proofs.differ.Tie as tie
 
-pub differ-spec : {M : Type 1} → statement M
+pub differ_spec : {M : Type 1} → statement M
 unfolding differs
-differ-spec =
-    tie.close (tie.spec (λ c. rw (differs, eq-eqb _ _ c.if1.true)) (λ c. rw (differs, ne_eqb _ _ c.before.if1.false, eq-eqb _ _ c.if2.true))
-    (λ c. rw (differs, ne_eqb _ _ c.before.before.if1.false, ne_eqb _ _ c.before.if2.false, lt-ltb _ _ c.if3.true))
-    (λ c. rw (differs, ne_eqb _ _ c.before.before.if1.false, ne_eqb _ _ c.before.if2.false, le-ltb _ _ c.if3.false)))
+differ_spec =
+    tie.close (tie.spec (λ c. rw (differs, eq-eqb _ _ c.if-x-eq34.true)) (λ c. rw (differs, ne_eqb _ _ c.if-x-eq34.false, eq-eqb _ _ c.if-y-eq34.true))
+    (λ c. rw (differs, ne_eqb _ _ c.if-x-eq34.false, ne_eqb _ _ c.if-y-eq34.false, lt-ltb _ _ c.if-x-y.true))
+    (λ c. rw (differs, ne_eqb _ _ c.if-x-eq34.false, ne_eqb _ _ c.if-y-eq34.false, le-ltb _ _ c.if-x-y.false)))

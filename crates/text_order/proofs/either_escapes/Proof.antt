@@ -4,12 +4,12 @@ use Rattle.text_order.proofs.either_escapes.Tie as tie
 use Rattle.text_order.proofs.either_escapes.Reads as reads
 use Rattle.text_order.proofs.either_escapes.Lts as lts
 
-returns : tie.Need-returns
-returns c = rw (eq-eqb _ _ c.if1.true)
+returns-then-x-eq92 : tie.Need-returns-then-x-eq92
+returns-then-x-eq92 c = rw (eq-eqb _ _ c.if-x-eq92.true)
 
-returns-2 : tie.Need-returns-2
-returns-2 c = rw (ne_eqb _ _ c.if1.false)
+returns-else-x-eq92 : tie.Need-returns-else-x-eq92
+returns-else-x-eq92 c = rw (ne_eqb _ _ c.if-x-eq92.false)
 
-pub either-escapes-spec : {M : Type 1} → statement M
-either-escapes-spec =
-    tie.close (tie.spec returns returns-2)
+pub either_escapes_spec : {M : Type 1} → statement M
+either_escapes_spec =
+    tie.close (tie.spec returns-then-x-eq92 returns-else-x-eq92)

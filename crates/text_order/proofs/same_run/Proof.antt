@@ -9,28 +9,28 @@ use Rattle.text_order.proofs.Alike.{same_next}
 use Rattle.text_order.proofs.same_run.Statement.{statement}
 use Rattle.text_order.proofs.same_run.Tie as tie
 
-abbrev invariant-loop : tie.invariant-loop
+abbrev invariant-loop : tie.invariant-loop-n
 invariant-loop s i t j count all₀ n₀ all n = (n ≤ count) × (all ≡ same (take n (drop i s)) (take n (drop j t)))
 
-abbrev decreases-loop : tie.decreases-loop
+abbrev decreases-loop : tie.decreases-loop-n
 decreases-loop s i t j count all₀ n₀ all n = count - n
 
-loop-holds : tie.Need-loop-init invariant-loop decreases-loop
+loop-n-init : tie.Need-loop-n-init invariant-loop decreases-loop
 unfolding same
-loop-holds c = (omega arith, refl)
+loop-n-init c = (omega arith, refl)
 
-loop-again : tie.Need-loop-preserved invariant-loop decreases-loop
-loop-again c =
+loop-n-preserved : tie.Need-loop-n-preserved invariant-loop decreases-loop
+loop-n-preserved c =
     let l = c.before.before.before in
-    let a = l.before.args in
-    (omega arith, same_next a.s.now a.t.now a.i a.j l.loop.n l.loop.all (omega arith) (omega arith) l.loop.invariant.1)
+    let a = l.args in
+    (omega arith, same_next a.s.now a.t.now a.i a.j l.loop-n.n l.loop-n.all (omega arith) (omega arith) l.loop-n.invariant.1)
 
 returns : tie.Need-returns invariant-loop decreases-loop
 returns c =
-    let l = c.before.loop in
-    let o : l.n ≡ c.before.before.args.count = omega arith in rw o at l.invariant.1
+    let l = c.loop-n in
+    let o : l.n ≡ c.args.count = omega arith in rw o at l.invariant.1
 
-pub same-run-spec : {M : Type 1} → statement M
-same-run-spec =
-    tie.close (tie.spec invariant-loop decreases-loop loop-holds (λ c. omega arith) (λ c. omega arith) (λ c. omega arith) (λ c. omega arith) (λ c. omega arith)
-    (λ c. omega arith) loop-again returns)
+pub same_run_spec : {M : Type 1} → statement M
+same_run_spec =
+    tie.close (tie.spec invariant-loop decreases-loop loop-n-init (λ c. omega arith) (λ c. omega arith) (λ c. omega arith) (λ c. omega arith) (λ c. omega arith)
+    (λ c. omega arith) loop-n-preserved returns)
