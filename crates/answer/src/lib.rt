@@ -2,14 +2,14 @@
 ghost use Rattle.std.specs.Prelude.{◌≡◌};
 
 // The number of document 01's table, 0 where the call is done; and the call's first value, as the length of its output.
-#[derive(Drop)]
+#[derive(Clone, Copy)]
 pub struct Answer {
     pub number: usize,
     pub value: usize,
 }
 
 // The same of a call that checks a text: with the offset of the text's fault where the number is one of 2 to 6, and else 0.
-#[derive(Drop)]
+#[derive(Clone, Copy)]
 pub struct TextAnswer {
     pub number: usize,
     pub value: usize,

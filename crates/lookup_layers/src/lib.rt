@@ -8,7 +8,7 @@ use reference_digests::algorithm::{Algorithm, Known};
 use reference_digests::digest;
 
 // The first entry of a run that is left: the positions of its digest and of what follows, or none where the byte is no algorithm's or the digest is cut.
-#[derive(Drop)]
+#[derive(Clone, Copy)]
 enum Entry {
     At {
         algorithm: Algorithm,

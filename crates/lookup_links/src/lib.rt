@@ -16,7 +16,7 @@ pub const UNDEFINED: u16 = 65534;
 pub const BAD: u16 = 65533;
 
 // How a path ends: at the digest that is the reference with that number, at an alias that no image defines, or never.
-#[derive(Drop)]
+#[derive(Clone, Copy)]
 pub enum PathEnd {
     Met(usize),
     Undefined,

@@ -18,7 +18,7 @@ use reference_digests::algorithm::Algorithm;
 use reference_digests::digest;
 
 // Why a layer fails: an alias that no image defines, a path that never meets a digest, a digest that is not in the layer list.
-#[derive(Drop)]
+#[derive(Clone, Copy)]
 pub enum Failure {
     Undefined,
     Endless,
@@ -39,14 +39,14 @@ impl Failure {
 }
 
 // How one layer comes out: the number of its digest among the references and the bytes of its entry, or why it fails.
-#[derive(Drop)]
+#[derive(Clone, Copy)]
 enum Fate {
     Present { number: usize, size: usize },
     Fails(Failure),
 }
 
 // How all layers come out: found, with the bytes of their list; or the first that fails, and why.
-#[derive(Drop)]
+#[derive(Clone, Copy)]
 pub enum Outcome {
     All(usize),
     Fails(LayerIndex, Failure),

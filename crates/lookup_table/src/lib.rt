@@ -20,7 +20,7 @@ use reference_digests::algorithm::Algorithm;
 use store_record::{MOST_IMAGES, Record, Survey};
 
 // How many references are objects, and how many there are.
-#[derive(Drop)]
+#[derive(Clone, Copy)]
 pub struct Numbers {
     pub objects: usize,
     pub total: usize,

@@ -16,7 +16,7 @@ use manifest::Places;
 use reference::layer::Layer;
 
 // The object of a name in `contents`, and the index of its key among the keys there; or none.
-#[derive(Drop)]
+#[derive(Clone, Copy)]
 pub enum Object {
     At { index: usize, object: Layer },
     Missing,

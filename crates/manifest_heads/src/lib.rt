@@ -11,7 +11,7 @@ use text_names::head::{compare_headed, head};
 use text_order::Order;
 
 // The position of a name, or none.
-#[derive(Drop)]
+#[derive(Clone, Copy)]
 pub enum Search {
     At(usize),
     Missing,

@@ -13,7 +13,7 @@ use manifest_fields::member::Found;
 use reference::rule::{Manifest, Rule};
 
 // Places of the index from `from` to `to`, the last not included.
-#[derive(Drop)]
+#[derive(Clone, Copy)]
 pub struct Range {
     pub from: usize,
     pub to: usize,

@@ -20,7 +20,7 @@ use manifest_heads::{Search, find_headed, has_headed};
 use text_view::{Element, Elements, Member, Members};
 
 // What is asked: whether the name is among the others, or stands among them under another key. The keys of the others are read for the second only.
-#[derive(Drop)]
+#[derive(Clone, Copy)]
 pub enum Asked {
     Shared,
     Elsewhere,

@@ -14,7 +14,7 @@ use manifest_view::matching::is_in_list;
 use text_view::{Member, Members};
 
 // Which member of a group has the alias, counted from 0, and the position of that member's key; or none.
-#[derive(Drop)]
+#[derive(Clone, Copy)]
 pub enum Object {
     At { index: usize, key: usize },
     Missing,

@@ -4,7 +4,7 @@ ghost use Rattle.policy_marks.specs.Marks.{closed_at, closed};
 ghost use Rattle.policy_marks.specs.Words.{bit_at, rows_of};
 
 // The images of a store by their places: row i has bit j where image i accepts image j; `guards` has bit i where image i is a guard.
-#[derive(Drop)]
+#[derive(Clone, Copy)]
 pub struct Table {
     pub count: usize,
     pub guards: u64,

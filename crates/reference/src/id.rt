@@ -9,7 +9,7 @@ use reference_parts::part;
 use reference_parts::part::Part;
 
 // An image's algorithm with the positions of its signer's and its manifest's digest, or none.
-#[derive(Drop)]
+#[derive(Clone, Copy)]
 pub enum Id {
     Image {
         algorithm: Algorithm,

@@ -9,7 +9,7 @@ use reference_parts::part;
 use reference_parts::part::Part;
 
 // A layer by its digest, at a position; by an alias, with the positions of its signer and its name; or none of these.
-#[derive(Drop)]
+#[derive(Clone, Copy)]
 pub enum Layer {
     Digest(Algorithm, usize),
     Alias {

@@ -6,8 +6,8 @@ pub mod rule;
 
 // An image by its place among the loaded ones, and a layer by its place in an image's list: two types, so that one cannot stand for
 // the other.
-#[derive(Drop)]
+#[derive(Clone, Copy)]
 pub struct ImageIndex(pub usize);
 
-#[derive(Drop)]
+#[derive(Clone, Copy)]
 pub struct LayerIndex(pub usize);

@@ -11,21 +11,21 @@ use reference_parts::part;
 use reference_parts::part::Part;
 
 // Any signer, or the one whose digest stands at a position.
-#[derive(Drop)]
+#[derive(Clone, Copy)]
 pub enum Signer {
     Any,
     Digest(usize),
 }
 
 // Any manifest, the one whose digest stands at a position, or those that have the alias at a position.
-#[derive(Drop)]
+#[derive(Clone, Copy)]
 pub enum Manifest {
     Any,
     Digest(usize),
     Alias(usize),
 }
 
-#[derive(Drop)]
+#[derive(Clone, Copy)]
 pub enum Rule {
     Accepts {
         algorithm: Algorithm,

@@ -4,7 +4,7 @@ ghost use Rattle.reference_parts.specs.Parts.{first_part};
 ghost use Rattle.reference_parts.specs.Readings.{parts_from, HasPart};
 ghost use Rattle.reference_digests.specs.Algorithms.{digest_bytes, hex_digits, byte_of, named as named_by, numbered};
 
-#[derive(Drop)]
+#[derive(Clone, Copy)]
 pub enum Algorithm {
     Sha224,
     Sha256,
@@ -12,7 +12,7 @@ pub enum Algorithm {
 }
 
 // An algorithm, where there is one.
-#[derive(Drop)]
+#[derive(Clone, Copy)]
 pub enum Known {
     Is(Algorithm),
     Unknown,

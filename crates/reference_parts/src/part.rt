@@ -9,7 +9,7 @@ ghost use Rattle.reference_parts.specs.Readings.{CharAt, StartAt, PartAt, PlainP
 
 // What is counted of a part: its bytes, whether all of them are lower-case hexadecimal digits, and whether it is the last part. The
 // next one begins at `next`.
-#[derive(Drop)]
+#[derive(Clone, Copy)]
 pub struct Part {
     pub next: usize,
     pub length: usize,
@@ -24,7 +24,7 @@ pub fn is_lower_hex(c: u32) -> bool
 }
 
 // Bytes at the start of a part: whether all of them are lower-case hexadecimal digits, and where the part goes on.
-#[derive(Drop)]
+#[derive(Clone, Copy)]
 pub struct Start {
     pub next: usize,
     pub hex: bool,
@@ -119,7 +119,7 @@ pub fn read(s: &[u8], i: usize) -> Part
 }
 
 // A character of a string's content that an escape stands for, or one byte of it: where the content goes on, and how many bytes it has.
-#[derive(Drop)]
+#[derive(Clone, Copy)]
 pub struct Char {
     pub next: usize,
     pub scalar: u32,

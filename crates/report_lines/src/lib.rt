@@ -6,7 +6,7 @@ ghost use Rattle.report_lines.specs.Lines.{line_number, line_used, line_bytes};
 pub const MOST_LINE: usize = 16600;
 
 // The number of a line, and the used count for the next one.
-#[derive(Drop)]
+#[derive(Clone, Copy)]
 pub struct Loaded {
     pub number: usize,
     pub used: usize,

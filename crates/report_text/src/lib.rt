@@ -10,7 +10,7 @@ ghost use Rattle.report_text.specs.Parts.{Divides, Takes};
 const KEPT: usize = 16601;
 
 // What was taken of a part: the place after it, how many bytes are kept of the line, and whether the line ended.
-#[derive(Drop)]
+#[derive(Clone, Copy)]
 pub struct Taken {
     pub at: usize,
     pub length: usize,
@@ -38,7 +38,7 @@ fn past(s: &[u8], at: usize) -> usize
 }
 
 // Where a line's Image ID ends, and where its manifest begins.
-#[derive(Drop)]
+#[derive(Clone, Copy)]
 pub struct Divided {
     pub end: usize,
     pub start: usize,

@@ -7,7 +7,7 @@ use report_text::print;
 
 // Where a run is: the index of the next line, the used count of the store, how many bytes are kept of the line that has not ended, and how
 // many of the output buffer are still to be printed.
-#[derive(Drop)]
+#[derive(Clone, Copy)]
 struct State {
     index: usize,
     used: usize,

@@ -17,7 +17,7 @@ use reference_digests::algorithm::Algorithm;
 use store_record::{MOST_IMAGES, Record, Survey};
 
 // The aliases of a manifest that are asked about: those of the image itself, or those of its layers.
-#[derive(Drop)]
+#[derive(Clone, Copy)]
 pub enum Aliases {
     Own,
     Layers,

@@ -14,14 +14,14 @@ use manifest::{Checked, Places};
 use store_record::{MOST_IMAGES, Survey};
 
 // The places in each manifest of a store, where all are canonical and good.
-#[derive(Drop)]
+#[derive(Clone, Copy)]
 pub struct Fit {
     pub all: bool,
     pub places: [Places; MOST_IMAGES],
 }
 
 // A store's records and the places in its manifests, where it is well-formed.
-#[derive(Drop)]
+#[derive(Clone, Copy)]
 pub struct Opened {
     pub sound: bool,
     pub survey: Survey,

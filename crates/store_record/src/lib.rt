@@ -14,7 +14,7 @@ use store_varint::Number;
 pub const MOST_IMAGES: usize = 64;
 
 // The positions in a store of one record's parts: the signer's digest, the manifest's, the manifest itself, and the end.
-#[derive(Drop)]
+#[derive(Clone, Copy)]
 pub struct Record {
     pub algorithm: Algorithm,
     pub signer: usize,
@@ -54,14 +54,14 @@ impl Record {
 }
 
 // A record, or none that is whole.
-#[derive(Drop)]
+#[derive(Clone, Copy)]
 pub enum ReadRecord {
     At(Record),
     Missing,
 }
 
 // The records of a store, if at most 64 fill it exactly.
-#[derive(Drop)]
+#[derive(Clone, Copy)]
 pub struct Survey {
     pub whole: bool,
     pub count: usize,

@@ -28,7 +28,7 @@ pub fn write(n: usize, out: &mut [u8]) -> usize
 }
 
 // A number and the position after it; or none that is in shortest form, whole and small enough.
-#[derive(Drop)]
+#[derive(Clone, Copy)]
 pub enum Number {
     At { value: usize, next: usize },
     Missing,

@@ -16,14 +16,14 @@ pub const FILL: u8 = 0xEE;
 const TENTH: usize = 1844674407370955160;
 
 // How many bytes of the buffer are the store's, and how many of these are used.
-#[derive(Drop)]
+#[derive(Clone, Copy)]
 pub struct State {
     pub size: usize,
     pub used: usize,
 }
 
 // A number that was read, or none.
-#[derive(Drop)]
+#[derive(Clone, Copy)]
 pub enum Number {
     Is(usize),
     Bad,

@@ -14,7 +14,7 @@ use reference::layer::Layer;
 const MOST_BYTES: usize = 16384;
 
 // What opening two manifests gives, where both are good.
-#[derive(Drop)]
+#[derive(Clone, Copy)]
 pub enum Pair {
     Good { first: Places, second: Places },
     Bad,

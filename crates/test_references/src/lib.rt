@@ -15,7 +15,7 @@ use text::Checked;
 use text_view::Kind;
 
 // Where the content of a string begins, in a text that is one.
-#[derive(Drop)]
+#[derive(Clone, Copy)]
 struct Place {
     found: bool,
     at: usize,

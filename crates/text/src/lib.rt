@@ -20,7 +20,7 @@ pub const MOST_BYTES: usize = 16384;
 pub const MOST_KEYS: usize = MOST_BYTES / 4;
 
 // Why a text is refused, by document 01's questions 1 to 6, each with the offset of the fault; a text that is too long has none.
-#[derive(Drop)]
+#[derive(Clone, Copy)]
 pub enum Fault {
     TooLong,
     NotUtf8(usize),
@@ -61,7 +61,7 @@ impl Fault {
 }
 
 // A text that is taken, with the length of its canonical form and whether it is that form itself; or its fault.
-#[derive(Drop)]
+#[derive(Clone, Copy)]
 pub enum Checked {
     Accepted { length: usize, canonical: bool },
     Refused(Fault),
@@ -77,7 +77,7 @@ pub fn check(text: &[u8]) -> Checked
 }
 
 // What checking answers, and how many keys the text's value has itself: 0 where it is no object or the text is refused. The keys are left sorted.
-#[derive(Drop)]
+#[derive(Clone, Copy)]
 pub struct CheckedWithKeys {
     pub answer: Checked,
     pub count: usize,

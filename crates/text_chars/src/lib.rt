@@ -14,14 +14,14 @@ use text_json::Scan;
 use text_json::bytes::{between, hex_value, is_control, is_hex, is_plain, is_short, short_value};
 
 // Four hexadecimal digits: their number, or the position of the first byte that is no digit.
-#[derive(Drop)]
+#[derive(Clone, Copy)]
 pub enum Hex {
     Number(u32),
     NoHex(usize),
 }
 
 // One escape: where it ends, whether it is refused, and how long its canonical form is; or the first byte that does not fit.
-#[derive(Drop)]
+#[derive(Clone, Copy)]
 pub enum Escape {
     Char {
         end: usize,

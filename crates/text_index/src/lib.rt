@@ -7,7 +7,7 @@ ghost use Rattle.text_index.specs.Index.{Entry, Index, SomeIndex, comes_before, 
 use text_order::Order;
 
 // A part of the index: the places from `from` to `to`, the last not included.
-#[derive(Drop)]
+#[derive(Clone, Copy)]
 pub struct Range {
     pub from: usize,
     pub to: usize,

@@ -8,14 +8,14 @@ pub mod space;
 pub const MOST_NESTING: usize = 8;
 
 // Where a part of the grammar ended, or the position of the first byte that does not fit.
-#[derive(Drop)]
+#[derive(Clone, Copy)]
 pub enum Step {
     End(usize),
     Stuck(usize),
 }
 
 // A string or a number that was read: where it ends, whether document 01 refuses it, and the length of its canonical form.
-#[derive(Drop)]
+#[derive(Clone, Copy)]
 pub enum Scan {
     Token {
         end: usize,

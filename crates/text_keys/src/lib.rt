@@ -10,7 +10,7 @@ use text_order::Order;
 
 // What ordering the keys of an object finds: how much of the text is left from the first one on that is equal to an earlier one, 0 if
 // there is none, and whether they stood in rising order.
-#[derive(Drop)]
+#[derive(Clone, Copy)]
 pub struct Ordered {
     pub left: usize,
     pub rising: bool,

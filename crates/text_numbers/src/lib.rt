@@ -12,21 +12,21 @@ use text_json::bytes::{is_digit, is_exp, is_sign};
 use text_json::{Scan, Step};
 
 // A run of digits: where it ends, and the number that it makes up, which stops growing above 32 bits.
-#[derive(Drop)]
+#[derive(Clone, Copy)]
 pub struct Run {
     pub end: usize,
     pub value: u64,
 }
 
 // A number's int: where it ends and its value; or the first byte that does not fit.
-#[derive(Drop)]
+#[derive(Clone, Copy)]
 pub enum Int {
     Digits { end: usize, value: u64 },
     NoInt(usize),
 }
 
 // A part that may be absent: where reading goes on, and whether it is absent; or the first byte that does not fit.
-#[derive(Drop)]
+#[derive(Clone, Copy)]
 pub enum NumberPart {
     Past { end: usize, whole: bool },
     NoPart(usize),

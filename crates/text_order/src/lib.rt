@@ -10,7 +10,7 @@ ghost use Rattle.text_strings.specs.Cursor.{Left, ReadableCursor};
 use text_strings::Cursor;
 
 // How one string's content stands to another's, byte by byte.
-#[derive(Drop)]
+#[derive(Clone, Copy)]
 pub enum Order {
     Less,
     Equal,

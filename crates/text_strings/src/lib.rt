@@ -21,7 +21,7 @@ fn hex_number(s: &[u8], at: usize) -> u32
 }
 
 // An escape: the character that it stands for, and where the string goes on.
-#[derive(Drop)]
+#[derive(Clone, Copy)]
 pub struct Escape {
     pub next: usize,
     pub scalar: u32,
@@ -75,7 +75,7 @@ fn read_pair(s: &[u8], i: usize, u: u32) -> Escape
 }
 
 // A place in a string's content: the bytes of an escape that are not taken yet, held[from..count], and then the string from `at` on.
-#[derive(Drop)]
+#[derive(Clone, Copy)]
 pub struct Cursor {
     pub at: usize,
     pub held: [u8; 4],
@@ -84,7 +84,7 @@ pub struct Cursor {
 }
 
 // The next byte of a string's content with the place after it; where the content has ended, `found` is false.
-#[derive(Drop)]
+#[derive(Clone, Copy)]
 pub struct Next {
     pub found: bool,
     pub byte: u8,

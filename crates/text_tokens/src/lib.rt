@@ -14,7 +14,7 @@ ghost use Rattle.text_tokens.specs.Scanned.{ScansValue, Follows, plain_value, cl
 
 // The first faults of a part of the text by questions 4, 5 and 6, each by the bytes left from there on (0: none), the length of its
 // canonical form, and whether the keys of every object in it are in rising order.
-#[derive(Drop)]
+#[derive(Clone, Copy)]
 pub struct Summary {
     pub string: usize,
     pub number: usize,
@@ -24,7 +24,7 @@ pub struct Summary {
 }
 
 // A value that was read: the position after it, how many keys it has itself (0 where it is no object), and what it holds.
-#[derive(Drop)]
+#[derive(Clone, Copy)]
 pub struct ScannedValue {
     pub end: usize,
     pub count: usize,
@@ -32,7 +32,7 @@ pub struct ScannedValue {
 }
 
 // A value that was read, or the position where reading is stuck.
-#[derive(Drop)]
+#[derive(Clone, Copy)]
 pub enum Scanned {
     Value(ScannedValue),
     Stuck(usize),
@@ -158,7 +158,7 @@ fn number(s: &[u8], at: usize) -> Scanned
 }
 
 // What follows an item of an array or an object.
-#[derive(Drop)]
+#[derive(Clone, Copy)]
 pub enum After {
     End(usize),
     More(usize),
@@ -222,7 +222,7 @@ pub fn key(s: &[u8], at: usize) -> text_json::Scan
 }
 
 // A member's key: where its value begins, the bytes left from it on if it is refused, and the length of its canonical form.
-#[derive(Drop)]
+#[derive(Clone, Copy)]
 pub struct Name {
     pub value: usize,
     pub fault: usize,

@@ -6,7 +6,7 @@ ghost use Rattle.text_utf8.specs.Utf8.{range, tail, verdict};
 ghost use Rattle.text_utf8.specs.Scalar.{encode};
 ghost use Rattle.text_utf8.specs.Char.{meets, char_len, Ascii};
 
-#[derive(Drop)]
+#[derive(Clone, Copy)]
 pub enum Verdict {
     WellFormed,
     // The offset of the first byte of the first character that is not well-formed.
@@ -138,7 +138,7 @@ pub fn check(text: &[u8]) -> Verdict
 }
 
 // The bytes of a scalar value: the first len of bytes.
-#[derive(Drop)]
+#[derive(Clone, Copy)]
 pub struct Encoding {
     pub len: usize,
     pub bytes: [u8; 4],
