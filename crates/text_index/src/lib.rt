@@ -1,5 +1,7 @@
 // An index of strings that stand in one byte list: `at` has the position where each string's content begins, and `order` the strings' numbers, sorted by
 // content. A content is looked up by halves, so many lookups among strings of many texts cost some twelve comparisons each.
+#![tactic(auto)]
+
 ghost use Rattle.std.specs.Prelude.{◌≡◌, List, ◌∷◌, ℕ, ◌+◌, ◌≤◌, ◌<◌, length, take};
 ghost use Rattle.text_strings.specs.InString.{Inside, content_from};
 ghost use Rattle.text_index.specs.Index.{Entry, Index, SomeIndex, comes_before, Counted, Before, Holds, Moved};

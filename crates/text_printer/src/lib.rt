@@ -1,4 +1,6 @@
 // Writing canonical text. Each function writes at the start of the slice that it is lent and says how many bytes it wrote.
+#![tactic(auto)]
+
 ghost use Rattle.std.specs.Prelude.{◌≡◌, [], ◌∷◌, ◌++◌, ◌+◌, ◌-◌, ◌<◌, ◌≤◌, length, take, drop};
 ghost use Rattle.text_utf8.specs.Scalar.{encode};
 ghost use Rattle.text_json.specs.Content.{escaped, quoted};

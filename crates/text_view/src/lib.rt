@@ -1,5 +1,7 @@
 // The values of a JSON text in place: a position stands for the value whose first byte it is, and a cursor for what is left of an
 // array or an object. The text was checked before; it need not be canonical.
+#![tactic(auto)]
+
 ghost use Rattle.std.specs.Prelude.{◌≡◌, true, false, ℕ, ◌-◌};
 ghost use Rattle.text_content.specs.Value.{Values, no_values, Fields, no_fields, array, object};
 ghost use Rattle.text_view.specs.Place.{ValueAt, EndsAt};
@@ -8,7 +10,7 @@ ghost use Rattle.text_view.specs.Cursor.{SomeArray, SomeElements, ElementsLeft, 
 ghost use Rattle.text_view.specs.Cursor.{GivesHead, FirstMember, NextMember, SomeMemberEnd};
 
 // What a value is; a boolean is told apart already.
-#[derive(Clone, Copy)]
+#[derive(Drop)]
 pub enum Kind {
     Null,
     Boolean(bool),
@@ -19,7 +21,7 @@ pub enum Kind {
 }
 
 // A whole number: its sign and its distance from 0.
-#[derive(Clone, Copy)]
+#[derive(Drop)]
 pub struct Whole {
     pub negative: bool,
     pub magnitude: u32,
@@ -28,14 +30,14 @@ pub struct Whole {
 pub mod value;
 
 // The elements of an array that are left: they stand from `at` on, each nested at most `depth` deep.
-#[derive(Clone, Copy)]
+#[derive(Drop)]
 pub struct Elements {
     pub at: usize,
     pub depth: usize,
 }
 
 // The next element's position with what is left after it, or the end.
-#[derive(Clone, Copy)]
+#[derive(Drop)]
 pub enum Element {
     At(usize, Elements),
     End,
@@ -80,14 +82,14 @@ impl Elements {
 }
 
 // The members of an object that are left, likewise.
-#[derive(Clone, Copy)]
+#[derive(Drop)]
 pub struct Members {
     pub at: usize,
     pub depth: usize,
 }
 
 // The next member, by the position of its key's quotation mark and that of its value, with what is left after it; or the end.
-#[derive(Clone, Copy)]
+#[derive(Drop)]
 pub enum Member {
     At {
         key: usize,
@@ -98,7 +100,7 @@ pub enum Member {
 }
 
 // The next member without what is left after it, or the end.
-#[derive(Clone, Copy)]
+#[derive(Drop)]
 pub enum Head {
     At { key: usize, value: usize },
     End,

@@ -9,59 +9,59 @@ use Rattle.text_index.proofs.Searching.{counted, mid_entry, goes_up, goes_down}
 use Rattle.text_index.proofs.count_between.Statement.{statement}
 use Rattle.text_index.proofs.count_between.Tie as tie
 
-abbrev invariant-loop : tie.invariant-loop
+abbrev invariant-loop : tie.invariant-loop-low
 invariant-loop b at order t q equal from to low₀ high₀ low high = Counted b at order equal equal (content_from t q) low high
 
-abbrev decreases-loop : tie.decreases-loop
+abbrev decreases-loop : tie.decreases-loop-low
 decreases-loop b at order t q equal from to low₀ high₀ low high = high - low
 
-loop-holds : tie.Need-loop-init invariant-loop decreases-loop
-loop-holds c = c.before.before.before.before.requires.2
+loop-low-init : tie.Need-loop-low-init invariant-loop decreases-loop
+loop-low-init c = c.requires.2
 
 -- the middle of what is left
-abbrev mid : tie.After-shared-slice-known5 invariant-loop decreases-loop → ℕ
-mid c = let l = c.before.before.loop in l.low + (l.high - l.low) / 2
+abbrev mid : tie.After-shared_slice_known-in-loop-low-1 invariant-loop decreases-loop → ℕ
+mid c = let l = c.loop-low in l.low + (l.high - l.low) / 2
 
-middle : (c : tie.After-shared-slice-known5 invariant-loop decreases-loop) → let l = c.before.before.loop in (l.low ≤ mid c) × (mid c < l.high)
+middle : (c : tie.After-shared_slice_known-in-loop-low-1 invariant-loop decreases-loop) → let l = c.loop-low in (l.low ≤ mid c) × (mid c < l.high)
 middle c = (omega arith, omega arith)
 
 -- the string that stands there
-entry : (c : tie.After-shared-slice-known5 invariant-loop decreases-loop) → let a = c.before.before.before.before.before.before.before.args in
+entry : (c : tie.After-shared_slice_known-in-loop-low-1 invariant-loop decreases-loop) → let a = c.args in
     Entry a.b.now a.at.now (get_or a.order.now (mid c) 0)
 entry c =
-    mid_entry _ _ _ _ _ _ _ _ c.before.before.loop.invariant c.before.before.before.before.before.before.before.requires.0
+    mid_entry _ _ _ _ _ _ _ _ c.loop-low.invariant c.requires.0
     (mid c) (middle c).0 (middle c).1
 
-cast-e : tie.Need-overflow-cast-e invariant-loop decreases-loop
-cast-e c = omega (arith, c.shared-slice-known5.given (mid c))
+overflow_cast-e : tie.Need-overflow_cast-e invariant-loop decreases-loop
+overflow_cast-e c = omega (arith, c.shared_slice_known-in-loop-low-1.given (mid c))
 
-mul-is-before : tie.Need-overflow-mul-is-before invariant-loop decreases-loop
-mul-is-before c = omega (arith, c.shared-slice-known5.given (mid c))
+offset_bounds-at-e : tie.Need-offset_bounds-at-e invariant-loop decreases-loop
+offset_bounds-at-e c = omega (arith, c.shared_slice_known-in-loop-low-1.given (mid c))
 
-shared-slice-read-is-before : tie.Need-shared-slice-read-is-before invariant-loop decreases-loop
-shared-slice-read-is-before c = (entry c.before).within
+bounds-at-e : tie.Need-bounds-at-e invariant-loop decreases-loop
+bounds-at-e c = (entry c.before).within
 
-is-before-requires : tie.Need-is-before-requires invariant-loop decreases-loop
-is-before-requires c κs = ((entry c.before).inside, c.before.before.before.before.before.before.before.before.requires.1)
+is_before-requires : tie.Need-is_before-requires invariant-loop decreases-loop
+is_before-requires c κs = ((entry c.before).inside, c.requires.1)
 
-loop-again : tie.Need-loop-preserved invariant-loop decreases-loop
+loop-low-preserved-then-is_before : tie.Need-loop-low-preserved-then-is_before invariant-loop decreases-loop
 unfolding entry_text
-loop-again c =
+loop-low-preserved-then-is_before c =
     let d = c.before.before.before in
-    goes_up _ _ _ _ _ _ _ _ d.before.before.loop.invariant d.before.before.before.before.before.before.before.requires.0
-    (mid d) (middle d).0 (middle d).1 _ c.before.is-before.ensures c.if1.true
+    goes_up _ _ _ _ _ _ _ _ d.loop-low.invariant d.requires.0
+    (mid d) (middle d).0 (middle d).1 _ c.is_before.ensures c.if-is_before.true
 
-loop-again-2 : tie.Need-loop-preserved-2 invariant-loop decreases-loop
+loop-low-preserved : tie.Need-loop-low-preserved invariant-loop decreases-loop
 unfolding entry_text
-loop-again-2 c =
+loop-low-preserved c =
     let d = c.before.before.before in
-    goes_down _ _ _ _ _ _ _ _ d.before.before.loop.invariant d.before.before.before.before.before.before.before.requires.0
-    (mid d) (middle d).0 (middle d).1 _ c.before.is-before.ensures c.if1.false
+    goes_down _ _ _ _ _ _ _ _ d.loop-low.invariant d.requires.0
+    (mid d) (middle d).0 (middle d).1 _ c.is_before.ensures c.if-is_before.false
 
 returns : tie.Need-returns invariant-loop decreases-loop
-returns c = counted _ _ _ _ _ _ _ c.before.loop.invariant c.loop-test.false
+returns c = counted _ _ _ _ _ _ _ c.loop-low.invariant c.loop-low-test.false
 
-pub count-between-spec : {M : Type 1} → statement M
-count-between-spec =
-    tie.close (tie.spec invariant-loop decreases-loop loop-holds (λ c. omega arith) (λ c. omega arith) (λ c. omega arith) (λ c. omega arith) cast-e mul-is-before
-    shared-slice-read-is-before is-before-requires (λ c. omega arith) (λ c. omega arith) loop-again (λ c. omega arith) loop-again-2 returns)
+pub count_between_spec : {M : Type 1} → statement M
+count_between_spec =
+    tie.close (tie.spec invariant-loop decreases-loop loop-low-init (λ c. omega arith) (λ c. omega arith) (λ c. omega arith) (λ c. omega arith) overflow_cast-e offset_bounds-at-e
+    bounds-at-e is_before-requires (λ c. omega arith) (λ c. omega arith) loop-low-preserved-then-is_before (λ c. omega arith) loop-low-preserved returns)

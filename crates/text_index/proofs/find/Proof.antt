@@ -16,30 +16,30 @@ use Rattle.text_index.proofs.Searching.{count_started, none_counted, mid_entry, 
 use Rattle.text_index.proofs.find.Statement.{statement}
 use Rattle.text_index.proofs.find.Tie as tie
 
-abbrev invariant-loop : tie.invariant-loop
+abbrev invariant-loop : tie.invariant-loop-low
 invariant-loop b at order t q low₀ high₀ low high = Counted b at order false true (content_from t q) low high
 
-abbrev decreases-loop : tie.decreases-loop
+abbrev decreases-loop : tie.decreases-loop-low
 decreases-loop b at order t q low₀ high₀ low high = high - low
 
-loop-holds : tie.Need-loop-init invariant-loop decreases-loop
-loop-holds c = count_started _ _ _ _ _ _
+loop-low-init : tie.Need-loop-low-init invariant-loop decreases-loop
+loop-low-init c = count_started _ _ _ _ _ _
 
 -- a turn of the loop
-module _ (d : tie.After-shared-slice-known5 invariant-loop decreases-loop) where
+module _ (d : tie.After-shared_slice_known-in-loop-low-1 invariant-loop decreases-loop) where
   abbrev start : tie.Start invariant-loop decreases-loop
   start = d.before.before.before.before.before.before.before
 
   -- the middle of what is left
   abbrev mid : ℕ
-  mid = let l = d.before.before.loop in l.low + (l.high - l.low) / 2
+  mid = let l = d.loop-low in l.low + (l.high - l.low) / 2
 
-  middle : (d.before.before.loop.low ≤ mid) × (mid < d.before.before.loop.high)
+  middle : (d.loop-low.low ≤ mid) × (mid < d.loop-low.high)
   middle = (omega arith, omega arith)
 
   -- the string that stands there
   entry : Entry start.args.b.now start.args.at.now (get_or start.args.order.now mid 0)
-  entry = mid_entry _ _ _ _ _ _ _ _ d.before.before.loop.inv start.pre.0 mid middle.0 middle.1
+  entry = mid_entry _ _ _ _ _ _ _ _ d.loop-low.invariant start.requires.0 mid middle.0 middle.1
 
   -- its content, and the one that is looked for
   abbrev text : List ℕ
@@ -50,22 +50,22 @@ module _ (d : tie.After-shared-slice-known5 invariant-loop decreases-loop) where
 
   -- it comes before that, and so does what stands before it
   up : (equal : Bool) → true ≡ comes_before equal text sought
-      → Counted start.args.b.now start.args.at.now start.args.order.now equal true sought (mid + 1) d.before.before.loop.high
-  up equal e = goes_up _ _ _ _ _ _ _ _ d.before.before.loop.inv start.pre.0 mid middle.0 middle.1 equal e refl
+      → Counted start.args.b.now start.args.at.now start.args.order.now equal true sought (mid + 1) d.loop-low.high
+  up equal e = goes_up _ _ _ _ _ _ _ _ d.loop-low.invariant start.requires.0 mid middle.0 middle.1 equal e refl
 
   -- it does not, and neither does what stands behind it
   down : (equal : Bool) → false ≡ comes_before equal text sought
-      → Counted start.args.b.now start.args.at.now start.args.order.now false equal sought d.before.before.loop.low mid
-  down equal e = goes_down _ _ _ _ _ _ _ _ d.before.before.loop.inv start.pre.0 mid middle.0 middle.1 equal e refl
+      → Counted start.args.b.now start.args.at.now start.args.order.now false equal sought d.loop-low.low mid
+  down equal e = goes_down _ _ _ _ _ _ _ _ d.loop-low.invariant start.requires.0 mid middle.0 middle.1 equal e refl
 
-cast-e : tie.Need-overflow-cast-e invariant-loop decreases-loop
-cast-e c = omega (arith, c.shared-slice-known5.given (mid c))
+overflow_cast-e : tie.Need-overflow_cast-e invariant-loop decreases-loop
+overflow_cast-e c = omega (arith, c.shared_slice_known-in-loop-low-1.given (mid c))
 
-mul-compare : tie.Need-overflow-mul-compare invariant-loop decreases-loop
-mul-compare c = omega (arith, c.shared-slice-known5.given (mid c))
+offset_bounds-at-e : tie.Need-offset_bounds-at-e invariant-loop decreases-loop
+offset_bounds-at-e c = omega (arith, c.shared_slice_known-in-loop-low-1.given (mid c))
 
-shared-slice-read-compare : tie.Need-shared-slice-read-compare invariant-loop decreases-loop
-shared-slice-read-compare c = (entry c.before).within
+bounds-at-e : tie.Need-bounds-at-e invariant-loop decreases-loop
+bounds-at-e c = (entry c.before).within
 
 compare-requires : tie.Need-compare-requires invariant-loop decreases-loop
 compare-requires c κs = let d = c.before in ((entry d).inside, (start d).requires.1)
@@ -77,33 +77,33 @@ answer c =
     let d = c.before.before in
     c.compare.ensures _ _ (inside_content _ _ (entry d).inside) (inside_content _ _ (start d).requires.1)
 
-loop-again : tie.Need-loop-preserved invariant-loop decreases-loop
-loop-again c = let d = c.before.before in up d.before.before false (is_before_less _ _ false (answer d) c.enum_told.given.1)
+loop-low-preserved-in-Less : tie.Need-loop-low-preserved-in-Less invariant-loop decreases-loop
+loop-low-preserved-in-Less c = let d = c.before in up d.before.before false (is_before_less _ _ false (answer d) c.in-Less.is)
 
-loop-again-2 : tie.Need-loop-preserved-2 invariant-loop decreases-loop
-loop-again-2 c = let d = c.before.before in down d.before.before true (is_before_greater _ _ true (answer d) c.enum-told2.given.1)
+loop-low-preserved : tie.Need-loop-low-preserved invariant-loop decreases-loop
+loop-low-preserved c = let d = c.before in down d.before.before true (is_before_greater _ _ true (answer d) c.in-Greater.is)
 
-count-between-requires : tie.Need-count-between-requires invariant-loop decreases-loop
-count-between-requires c κs =
+count_between-from-requires : tie.Need-count_between-from-requires invariant-loop decreases-loop
+count_between-from-requires c κs =
+    let d = c.before in
+    let t = d.before.before in
+    ((start t).requires.0, (start t).requires.1, down t false (is_before_equal _ _ false (answer d) c.in-Equal.is))
+
+count_between-to-requires : tie.Need-count_between-to-requires invariant-loop decreases-loop
+count_between-to-requires c κs =
     let d = c.before.before in
     let t = d.before.before in
-    ((start t).requires.0, (start t).requires.1, down t false (is_before_equal _ _ false (answer d) c.enum-told3.given.1))
+    ((start t).requires.0, (start t).requires.1, up t true (is_before_equal _ _ true (answer d) c.in-Equal.is))
 
-count-between-requires-2 : tie.Need-count-between-requires-2 invariant-loop decreases-loop
-count-between-requires-2 c κs =
-    let d = c.before.before.before in
-    let t = d.before.before in
-    ((start t).requires.0, (start t).requires.1, up t true (is_before_equal _ _ true (answer d) c.before.enum-told3.given.1))
+returns-in-Equal : tie.Need-returns-in-Equal invariant-loop decreases-loop
+returns-in-Equal c = found _ _ _ _ _ c.count_between-from.ensures c.count_between-to.ensures
 
 returns : tie.Need-returns invariant-loop decreases-loop
-returns c = found _ _ _ _ _ c.before.count-between.ensures c.count-between2.ensures
-
-returns-2 : tie.Need-returns-2 invariant-loop decreases-loop
-returns-2 c =
-    let none = none_counted _ _ _ _ _ _ c.before.loop.invariant c.loop-test.false in found _ _ _ _ _ (none false) (none true)
+returns c =
+    let none = none_counted _ _ _ _ _ _ c.loop-low.invariant c.loop-low-test.false in found _ _ _ _ _ (none false) (none true)
 
 pub find_spec : {M : Type 1} → statement M
 find_spec =
-    tie.close (tie.spec invariant-loop decreases-loop loop-holds (λ c. omega arith) (λ c. omega arith) (λ c. omega arith) (λ c. omega arith) cast-e mul-compare
-    shared-slice-read-compare compare-requires (λ c. search rules) (λ c. omega arith) (λ c. omega arith) loop-again (λ c. search rules)
-    (λ c. omega arith) loop-again-2 (λ c. search rules) count-between-requires (λ c. omega arith) count-between-requires-2 returns returns-2)
+    tie.close (tie.spec invariant-loop decreases-loop loop-low-init (λ c. omega arith) (λ c. omega arith) (λ c. omega arith) (λ c. omega arith) overflow_cast-e offset_bounds-at-e
+    bounds-at-e compare-requires (λ c. search rules) (λ c. omega arith) (λ c. omega arith) loop-low-preserved-in-Less (λ c. search rules)
+    (λ c. omega arith) loop-low-preserved (λ c. search rules) count_between-from-requires (λ c. omega arith) count_between-to-requires returns-in-Equal returns)

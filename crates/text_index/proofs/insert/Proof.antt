@@ -14,40 +14,40 @@ use Rattle.text_index.proofs.insert.Tie as tie
 size : (c : tie.Start) → length (take c.args.n c.args.order.now) ≡ c.args.n
 size c = length-take-le c.args.n c.args.order.now (omega (arith, c.requires.1))
 
-slice-aggregate-count-before : tie.Need-slice-aggregate-count-before
-slice-aggregate-count-before c = sym (size c.before.before.before.before.before)
+slice_bounds-count_before-end-2 : tie.Need-slice_bounds-count_before-end-2
+slice_bounds-count_before-end-2 c = sym (size c.before.before.before.before)
 
-count-before-requires : tie.Need-count-before-requires
-count-before-requires c κs = (c.before.before.before.before.before.requires.0, c.before.before.before.before.before.requires.2.inside)
+count_before-k-requires : tie.Need-count_before-k-requires
+count_before-k-requires c κs = (c.requires.0, c.requires.2.inside)
 
 -- the place that was found is one of the first n, or the one behind them
-place : (c : tie.After-count-before) → c.count-before.result ≤ c.before.before.before.before.before.before.args.n
-place c = omega (arith, c.count-before.ensures.within, size c.before.before.before.before.before.before)
+place : (c : tie.After-count_before-k) → c.count_before-k.result ≤ c.args.n
+place c = omega (arith, c.count_before-k.ensures.within, size c.before.before.before.before.before)
 
-move-up-requires : tie.Need-move-up-requires
-move-up-requires c κs = (place c.before, c.before.before.before.before.before.before.before.requires.1)
+move_up-requires : tie.Need-move_up-requires
+move_up-requires c κs = (place c.before, c.requires.1)
 
 -- place n is one of the slice
-short : (c : tie.After-move-up) → c.before.before.before.before.before.before.before.before.args.n < length c.move_up.new.0
-short c = omega (arith, c.before.before.before.before.before.before.before.before.requires.1, c.move_up.ensures.length_kept)
+short : (c : tie.After-move_up) → c.args.n < length c.move_up.new.order
+short c = omega (arith, c.requires.1, c.move_up.ensures.length_kept)
 
-mul-order : tie.Need-overflow-mul-order
-mul-order c = omega (arith, place c.before.before.before.before)
+offset_bounds-order-k : tie.Need-offset_bounds-order-k
+offset_bounds-order-k c = omega (arith, place c.before.before.before.before)
 
-slice-write-order : tie.Need-slice-write-order
-slice-write-order c = omega (arith, place c.before.before.before.before, short c.before.before)
+bounds-order-k : tie.Need-bounds-order-k
+bounds-order-k c = omega (arith, place c.before.before.before.before, short c.before.before)
 
-same_length : tie.Need-same-length
-same_length c = search rules
+shape_of-order : tie.Need-shape_of-order
+shape_of-order c = search rules
 
 returns : tie.Need-returns
 unfolding entry_text
 returns c =
     let d = c.before.before in
-    let s = d.before.before.before.before.before.before.before.before in
-    (same_length c, index_more _ _ _ _ _ _ _ s.requires.1 s.requires.2 d.before.before.count-before.ensures d.move_up.ensures)
+    let s = d.before.before.before.before.before.before.before in
+    (shape_of-order c, index_more _ _ _ _ _ _ _ s.requires.1 s.requires.2 d.count_before-k.ensures d.move_up.ensures)
 
-pub insert-spec : {M : Type 1} → statement M
-insert-spec =
-    tie.close (tie.spec (λ c. search rules) (λ c. search rules) (λ c. search rules) slice-aggregate-count-before count-before-requires
-    move-up-requires mul-order slice-write-order same_length returns)
+pub insert_spec : {M : Type 1} → statement M
+insert_spec =
+    tie.close (tie.spec (λ c. search rules) (λ c. search rules) (λ c. search rules) slice_bounds-count_before-end-2 count_before-k-requires
+    move_up-requires offset_bounds-order-k bounds-order-k shape_of-order returns)

@@ -6,29 +6,29 @@ use Rattle.text_index.proofs.Inserting.{moved_none, moved_more, moved_to}
 use Rattle.text_index.proofs.move_up.Statement.{statement}
 use Rattle.text_index.proofs.move_up.Tie as tie
 
-abbrev invariant-loop : tie.invariant-loop
+abbrev invariant-loop : tie.invariant-loop-i
 invariant-loop order₀ k n i₀ order i = (k ≤ i) × (i ≤ n) × Moved order₀ i n order
 
-abbrev decreases-loop : tie.decreases-loop
+abbrev decreases-loop : tie.decreases-loop-i
 decreases-loop order₀ k n i₀ order i = i
 
-loop-holds : tie.Need-loop-init invariant-loop decreases-loop
-loop-holds c = (c.requires.0, omega arith, moved_none _ _ c.requires.1)
+loop-i-init : tie.Need-loop-i-init invariant-loop decreases-loop
+loop-i-init c = (c.requires.0, omega arith, moved_none _ _ c.requires.1)
 
-loop-again : tie.Need-loop-preserved invariant-loop decreases-loop
-loop-again c =
-    let l = c.before.before.loop in
-    (omega arith, omega arith, moved_more _ _ _ _ (omega arith) l.invariant.1 c.before.before.before.requires.1 l.invariant.2)
+loop-i-preserved : tie.Need-loop-i-preserved invariant-loop decreases-loop
+loop-i-preserved c =
+    let l = c.loop-i in
+    (omega arith, omega arith, moved_more _ _ _ _ (omega arith) l.invariant.1 c.requires.1 l.invariant.2)
 
-same_length : tie.Need-same-length invariant-loop decreases-loop
-same_length c = c.before.loop.invariant.2.length_kept
+shape_of-order : tie.Need-shape_of-order invariant-loop decreases-loop
+shape_of-order c = c.loop-i.invariant.2.length_kept
 
 returns : tie.Need-returns invariant-loop decreases-loop
 returns c =
-    let l = c.before.loop in
+    let l = c.loop-i in
     moved_to _ _ _ _ _ (omega arith) l.invariant.2
 
 pub move_up_spec : {M : Type 1} → statement M
 move_up_spec =
-    tie.close (tie.spec invariant-loop decreases-loop loop-holds (λ c. omega arith) (λ c. omega arith) (λ c. omega arith) (λ c. omega arith) (λ c. omega arith)
-    (λ c. omega arith) (λ c. omega arith) loop-again same_length returns)
+    tie.close (tie.spec invariant-loop decreases-loop loop-i-init (λ c. omega arith) (λ c. omega arith) (λ c. omega arith) (λ c. omega arith) (λ c. omega arith)
+    (λ c. omega arith) (λ c. omega arith) loop-i-preserved shape_of-order returns)

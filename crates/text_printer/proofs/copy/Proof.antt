@@ -10,30 +10,30 @@ use Rattle.laws.proofs.Writing.{same_length, copied_byte}
 use Rattle.text_printer.proofs.copy.Statement.{statement}
 use Rattle.text_printer.proofs.copy.Tie as tie
 
-abbrev invariant-loop : tie.invariant-loop
+abbrev invariant-loop : tie.invariant-loop-i
 invariant-loop s from to out₀ n i₀ out i = (i ≤ n) × Writes out₀ out (take i (drop from s))
 
-abbrev decreases-loop : tie.decreases-loop
+abbrev decreases-loop : tie.decreases-loop-i
 decreases-loop s from to out₀ n i₀ out i = n - i
 
-slice-write-out : tie.Need-slice-write-out invariant-loop decreases-loop
-slice-write-out c = omega (arith, same_length c.before.before.loop.invariant.1)
+bounds-out-i : tie.Need-bounds-out-i invariant-loop decreases-loop
+bounds-out-i c = omega (arith, same_length c.loop-i.invariant.1)
 
-loop-again : tie.Need-loop-preserved invariant-loop decreases-loop
-loop-again c =
-    let a = c.before.before.before.args in
-    (search rules, copied_byte a.s.now a.from c.before.before.loop.i (omega arith) (omega arith) c.before.before.loop.invariant.1)
+loop-i-preserved : tie.Need-loop-i-preserved invariant-loop decreases-loop
+loop-i-preserved c =
+    let a = c.args in
+    (search rules, copied_byte a.s.now a.from c.loop-i.i (omega arith) (omega arith) c.loop-i.invariant.1)
 
-keeps-length : tie.Need-same-length invariant-loop decreases-loop
-keeps-length c = same_length c.before.loop.invariant.1
+shape_of-out : tie.Need-shape_of-out invariant-loop decreases-loop
+shape_of-out c = same_length c.loop-i.invariant.1
 
 returns : tie.Need-returns invariant-loop decreases-loop
 returns c =
-    let a = c.before.before.args in
-    let e : c.before.loop.i ≡ a.to - a.from = omega arith in
-    (search rules, subst (λ (n : ℕ). Writes a.out.now c.before.loop.out (take n (drop a.from a.s.now))) e c.before.loop.invariant.1)
+    let a = c.args in
+    let e : c.loop-i.i ≡ a.to - a.from = omega arith in
+    (search rules, subst (λ (n : ℕ). Writes a.out.now c.loop-i.out (take n (drop a.from a.s.now))) e c.loop-i.invariant.1)
 
 pub copy_spec : {M : Type 1} → statement M
 copy_spec =
-    tie.close (tie.spec invariant-loop decreases-loop (λ c. search rules) (λ c. search rules) (λ c. search rules) (λ c. search rules) slice-write-out
-    (λ c. search rules) (λ c. search rules) loop-again keeps-length returns)
+    tie.close (tie.spec invariant-loop decreases-loop (λ c. search rules) (λ c. search rules) (λ c. search rules) (λ c. search rules) bounds-out-i
+    (λ c. search rules) (λ c. search rules) loop-i-preserved shape_of-out returns)

@@ -10,24 +10,24 @@ use Rattle.text_printer.proofs.Runs.{unmarked_run_is}
 use Rattle.text_printer.proofs.unmarked_end.Statement.{statement}
 use Rattle.text_printer.proofs.unmarked_end.Tie as tie
 
-abbrev invariant-loop : tie.invariant-loop
+abbrev invariant-loop : tie.invariant-loop-i
 invariant-loop s at i₀ i = Unmarked s at i
 
-abbrev decreases-loop : tie.decreases-loop
+abbrev decreases-loop : tie.decreases-loop-i
 decreases-loop s at i₀ i = length s - i
 
 -- the sixteen bytes that were tested
-sixteen : (c : tie.Then1 invariant-loop decreases-loop) → let l = c.before.before in Unmarked l.before.before.args.s.now l.loop.i (l.loop.i + 16)
+sixteen : (c : tie.In-loop-i invariant-loop decreases-loop) → let l = c.before.before in Unmarked l.args.s.now l.loop-i.i (l.loop-i.i + 16)
 sixteen c =
     let l = c.before.before in
-    unmarked_run_is l.before.before.args.s.now l.loop.i 16 l.loop.invariant.fits (sym c.before.unmarked-left.ensures ∙ c.if1.true)
+    unmarked_run_is l.args.s.now l.loop-i.i 16 l.loop-i.invariant.fits (sym c.unmarked_left.ensures ∙ c.loop-i-test.true)
 
-pub unmarked-end-spec : {M : Type 1} → statement M
-unmarked-end-spec =
-    tie.close (tie.spec invariant-loop decreases-loop (λ c. span_none _ _ _ _ refl c.before.requires) (λ c κs. c.loop.invariant.fits)
-    (λ c. omega (arith, (sixteen c).ranges, c.before.before.before.before.well-formed)) (λ c. omega (arith, (sixteen c).ranges))
-    (λ c. span_both _ _ _ _ _ c.before.before.loop.invariant (sixteen c)) (λ c κs. c.before.before.loop.invariant.fits)
+pub unmarked_end_spec : {M : Type 1} → statement M
+unmarked_end_spec =
+    tie.close (tie.spec invariant-loop decreases-loop (λ c. span_none _ _ _ _ refl c.before.requires) (λ c κs. c.loop-i.invariant.fits)
+    (λ c. omega (arith, (sixteen c).fits, c.well_formed)) (λ c. omega (arith, (sixteen c).fits))
+    (λ c. span_both _ _ _ _ _ c.loop-i.invariant (sixteen c)) (λ c κs. c.loop-i.invariant.fits)
     (λ c. record {
-      run = span_both _ _ _ _ _ c.before.before.before.loop.invariant c.unmarked-rest.ensures.run;
-      stops = c.unmarked-rest.ensures.stops;
+      run = span_both _ _ _ _ _ c.loop-i.invariant c.unmarked_rest.ensures.run;
+      stops = c.unmarked_rest.ensures.stops;
     }))

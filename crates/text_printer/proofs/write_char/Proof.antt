@@ -6,43 +6,43 @@ use Rattle.text_printer.proofs.Escaped.{quotation_mark, backslash, pair_fits, pa
 use Rattle.text_printer.proofs.write_char.Statement.{statement}
 use Rattle.text_printer.proofs.write_char.Tie as tie
 
-slice-write-out : tie.Need-slice-write-out
-slice-write-out c =
+bounds-out-0 : tie.Need-bounds-out-0
+bounds-out-0 c =
     let d = c.before.before in
-    omega (arith, pair_fits d.args.c 0x22 d.args.out.now c.if1.true quotation_mark d.requires.1)
+    omega (arith, pair_fits d.args.c 0x22 d.args.out.now c.if-c-eq34.true quotation_mark d.requires.1)
 
-slice-write-out-2 : tie.Need-slice-write-out-2
-slice-write-out-2 c =
+bounds-out-1 : tie.Need-bounds-out-1
+bounds-out-1 c =
     let d = c.before.before in
-    simp length-set (omega (arith, pair_fits d.args.c 0x22 d.args.out.now c.if1.true quotation_mark d.requires.1))
+    simp length-set (omega (arith, pair_fits d.args.c 0x22 d.args.out.now c.if-c-eq34.true quotation_mark d.requires.1))
 
-returns : tie.Need-returns
-returns c = pair_written _ _ _ c.if1.true quotation_mark c.before.before.requires.1
+returns-then-c-eq34 : tie.Need-returns-then-c-eq34
+returns-then-c-eq34 c = pair_written _ _ _ c.if-c-eq34.true quotation_mark c.requires.1
 
-slice-write-out-3 : tie.Need-slice-write-out-3
-slice-write-out-3 c =
+bounds-out-0-then-c-eq92 : tie.Need-bounds-out-0-then-c-eq92
+bounds-out-0-then-c-eq92 c =
     let d = c.before.before.before in
-    omega (arith, pair_fits d.args.c 0x5C d.args.out.now c.if2.true backslash d.requires.1)
+    omega (arith, pair_fits d.args.c 0x5C d.args.out.now c.if-c-eq92.true backslash d.requires.1)
 
-slice-write-out-4 : tie.Need-slice-write-out-4
-slice-write-out-4 c =
+bounds-out-1-then-c-eq92 : tie.Need-bounds-out-1-then-c-eq92
+bounds-out-1-then-c-eq92 c =
     let d = c.before.before.before in
-    simp length-set (omega (arith, pair_fits d.args.c 0x5C d.args.out.now c.if2.true backslash d.requires.1))
+    simp length-set (omega (arith, pair_fits d.args.c 0x5C d.args.out.now c.if-c-eq92.true backslash d.requires.1))
 
-returns-2 : tie.Need-returns-2
-returns-2 c = pair_written _ _ _ c.if2.true backslash c.before.before.before.requires.1
+returns-then-c-eq92 : tie.Need-returns-then-c-eq92
+returns-then-c-eq92 c = pair_written _ _ _ c.if-c-eq92.true backslash c.requires.1
 
 copy-requires : tie.Need-copy-requires
 copy-requires c κs =
     let d = c.before.before.before in
-    char_fits _ _ _ d.before.before.if1.false d.before.if2.false d.encoded.ensures _ d.before.before.before.before.requires.1
+    char_fits _ _ _ d.if-c-eq34.false d.if-c-eq92.false d.encoded-x.ensures _ d.requires.1
 
-returns-3 : tie.Need-returns-3
-returns-3 c =
+returns : tie.Need-returns
+returns c =
     let d = c.before.before.before.before.before.before in
-    char_written _ _ _ d.before.before.if1.false d.before.if2.false d.encoded.ensures _ _ _ c.before.before.copy.ensures
+    char_written _ _ _ d.if-c-eq34.false d.if-c-eq92.false d.encoded-x.ensures _ _ _ c.copy.ensures
 
-pub write-char-spec : {M : Type 1} → statement M
-write-char-spec =
-    tie.close (tie.spec slice-write-out slice-write-out-2 (λ c. search rules) returns slice-write-out-3 slice-write-out-4 (λ c. search rules)
-    returns-2 (λ c κs. search rules) (λ c. search rules) copy-requires (λ c. search rules) returns-3)
+pub write_char_spec : {M : Type 1} → statement M
+write_char_spec =
+    tie.close (tie.spec bounds-out-0 bounds-out-1 (λ c. search rules) returns-then-c-eq34 bounds-out-0-then-c-eq92 bounds-out-1-then-c-eq92 (λ c. search rules)
+    returns-then-c-eq92 (λ c κs. search rules) (λ c. search rules) copy-requires (λ c. search rules) returns)

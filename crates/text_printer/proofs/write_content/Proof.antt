@@ -11,116 +11,116 @@ use Rattle.text_printer.proofs.Contents.{char_fits, after_escape}
 use Rattle.text_printer.proofs.write_content.Statement.{statement}
 use Rattle.text_printer.proofs.write_content.Tie as tie
 
-abbrev invariant-loop : tie.invariant-loop
+abbrev invariant-loop : tie.invariant-loop-out
 invariant-loop s i out₀ k₀ n₀ out k n = ContentWritten s i out₀ out k n
 
-abbrev decreases-loop : tie.decreases-loop
+abbrev decreases-loop : tie.decreases-loop-out
 decreases-loop s i out₀ k₀ n₀ out k n = length s - k
 
-loop-holds : tie.Need-loop-init invariant-loop decreases-loop
-loop-holds c = started _ _ _ c.before.before.requires.0
+loop-out-init : tie.Need-loop-out-init invariant-loop decreases-loop
+loop-out-init c = started _ _ _ c.requires.0
 
-shared-slice-read-b : tie.Need-shared-slice-read-b invariant-loop decreases-loop
-shared-slice-read-b c = within c.before.loop.invariant
+bounds-s-k : tie.Need-bounds-s-k invariant-loop decreases-loop
+bounds-s-k c = within c.loop-out.invariant
 
-slice-write-out : tie.Need-slice-write-out invariant-loop decreases-loop
-slice-write-out c = byte_space c.before.before.loop.invariant c.before.before.before.before.before.requires.1
+bounds-out-n : tie.Need-bounds-out-n invariant-loop decreases-loop
+bounds-out-n c = byte_space c.loop-out.invariant c.requires.1
 
-add-result : tie.Need-overflow-add-result invariant-loop decreases-loop
-add-result c = omega (arith, byte_space c.before.before.loop.invariant c.before.before.before.before.before.requires.1)
+overflow_add-result : tie.Need-overflow_add-result invariant-loop decreases-loop
+overflow_add-result c = omega (arith, byte_space c.loop-out.invariant c.requires.1)
 
-same_length : tie.Need-same-length invariant-loop decreases-loop
-same_length c = simp length-set (Written.same_length c.before.before.loop.invariant.written)
+shape_of-out-then-b-eq34 : tie.Need-shape_of-out-then-b-eq34 invariant-loop decreases-loop
+shape_of-out-then-b-eq34 c = simp length-set (Written.same_length c.loop-out.invariant.written)
 
-returns : tie.Need-returns invariant-loop decreases-loop
-returns c = closed c.before.before.loop.invariant c.before.before.before.before.before.requires.1 c.if1.true
+returns-then-b-eq34 : tie.Need-returns-then-b-eq34 invariant-loop decreases-loop
+returns-then-b-eq34 c = closed c.loop-out.invariant c.requires.1 c.if-b-eq34.true
 
-read-escape-requires : tie.Need-read-escape-requires invariant-loop decreases-loop
-read-escape-requires c κs = escape_here c.before.before.before.loop.invariant c.if2.true
+read_escape-e-requires : tie.Need-read_escape-e-requires invariant-loop decreases-loop
+read_escape-e-requires c κs = escape_here c.loop-out.invariant c.if-b-eq92.true
 
-sub-write-char : tie.Need-overflow-sub-write-char invariant-loop decreases-loop
-sub-write-char c =
-    omega (arith, byte_space c.before.before.before.before.loop.invariant c.before.before.before.before.before.before.before.requires.1)
+slice_bounds-write_char-count : tie.Need-slice_bounds-write_char-count invariant-loop decreases-loop
+slice_bounds-write_char-count c =
+    omega (arith, byte_space c.loop-out.invariant c.requires.1)
 
-part-write-char-start : tie.Need-slice-bounds-write-char-start invariant-loop decreases-loop
-part-write-char-start c =
-    omega (arith, byte_space c.before.before.before.before.loop.invariant c.before.before.before.before.before.before.before.requires.1)
+slice_bounds-write_char-start : tie.Need-slice_bounds-write_char-start invariant-loop decreases-loop
+slice_bounds-write_char-start c =
+    omega (arith, byte_space c.loop-out.invariant c.requires.1)
 
-write-char-requires : tie.Need-write-char-requires invariant-loop decreases-loop
-write-char-requires c κs =
+write_char-n-requires : tie.Need-write_char-n-requires invariant-loop decreases-loop
+write_char-n-requires c κs =
     let d = c.before.before.before.before.before in
-    let e = c.before.read-escape.ensures in
-    (e.small, char_fits d.loop.invariant d.before.before.before.requires.1 _ _ e)
+    let e = c.read_escape-e.ensures in
+    (e.small, char_fits d.loop-out.invariant d.requires.1 _ _ e)
 
-add-n : tie.Need-overflow-add-n invariant-loop decreases-loop
-add-n c =
+overflow_add-n : tie.Need-overflow_add-n invariant-loop decreases-loop
+overflow_add-n c =
     let d = c.before.before.before.before in
     let l = d.before.before.before.before in
-    omega (arith, c.before.before.write-char.ensures.0, char_space l.loop.invariant l.before.before.before.requires.1 _ _ d.read-escape.ensures)
+    omega (arith, c.write_char-n.ensures.0, char_space l.loop-out.invariant l.requires.1 _ _ d.read_escape-e.ensures)
 
-loop-less : tie.Need-loop-smaller invariant-loop decreases-loop
-loop-less c =
+loop-out-smaller-then-b-eq92 : tie.Need-loop-out-smaller-then-b-eq92 invariant-loop decreases-loop
+loop-out-smaller-then-b-eq92 c =
     let d = c.before.before.before.before in
-    let e = d.read-escape.ensures in
+    let e = d.read_escape-e.ensures in
     omega (arith, e.later, e.within)
 
-loop-again : tie.Need-loop-preserved invariant-loop decreases-loop
-loop-again c =
+loop-out-preserved-then-b-eq92 : tie.Need-loop-out-preserved-then-b-eq92 invariant-loop decreases-loop
+loop-out-preserved-then-b-eq92 c =
     let d = c.before.before.before.before in
-    let w = c.before.before.write-char.ensures in
+    let w = c.write_char-n.ensures in
     let l = d.before.before.before.before in
-    after_escape l.loop.invariant l.before.before.before.requires.1 _ _ d.read-escape.ensures _ _ w.0 w.1
+    after_escape l.loop-out.invariant l.requires.1 _ _ d.read_escape-e.ensures _ _ w.0 w.1
 
-add-unmarked-end : tie.Need-overflow-add-unmarked-end invariant-loop decreases-loop
-add-unmarked-end c = omega (arith, within c.before.before.before.loop.invariant)
+overflow_add-k : tie.Need-overflow_add-k invariant-loop decreases-loop
+overflow_add-k c = omega (arith, within c.loop-out.invariant)
 
-unmarked-end-requires : tie.Need-unmarked-end-requires invariant-loop decreases-loop
-unmarked-end-requires c κs = omega (arith, within c.before.before.before.loop.invariant)
+unmarked_end-end-requires : tie.Need-unmarked_end-end-requires invariant-loop decreases-loop
+unmarked_end-end-requires c κs = omega (arith, within c.loop-out.invariant)
 
-sub-copy : tie.Need-overflow-sub-copy invariant-loop decreases-loop
-sub-copy c = let l = c.before.before.before.before in omega (arith, byte_space l.loop.invariant l.before.before.before.requires.1)
+slice_bounds-copy-count : tie.Need-slice_bounds-copy-count invariant-loop decreases-loop
+slice_bounds-copy-count c = let l = c.before.before.before.before in omega (arith, byte_space l.loop-out.invariant l.requires.1)
 
-part-copy-start : tie.Need-slice-bounds-copy-start invariant-loop decreases-loop
-part-copy-start c = let l = c.before.before.before.before in omega (arith, byte_space l.loop.invariant l.before.before.before.requires.1)
+slice_bounds-copy-start : tie.Need-slice_bounds-copy-start invariant-loop decreases-loop
+slice_bounds-copy-start c = let l = c.before.before.before.before in omega (arith, byte_space l.loop-out.invariant l.requires.1)
 
-copy-requires : tie.Need-copy-requires invariant-loop decreases-loop
-copy-requires c κs =
+copy-n-requires : tie.Need-copy-n-requires invariant-loop decreases-loop
+copy-n-requires c κs =
     let d = c.before in
     let l = d.before.before.before.before in
-    let fits = l.before.before.before.requires.1 in
-    let e = d.unmarked-end.ensures.run in
-    let q = d.before.before.if1.false in
-    let b = d.before.if2.false in
-    (omega (arith, e.up), omega (arith, run_within l.loop.invariant fits q b _ e), run_fits l.loop.invariant fits q b _ e)
+    let fits = l.requires.1 in
+    let e = d.unmarked_end-end.ensures.run in
+    let q = d.if-b-eq34.false in
+    let b = d.if-b-eq92.false in
+    (omega (arith, e.up), omega (arith, run_within l.loop-out.invariant fits q b _ e), run_fits l.loop-out.invariant fits q b _ e)
 
-add-n-2 : tie.Need-overflow-add-n-2 invariant-loop decreases-loop
-add-n-2 c =
+overflow_add-n-in-loop-out : tie.Need-overflow_add-n-in-loop-out invariant-loop decreases-loop
+overflow_add-n-in-loop-out c =
     let d = c.before.before.before.before in
     let l = d.before.before.before.before in
     omega (
       arith,
-      c.before.before.copy.ensures.0,
-      run_space l.loop.invariant l.before.before.before.requires.1 d.before.before.if1.false
-          d.before.if2.false _ d.unmarked-end.ensures.run,
+      c.copy-n.ensures.0,
+      run_space l.loop-out.invariant l.requires.1 d.if-b-eq34.false
+          d.if-b-eq92.false _ d.unmarked_end-end.ensures.run,
     )
 
-loop-less-2 : tie.Need-loop-smaller-2 invariant-loop decreases-loop
-loop-less-2 c =
+loop-out-smaller : tie.Need-loop-out-smaller invariant-loop decreases-loop
+loop-out-smaller c =
     let d = c.before.before.before.before in
     let l = d.before.before.before.before in
-    let e = d.unmarked-end.ensures.run in
-    omega (arith, e.up, run_within l.loop.invariant l.before.before.before.requires.1 d.before.before.if1.false d.before.if2.false _ e)
+    let e = d.unmarked_end-end.ensures.run in
+    omega (arith, e.up, run_within l.loop-out.invariant l.requires.1 d.if-b-eq34.false d.if-b-eq92.false _ e)
 
-loop-again-2 : tie.Need-loop-preserved-2 invariant-loop decreases-loop
-loop-again-2 c =
+loop-out-preserved : tie.Need-loop-out-preserved invariant-loop decreases-loop
+loop-out-preserved c =
     let d = c.before.before.before.before in
     let l = d.before.before.before.before in
-    let w = c.before.before.copy.ensures in
-    after_run l.loop.invariant l.before.before.before.requires.1 d.before.before.if1.false d.before.if2.false _
-    d.unmarked-end.ensures.run _ _ w.0 w.1
+    let w = c.copy-n.ensures in
+    after_run l.loop-out.invariant l.requires.1 d.if-b-eq34.false d.if-b-eq92.false _
+    d.unmarked_end-end.ensures.run _ _ w.0 w.1
 
-pub write-content-spec : {M : Type 1} → statement M
-write-content-spec =
-    tie.close (tie.spec invariant-loop decreases-loop loop-holds shared-slice-read-b slice-write-out add-result same_length returns read-escape-requires
-    sub-write-char part-write-char-start (λ c. search rules) write-char-requires add-n loop-less loop-again add-unmarked-end unmarked-end-requires sub-copy
-    part-copy-start (λ c. search rules) copy-requires add-n-2 loop-less-2 loop-again-2)
+pub write_content_spec : {M : Type 1} → statement M
+write_content_spec =
+    tie.close (tie.spec invariant-loop decreases-loop loop-out-init bounds-s-k bounds-out-n overflow_add-result shape_of-out-then-b-eq34 returns-then-b-eq34 read_escape-e-requires
+    slice_bounds-write_char-count slice_bounds-write_char-start (λ c. search rules) write_char-n-requires overflow_add-n loop-out-smaller-then-b-eq92 loop-out-preserved-then-b-eq92 overflow_add-k unmarked_end-end-requires slice_bounds-copy-count
+    slice_bounds-copy-start (λ c. search rules) copy-n-requires overflow_add-n-in-loop-out loop-out-smaller loop-out-preserved)

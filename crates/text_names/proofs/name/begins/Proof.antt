@@ -6,8 +6,8 @@ use Rattle.text_names.proofs.name.begins.Tie as tie
 
 returns : tie.Need-returns
 unfolding holds_name
-returns c = c.holds-name.ensures
+returns c = c.holds_name.ensures
 
-pub begins-spec : {M : Type 1} → statement M
-begins-spec =
+pub begins_spec : {M : Type 1} → statement M
+begins_spec =
     tie.close (tie.spec (λ c κs. search rules) returns)

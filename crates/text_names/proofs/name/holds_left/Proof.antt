@@ -12,50 +12,50 @@ use Rattle.text_names.proofs.Names.{Follows, cursor_ends, cursor_done, cursor_di
 use Rattle.text_names.proofs.name.holds_left.Statement.{statement}
 use Rattle.text_names.proofs.name.holds_left.Tie as tie
 
-abbrev invariant-loop : tie.invariant-loop
+abbrev invariant-loop : tie.invariant-loop-k
 invariant-loop s name at whole c₀ k₀ c k = ReadableCursor s c × (k ≤ length name) × Follows whole (Left s c₀) (Left s c) (drop k₀ name) (drop k name)
 
-abbrev decreases-loop : tie.decreases-loop
+abbrev decreases-loop : tie.decreases-loop-k
 decreases-loop s name at whole c₀ k₀ c k = length name - k
 
-loop-holds : tie.Need-loop-init invariant-loop decreases-loop
-loop-holds c = (c.before.before.requires.0, c.before.before.requires.1, λ x p. (x, p, refl))
+loop-k-init : tie.Need-loop-k-init invariant-loop decreases-loop
+loop-k-init c = (c.requires.0, c.requires.1, λ x p. (x, p, refl))
 
-next-requires : tie.Need-next-requires invariant-loop decreases-loop
-next-requires c κs = c.before.loop.invariant.0
+next-x-requires : tie.Need-next-x-requires invariant-loop decreases-loop
+next-x-requires c κs = c.loop-k.invariant.0
+
+returns-then-not-x : tie.Need-returns-then-not-x invariant-loop decreases-loop
+returns-then-not-x c =
+    let d = c.before.before in
+    cursor_ends _ _ d.next-x.result _ _ d.loop-k.k d.loop-k.invariant.2 d.next-x.ensures.0 d.loop-k-test.true
+    (not-true _ c.if-not-x.true)
+
+returns-then-x-name : tie.Need-returns-then-x-name invariant-loop decreases-loop
+returns-then-x-name c =
+    let d = c.before.before.before.before.before in
+    cursor_differs _ _ d.next-x.result _ _ d.loop-k.k d.loop-k.invariant.2 d.next-x.ensures.0 d.loop-k-test.true
+    (not-false _ c.if-not-x.false) c.if-x-name.true
+
+loop-k-preserved : tie.Need-loop-k-preserved invariant-loop decreases-loop
+loop-k-preserved c =
+    let d = c.before.before.before.before.before.before in
+    let f = not-false _ c.if-not-x.false in
+    let inv = d.loop-k.invariant in
+    let b = given_byte _ _ d.next-x.result f (d.next-x.ensures.0 inv.0.bytes inv.0.left) in (
+      record { bytes = b.0; left = b.2 },
+      omega arith,
+      cursor_same _ _ d.next-x.result _ _ d.loop-k.k inv.2 d.next-x.ensures.0 d.loop-k-test.true f c.if-x-name.false,
+    )
+
+next-x-requires-2 : tie.Need-next-x-requires-2 invariant-loop decreases-loop
+next-x-requires-2 c κs = c.loop-k.invariant.0
 
 returns : tie.Need-returns invariant-loop decreases-loop
 returns c =
-    let d = c.before.before in
-    cursor_ends _ _ d.next.result _ _ d.before.before.loop.k d.before.before.loop.invariant.2 d.next.ensures.0 d.before.loop-test.true
-    (not-true _ c.if1.true)
-
-returns-2 : tie.Need-returns-2 invariant-loop decreases-loop
-returns-2 c =
-    let d = c.before.before.before.before.before in
-    cursor_differs _ _ d.next.result _ _ d.before.before.loop.k d.before.before.loop.invariant.2 d.next.ensures.0 d.before.loop-test.true
-    (not-false _ c.before.before.before.if1.false) c.if2.true
-
-loop-again : tie.Need-loop-preserved invariant-loop decreases-loop
-loop-again c =
-    let d = c.before.before.before.before.before.before in
-    let f = not-false _ c.before.before.before.before.if1.false in
-    let inv = d.before.before.loop.invariant in
-    let b = given_byte _ _ d.next.result f (d.next.ensures.0 inv.0.bytes inv.0.left) in (
-      record { bytes = b.0; left = b.2 },
-      omega arith,
-      cursor_same _ _ d.next.result _ _ d.before.before.loop.k inv.2 d.next.ensures.0 d.before.loop-test.true f c.before.if2.false,
-    )
-
-next-requires-2 : tie.Need-next-requires-2 invariant-loop decreases-loop
-next-requires-2 c κs = c.before.loop.invariant.0
-
-returns-3 : tie.Need-returns-3 invariant-loop decreases-loop
-returns-3 c =
     let d = c.before in
-    cursor_done _ _ d.next2.result _ _ d.before.before.loop.k d.before.before.loop.invariant.2 d.next2.ensures.0 d.before.loop-test.false
+    cursor_done _ _ d.next-x-2.result _ _ d.loop-k.k d.loop-k.invariant.2 d.next-x-2.ensures.0 d.loop-k-test.false
 
-pub holds-left-spec : {M : Type 1} → statement M
-holds-left-spec =
-    tie.close (tie.spec invariant-loop decreases-loop loop-holds next-requires returns (λ c. search rules) returns-2 (λ c. omega arith) (λ c. omega arith)
-    loop-again next-requires-2 returns-3)
+pub holds_left_spec : {M : Type 1} → statement M
+holds_left_spec =
+    tie.close (tie.spec invariant-loop decreases-loop loop-k-init next-x-requires returns-then-not-x (λ c. search rules) returns-then-x-name (λ c. omega arith) (λ c. omega arith)
+    loop-k-preserved next-x-requires-2 returns)

@@ -14,65 +14,65 @@ use Rattle.text_names.proofs.Names.{byte_differs, byte_same, ends_early, ends_th
 use Rattle.text_names.proofs.name.holds_name.Statement.{statement}
 use Rattle.text_names.proofs.name.holds_name.Tie as tie
 
-abbrev invariant-loop : tie.invariant-loop
+abbrev invariant-loop : tie.invariant-loop-k
 invariant-loop s i name whole k₀ k =
     Inside s (i + k) × (k ≤ length name) × (holds_name whole (content_from s i) name ≡ holds_name whole (content_from s (i + k)) (drop k name))
 
-abbrev decreases-loop : tie.decreases-loop
+abbrev decreases-loop : tie.decreases-loop-k
 decreases-loop s i name whole k₀ k = length name - k
 
-loop-holds : tie.Need-loop-init invariant-loop decreases-loop
-loop-holds c =
-    let a = c.before.before.args in (
-      subst (Inside a.s.now) (sym (add-zero a.i)) c.before.before.requires,
+loop-k-init : tie.Need-loop-k-init invariant-loop decreases-loop
+loop-k-init c =
+    let a = c.args in (
+      subst (Inside a.s.now) (sym (add-zero a.i)) c.requires,
       omega arith,
       ap (λ (n : ℕ). holds_name a.whole (content_from a.s.now n) a.name.now) (sym (add-zero a.i)),
     )
 
-holds-left-requires : tie.Need-holds-left-requires invariant-loop decreases-loop
-holds-left-requires c κs =
-    let inv = c.before.before.before.before.loop.invariant in
+holds_left-requires : tie.Need-holds_left-requires invariant-loop decreases-loop
+holds_left-requires c κs =
+    let inv = c.loop-k.invariant in
     (record { bytes = inv.0.bytes; left = new_left _ _ _ _ c.new.ensures inv.0.here }, inv.1)
 
-returns : tie.Need-returns invariant-loop decreases-loop
-returns c =
-    let inv = c.before.before.before.before.before.loop.invariant in
-    c.holds-left.ensures _ (new_left _ _ _ _ c.before.new.ensures (inside_content _ _ inv.0)) ∙ sym inv.2
+returns-then-b-eq92 : tie.Need-returns-then-b-eq92 invariant-loop decreases-loop
+returns-then-b-eq92 c =
+    let inv = c.loop-k.invariant in
+    c.holds_left.ensures _ (new_left _ _ _ _ c.new.ensures (inside_content _ _ inv.0)) ∙ sym inv.2
 
-returns-2 : tie.Need-returns-2 invariant-loop decreases-loop
-returns-2 c =
+returns-then-b-name : tie.Need-returns-then-b-name invariant-loop decreases-loop
+returns-then-b-name c =
     let d = c.before.before.before.before in
-    let inv = d.before.loop.invariant in
-    byte_differs _ _ _ inv.0 _ _ d.loop-test.true c.before.before.if1.false c.if2.true ∙ sym inv.2
+    let inv = d.loop-k.invariant in
+    byte_differs _ _ _ inv.0 _ _ d.loop-k-test.true c.if-b-eq92.false c.if-b-name.true ∙ sym inv.2
 
-returns-3 : tie.Need-returns-3 invariant-loop decreases-loop
-returns-3 c =
+returns-then-b-eq34 : tie.Need-returns-then-b-eq34 invariant-loop decreases-loop
+returns-then-b-eq34 c =
     let d = c.before.before.before.before.before in
-    let inv = d.before.loop.invariant in
-    ends_early _ _ _ inv.0 _ _ d.loop-test.true c.if3.true ∙ sym inv.2
+    let inv = d.loop-k.invariant in
+    ends_early _ _ _ inv.0 _ _ d.loop-k-test.true c.if-b-eq34.true ∙ sym inv.2
 
-loop-again : tie.Need-loop-preserved invariant-loop decreases-loop
-loop-again c =
+loop-k-preserved : tie.Need-loop-k-preserved invariant-loop decreases-loop
+loop-k-preserved c =
     let d = c.before.before.before.before.before in
-    let a = d.before.before.before.before.args in
-    let inv = d.before.loop.invariant in
-    let k = d.before.loop.k in
+    let a = d.args in
+    let inv = d.loop-k.invariant in
+    let k = d.loop-k.k in
     let more : k + 1 ≤ length a.name.now = omega arith in
-    let e = byte_same _ _ _ inv.0 _ _ d.loop-test.true c.before.before.before.if1.false c.if3.false c.before.if2.false in (
+    let e = byte_same _ _ _ inv.0 _ _ d.loop-k-test.true c.if-b-eq92.false c.if-b-eq34.false c.if-b-name.false in (
       subst (Inside a.s.now) (add_assoc a.i k 1) e.1,
       more,
       inv.2 ∙ e.0 ∙ ap (λ (n : ℕ). holds_name a.whole (content_from a.s.now n) (drop (k + 1) a.name.now)) (add_assoc a.i k 1),
     )
 
-returns-4 : tie.Need-returns-4 invariant-loop decreases-loop
-returns-4 c =
+returns : tie.Need-returns invariant-loop decreases-loop
+returns c =
     let d = c.before in
-    let inv = d.before.loop.invariant in
-    ends_there _ _ _ inv.0 _ _ d.loop-test.false ∙ sym inv.2
+    let inv = d.loop-k.invariant in
+    ends_there _ _ _ inv.0 _ _ d.loop-k-test.false ∙ sym inv.2
 
-pub holds-name-spec : {M : Type 1} → statement M
-holds-name-spec =
-    tie.close (tie.spec invariant-loop decreases-loop loop-holds (λ c. omega (arith, inside_within _ _ c.before.loop.invariant.0))
-    (λ c. inside_within _ _ c.before.before.loop.invariant.0) (λ c. omega (arith, inside_within _ _ c.before.before.before.loop.invariant.0))
-    (λ c κs. search rules) holds-left-requires returns (λ c. search rules) returns-2 returns-3 (λ c. omega arith) (λ c. omega arith) loop-again
-    (λ c. omega (arith, inside_within _ _ c.before.loop.invariant.0)) (λ c. inside_within _ _ c.before.before.loop.invariant.0) returns-4)
+pub holds_name_spec : {M : Type 1} → statement M
+holds_name_spec =
+    tie.close (tie.spec invariant-loop decreases-loop loop-k-init (λ c. omega (arith, inside_within _ _ c.loop-k.invariant.0))
+    (λ c. inside_within _ _ c.loop-k.invariant.0) (λ c. omega (arith, inside_within _ _ c.loop-k.invariant.0))
+    (λ c κs. search rules) holds_left-requires returns-then-b-eq92 (λ c. search rules) returns-then-b-name returns-then-b-eq34 (λ c. omega arith) (λ c. omega arith) loop-k-preserved
+    (λ c. omega (arith, inside_within _ _ c.loop-k.invariant.0)) (λ c. inside_within _ _ c.loop-k.invariant.0) returns)

@@ -6,8 +6,8 @@ use Rattle.text_names.proofs.name.is_name.Tie as tie
 
 returns : tie.Need-returns
 unfolding holds_name
-returns c = c.holds-name.ensures
+returns c = c.holds_name.ensures
 
-pub is-name-spec : {M : Type 1} → statement M
-is-name-spec =
+pub is_name_spec : {M : Type 1} → statement M
+is_name_spec =
     tie.close (tie.spec (λ c κs. search rules) returns)

@@ -4,9 +4,9 @@ use Rattle.text_view.proofs.Cursors.{gives_member}
 use Rattle.text_view.proofs.Members.after.Statement.{statement}
 use Rattle.text_view.proofs.Members.after.Tie as tie
 
-after-value-requires : tie.Need-after-value-requires
-after-value-requires c κs =
-    let o = c.before.requires in
+after_value-at-requires : tie.Need-after_value-at-requires
+after_value-at-requires c κs =
+    let o = c.requires in
     let l = o.left in
     record {
       at = _;
@@ -20,8 +20,8 @@ after-value-requires c κs =
     }
 
 returns : tie.Need-returns
-returns c = λ fs p q l first ends. gives_member _ _ fs l p q _ (λ ts r h. c.after-value.ensures _ _ true ts r p q h first.place ends)
+returns c = λ fs p q l first ends. gives_member _ _ fs l p q _ (λ ts r h. c.after_value-at.ensures _ _ true ts r p q h first.place ends)
 
-pub after-spec : {M : Type 1} → statement M
-after-spec =
-    tie.close (tie.spec after-value-requires returns)
+pub after_spec : {M : Type 1} → statement M
+after_spec =
+    tie.close (tie.spec after_value-at-requires returns)

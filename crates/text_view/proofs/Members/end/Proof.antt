@@ -4,12 +4,12 @@ use Rattle.text_view.proofs.Cursors.{no_members}
 use Rattle.text_view.proofs.Members.end.Statement.{statement}
 use Rattle.text_view.proofs.Members.end.Tie as tie
 
-list-end-requires : tie.Need-list-end-requires
-list-end-requires c κs = let l = c.before.requires in record { depth = c.before.args.self.depth; object = true; rest = l.rest; here = no_members _ _ l }
+list_end-requires : tie.Need-list_end-requires
+list_end-requires c κs = let l = c.requires in record { depth = c.args.self.depth; object = true; rest = l.rest; here = no_members _ _ l }
 
 returns : tie.Need-returns
-returns c = let l = c.before.before.requires in c.list-end.ensures _ true l.rest (no_members _ _ l)
+returns c = let l = c.requires in c.list_end.ensures _ true l.rest (no_members _ _ l)
 
-pub end-spec : {M : Type 1} → statement M
-end-spec =
-    tie.close (tie.spec list-end-requires returns)
+pub end_spec : {M : Type 1} → statement M
+end_spec =
+    tie.close (tie.spec list_end-requires returns)

@@ -5,24 +5,24 @@ use Rattle.text_view.proofs.Passing.{escape_six, escape_two}
 use Rattle.text_view.proofs.value.escape_end.Statement.{statement}
 use Rattle.text_view.proofs.value.escape_end.Tie as tie
 
-add-if1 : tie.Need-overflow-add-if1
-add-if1 c = omega (arith, letter_within _ _ c.requires)
+overflow_add-i : tie.Need-overflow_add-i
+overflow_add-i c = omega (arith, letter_within _ _ c.requires)
 
-shared-slice-read-if1 : tie.Need-shared-slice-read-if1
-shared-slice-read-if1 c = letter_within _ _ c.before.requires
+bounds-s-i : tie.Need-bounds-s-i
+bounds-s-i c = letter_within _ _ c.requires
 
-add-result : tie.Need-overflow-add-result
-add-result c = omega (arith, (escape_six _ _ c.before.before.requires c.if1.true).within)
+overflow_add-result : tie.Need-overflow_add-result
+overflow_add-result c = omega (arith, (escape_six _ _ c.requires c.if-s-i-eq117.true).within)
 
-add-result-2 : tie.Need-overflow-add-result-2
-add-result-2 c = omega (arith, (escape_two _ _ c.before.before.requires c.if1.false).within)
+overflow_add-result-else-s-i-eq117 : tie.Need-overflow_add-result-else-s-i-eq117
+overflow_add-result-else-s-i-eq117 c = omega (arith, (escape_two _ _ c.requires c.if-s-i-eq117.false).within)
 
-returns : tie.Need-returns
-returns c = escape_six _ _ c.before.before.requires c.if1.true
+returns-then-s-i-eq117 : tie.Need-returns-then-s-i-eq117
+returns-then-s-i-eq117 c = escape_six _ _ c.requires c.if-s-i-eq117.true
 
-returns-2 : tie.Need-returns-2
-returns-2 c = escape_two _ _ c.before.before.requires c.if1.false
+returns-else-s-i-eq117 : tie.Need-returns-else-s-i-eq117
+returns-else-s-i-eq117 c = escape_two _ _ c.requires c.if-s-i-eq117.false
 
-pub escape-end-spec : {M : Type 1} → statement M
-escape-end-spec =
-    tie.close (tie.spec add-if1 shared-slice-read-if1 add-result add-result-2 returns returns-2)
+pub escape_end_spec : {M : Type 1} → statement M
+escape_end_spec =
+    tie.close (tie.spec overflow_add-i bounds-s-i overflow_add-result overflow_add-result-else-s-i-eq117 returns-then-s-i-eq117 returns-else-s-i-eq117)

@@ -4,38 +4,38 @@ use Rattle.text_view.proofs.Values.{kind_at, kind_number, within, kind_at_is}
 use Rattle.text_view.proofs.value.kind.Statement.{statement}
 use Rattle.text_view.proofs.value.kind.Tie as tie
 
-shared-slice-read-match : tie.Need-shared-slice-read-match
-shared-slice-read-match c = let p = c.before.requires in within _ _ p.depth p.value p.here
+bounds-s-at : tie.Need-bounds-s-at
+bounds-s-at c = let p = c.requires in within _ _ p.depth p.value p.here
 
-returns : tie.Need-returns
+returns-in-110 : tie.Need-returns-in-110
 unfolding kind_at
-returns c = λ d v p. ap kind_at (sym c.match.keys1) ∙ kind_at_is _ _ d v p
+returns-in-110 c = λ d v p. ap kind_at (sym c.in-110.is) ∙ kind_at_is _ _ d v p
 
-returns-2 : tie.Need-returns-2
+returns-in-116 : tie.Need-returns-in-116
 unfolding kind_at
-returns-2 c = λ d v p. ap kind_at (sym c.match.keys2) ∙ kind_at_is _ _ d v p
+returns-in-116 c = λ d v p. ap kind_at (sym c.in-116.is) ∙ kind_at_is _ _ d v p
 
-returns-3 : tie.Need-returns-3
+returns-in-102 : tie.Need-returns-in-102
 unfolding kind_at
-returns-3 c = λ d v p. ap kind_at (sym c.match.keys3) ∙ kind_at_is _ _ d v p
+returns-in-102 c = λ d v p. ap kind_at (sym c.in-102.is) ∙ kind_at_is _ _ d v p
 
-returns-4 : tie.Need-returns-4
+returns-in-34 : tie.Need-returns-in-34
 unfolding kind_at
-returns-4 c = λ d v p. ap kind_at (sym c.match.keys4) ∙ kind_at_is _ _ d v p
+returns-in-34 c = λ d v p. ap kind_at (sym c.in-34.is) ∙ kind_at_is _ _ d v p
 
-returns-5 : tie.Need-returns-5
+returns-in-91 : tie.Need-returns-in-91
 unfolding kind_at
-returns-5 c = λ d v p. ap kind_at (sym c.match.keys5) ∙ kind_at_is _ _ d v p
+returns-in-91 c = λ d v p. ap kind_at (sym c.in-91.is) ∙ kind_at_is _ _ d v p
 
-returns-6 : tie.Need-returns-6
+returns-in-123 : tie.Need-returns-in-123
 unfolding kind_at
-returns-6 c = λ d v p. ap kind_at (sym c.match.keys6) ∙ kind_at_is _ _ d v p
+returns-in-123 c = λ d v p. ap kind_at (sym c.in-123.is) ∙ kind_at_is _ _ d v p
 
-returns-7 : tie.Need-returns-7
-returns-7 c =
-    let n = c.match.rest in
+returns-in_default : tie.Need-returns-in_default
+returns-in_default c =
+    let n = c.in_default.in_default-own.rest in
     λ d v p. sym (kind_number _ n.0.0.0.0.0.1 n.0.0.0.0.1 n.0.0.0.1 n.0.0.1 n.0.1 n.1) ∙ kind_at_is _ _ d v p
 
-pub kind-spec : {M : Type 1} → statement M
-kind-spec =
-    tie.close (tie.spec shared-slice-read-match returns returns-2 returns-3 returns-4 returns-5 returns-6 returns-7)
+pub kind_spec : {M : Type 1} → statement M
+kind_spec =
+    tie.close (tie.spec bounds-s-at returns-in-110 returns-in-116 returns-in-102 returns-in-34 returns-in-91 returns-in-123 returns-in_default)

@@ -5,8 +5,8 @@ use Rattle.text_view.proofs.value.root.Statement.{statement}
 use Rattle.text_view.proofs.value.root.Tie as tie
 
 returns : tie.Need-returns
-returns c = let e = c.skip-spaces.ensures.1 in (λ d t p. root_at _ d _ t e.1 p, e)
+returns c = let e = c.skip_spaces.ensures.1 in (λ d t p. root_at _ d _ t e.1 p, e)
 
-pub root-spec : {M : Type 1} → statement M
-root-spec =
+pub root_spec : {M : Type 1} → statement M
+root_spec =
     tie.close (tie.spec (λ c κs. search rules) returns)

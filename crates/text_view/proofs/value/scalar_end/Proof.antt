@@ -6,41 +6,41 @@ use Rattle.text_view.proofs.Scalars.{scalar_within, ends_four, ends_five, string
 use Rattle.text_view.proofs.value.scalar_end.Statement.{statement}
 use Rattle.text_view.proofs.value.scalar_end.Tie as tie
 
-shared-slice-read-match : tie.Need-shared-slice-read-match
-shared-slice-read-match c = scalar_within _ _ c.before.before.requires
+bounds-s-at : tie.Need-bounds-s-at
+bounds-s-at c = scalar_within _ _ c.requires
 
-add-result : tie.Need-overflow-add-result
-add-result c = omega (arith, (ends_four _ _ c.before.before.before.requires c.match.keys1).within)
+overflow_add-result : tie.Need-overflow_add-result
+overflow_add-result c = omega (arith, (ends_four _ _ c.requires c.in-110.is).within)
 
-add-result-2 : tie.Need-overflow-add-result-2
-add-result-2 c = omega (arith, (ends_five _ _ c.before.before.before.requires c.match.keys2).within)
+overflow_add-result-in-102 : tie.Need-overflow_add-result-in-102
+overflow_add-result-in-102 c = omega (arith, (ends_five _ _ c.requires c.in-102.is).within)
 
-add-string-end : tie.Need-overflow-add-string-end
-add-string-end c = omega (arith, scalar_within _ _ c.before.before.before.requires)
+overflow_add-at : tie.Need-overflow_add-at
+overflow_add-at c = omega (arith, scalar_within _ _ c.requires)
 
-string-end-requires : tie.Need-string-end-requires
-string-end-requires c κs = string_inside _ _ c.before.before.before.requires c.match.keys3
+string_end-requires : tie.Need-string_end-requires
+string_end-requires c κs = string_inside _ _ c.requires c.in-34.is
 
 number-requires : tie.Need-number-requires
-number-requires c κs = omega (arith, scalar_within _ _ c.before.before.before.requires)
+number-requires c κs = omega (arith, scalar_within _ _ c.requires)
 
-returns : tie.Need-returns
-returns c = ends_four _ _ c.before.before.before.requires c.match.keys1
+returns-in-110 : tie.Need-returns-in-110
+returns-in-110 c = ends_four _ _ c.requires c.in-110.is
 
-returns-2 : tie.Need-returns-2
-returns-2 c = ends_five _ _ c.before.before.before.requires c.match.keys2
+returns-in-102 : tie.Need-returns-in-102
+returns-in-102 c = ends_five _ _ c.requires c.in-102.is
 
-returns-3 : tie.Need-returns-3
-returns-3 c = ends_string _ _ c.before.before.before.before.requires _ c.string-end.ensures c.before.match.keys3
+returns-in-34 : tie.Need-returns-in-34
+returns-in-34 c = ends_string _ _ c.requires _ c.string_end.ensures c.in-34.is
 
-returns-4 : tie.Need-returns-4
-returns-4 c =
+returns-in_default : tie.Need-returns-in_default
+returns-in_default c =
     let a = c.before.before.before.before.before in
-    let n = c.before.before.match.rest in
-    let h = c.before.number.ensures in
+    let n = c.in_default.in_default-own.rest in
+    let h = c.number.ensures in
     rw c.token_end.ensures (ends_number _ _ a.requires _ h.0 n.0.0.1 n.0.1 n.1 h.1)
 
-pub scalar-end-spec : {M : Type 1} → statement M
-scalar-end-spec =
-    tie.close (tie.spec shared-slice-read-match add-result add-result-2 add-string-end string-end-requires number-requires (λ c κs. search rules)
-    returns returns-2 returns-3 returns-4)
+pub scalar_end_spec : {M : Type 1} → statement M
+scalar_end_spec =
+    tie.close (tie.spec bounds-s-at overflow_add-result overflow_add-result-in-102 overflow_add-at string_end-requires number-requires (λ c κs. search rules)
+    returns-in-110 returns-in-102 returns-in-34 returns-in_default)

@@ -4,26 +4,26 @@ use Rattle.text_view.proofs.Steps.{readable_within, readable_nested, nested_ends
 use Rattle.text_view.proofs.value.skip.Statement.{statement}
 use Rattle.text_view.proofs.value.skip.Tie as tie
 
-shared-slice-read-match : tie.Need-shared-slice-read-match
-shared-slice-read-match c = readable_within _ _ _ c.before.before.requires
+bounds-s-at : tie.Need-bounds-s-at
+bounds-s-at c = readable_within _ _ _ c.requires
 
-add-skip-nested : tie.Need-overflow-add-skip-nested
-add-skip-nested c =
+overflow_add-at : tie.Need-overflow_add-at
+overflow_add-at c =
     let a = c.before.before.before in
     omega (arith, readable_within a.args.s.now a.args.at a.args.depth a.requires)
 
-skip-nested-requires : tie.Need-skip-nested-requires
-skip-nested-requires c κs = readable_nested _ _ _ c.match.keys1 c.before.before.before.requires
+skip_nested-requires : tie.Need-skip_nested-requires
+skip_nested-requires c κs = readable_nested _ _ _ c.in-91.is c.requires
 
-scalar-end-requires : tie.Need-scalar-end-requires
-scalar-end-requires c κs = readable_scalar _ _ _ c.match.rest.1 c.before.before.before.requires
+scalar_end-requires : tie.Need-scalar_end-requires
+scalar_end-requires c κs = readable_scalar _ _ _ c.in_default.in_default-own.rest.1 c.requires
 
-returns : tie.Need-returns
-returns c = nested_ends _ _ _ c.before.match.keys1 _ c.skip-nested.ensures
+returns-in-91 : tie.Need-returns-in-91
+returns-in-91 c = nested_ends _ _ _ c.in-91.is _ c.skip_nested.ensures
 
-returns-2 : tie.Need-returns-2
-returns-2 c = scalar_ends _ _ _ c.before.match.rest.1 _ c.scalar-end.ensures
+returns-in_default : tie.Need-returns-in_default
+returns-in_default c = scalar_ends _ _ _ c.in_default.in_default-own.rest.1 _ c.scalar_end.ensures
 
-pub skip-spec : {M : Type 1} → statement M
-skip-spec =
-    tie.close (tie.spec shared-slice-read-match add-skip-nested skip-nested-requires scalar-end-requires returns returns-2)
+pub skip_spec : {M : Type 1} → statement M
+skip_spec =
+    tie.close (tie.spec bounds-s-at overflow_add-at skip_nested-requires scalar_end-requires returns-in-91 returns-in_default)

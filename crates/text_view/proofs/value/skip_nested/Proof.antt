@@ -8,70 +8,70 @@ use Rattle.text_view.proofs.Counting.{counted_other, counted_done}
 use Rattle.text_view.proofs.value.skip_nested.Statement.{statement}
 use Rattle.text_view.proofs.value.skip_nested.Tie as tie
 
-abbrev invariant-loop : tie.invariant-loop
+abbrev invariant-loop : tie.invariant-loop-open
 invariant-loop s from i₀ open₀ i «open» = Counted s from i «open»
 
-abbrev decreases-loop : tie.decreases-loop
+abbrev decreases-loop : tie.decreases-loop-open
 decreases-loop s from i₀ open₀ i «open» = length s - i
 
-loop-holds : tie.Need-loop-init invariant-loop decreases-loop
-loop-holds c = counted_start _ _ c.before.requires
+loop-open-init : tie.Need-loop-open-init invariant-loop decreases-loop
+loop-open-init c = counted_start _ _ c.requires
 
 -- a byte stands at `i` while a bracket is open
-shared-slice-read-b : tie.Need-shared-slice-read-b invariant-loop decreases-loop
-shared-slice-read-b c = counted_within _ _ _ _ c.before.loop-test.true c.before.before.loop.invariant
+bounds-s-i : tie.Need-bounds-s-i invariant-loop decreases-loop
+bounds-s-i c = counted_within _ _ _ _ c.loop-open-test.true c.loop-open.invariant
 
-add-string-end : tie.Need-overflow-add-string-end invariant-loop decreases-loop
-add-string-end c = let d = c.before.before in omega (arith, counted_within _ _ _ _ d.loop-test.true d.before.loop.invariant)
+overflow_add-i : tie.Need-overflow_add-i invariant-loop decreases-loop
+overflow_add-i c = let d = c.before.before in omega (arith, counted_within _ _ _ _ d.loop-open-test.true d.loop-open.invariant)
 
-string-end-requires : tie.Need-string-end-requires invariant-loop decreases-loop
-string-end-requires c κs = let d = c.before.before in counted_inside _ _ _ _ d.loop-test.true d.before.loop.invariant c.if1.true
+string_end-i-requires : tie.Need-string_end-i-requires invariant-loop decreases-loop
+string_end-i-requires c κs = let d = c.before.before in counted_inside _ _ _ _ d.loop-open-test.true d.loop-open.invariant c.if-b-eq34.true
 
-loop-less : tie.Need-loop-smaller invariant-loop decreases-loop
-loop-less c =
+loop-open-smaller-then-b-eq34 : tie.Need-loop-open-smaller-then-b-eq34 invariant-loop decreases-loop
+loop-open-smaller-then-b-eq34 c =
     let d = c.before.before.before in
-    let h = c.string-end.ensures.later in
-    omega (arith, counted_within _ _ _ _ d.loop-test.true d.before.loop.invariant)
+    let h = c.string_end-i.ensures.later in
+    omega (arith, counted_within _ _ _ _ d.loop-open-test.true d.loop-open.invariant)
 
-loop-again : tie.Need-loop-preserved invariant-loop decreases-loop
-loop-again c =
+loop-open-preserved-then-b-eq34 : tie.Need-loop-open-preserved-then-b-eq34 invariant-loop decreases-loop
+loop-open-preserved-then-b-eq34 c =
     let d = c.before.before.before in
-    counted_string _ _ _ _ d.loop-test.true d.before.loop.invariant c.before.if1.true _ c.string-end.ensures
+    counted_string _ _ _ _ d.loop-open-test.true d.loop-open.invariant c.if-b-eq34.true _ c.string_end-i.ensures
 
-add-i : tie.Need-overflow-add-i invariant-loop decreases-loop
-add-i c = let d = c.before.before in omega (arith, counted_within _ _ _ _ d.loop-test.true d.before.loop.invariant)
+overflow_add-i-else-b-eq34 : tie.Need-overflow_add-i-else-b-eq34 invariant-loop decreases-loop
+overflow_add-i-else-b-eq34 c = let d = c.before.before in omega (arith, counted_within _ _ _ _ d.loop-open-test.true d.loop-open.invariant)
 
-add_open : tie.Need-overflow-add-open invariant-loop decreases-loop
-add_open c = let d = c.before.before.before in omega (arith, open_fits _ _ _ _ d.loop-test.true d.before.loop.invariant c.match.keys1)
+overflow_add-open : tie.Need-overflow_add-open invariant-loop decreases-loop
+overflow_add-open c = let d = c.before.before.before in omega (arith, open_fits _ _ _ _ d.loop-open-test.true d.loop-open.invariant c.in-91.is)
 
-loop-less-2 : tie.Need-loop-smaller-2 invariant-loop decreases-loop
-loop-less-2 c = let d = c.before.before.before in omega (arith, counted_within _ _ _ _ d.loop-test.true d.before.loop.invariant)
+loop-open-smaller-in-91 : tie.Need-loop-open-smaller-in-91 invariant-loop decreases-loop
+loop-open-smaller-in-91 c = let d = c.before.before.before in omega (arith, counted_within _ _ _ _ d.loop-open-test.true d.loop-open.invariant)
 
-loop-again-2 : tie.Need-loop-preserved-2 invariant-loop decreases-loop
-loop-again-2 c = let d = c.before.before.before in counted_open _ _ _ _ d.loop-test.true d.before.loop.invariant c.match.keys1
+loop-open-preserved-in-91 : tie.Need-loop-open-preserved-in-91 invariant-loop decreases-loop
+loop-open-preserved-in-91 c = let d = c.before.before.before in counted_open _ _ _ _ d.loop-open-test.true d.loop-open.invariant c.in-91.is
 
-sub_open : tie.Need-overflow-sub-open invariant-loop decreases-loop
-sub_open c = omega (arith, c.before.before.before.loop-test.true)
+overflow_sub-open : tie.Need-overflow_sub-open invariant-loop decreases-loop
+overflow_sub-open c = omega (arith, c.loop-open-test.true)
 
-loop-less-3 : tie.Need-loop-smaller-3 invariant-loop decreases-loop
-loop-less-3 c = let d = c.before.before.before in omega (arith, counted_within _ _ _ _ d.loop-test.true d.before.loop.invariant)
+loop-open-smaller-in-93 : tie.Need-loop-open-smaller-in-93 invariant-loop decreases-loop
+loop-open-smaller-in-93 c = let d = c.before.before.before in omega (arith, counted_within _ _ _ _ d.loop-open-test.true d.loop-open.invariant)
 
-loop-again-3 : tie.Need-loop-preserved-3 invariant-loop decreases-loop
-loop-again-3 c = let d = c.before.before.before in counted_end _ _ _ _ d.loop-test.true d.before.loop.invariant c.match.keys2
+loop-open-preserved-in-93 : tie.Need-loop-open-preserved-in-93 invariant-loop decreases-loop
+loop-open-preserved-in-93 c = let d = c.before.before.before in counted_end _ _ _ _ d.loop-open-test.true d.loop-open.invariant c.in-93.is
 
-loop-less-4 : tie.Need-loop-smaller-4 invariant-loop decreases-loop
-loop-less-4 c = let d = c.before.before.before in omega (arith, counted_within _ _ _ _ d.loop-test.true d.before.loop.invariant)
+loop-open-smaller : tie.Need-loop-open-smaller invariant-loop decreases-loop
+loop-open-smaller c = let d = c.before.before.before in omega (arith, counted_within _ _ _ _ d.loop-open-test.true d.loop-open.invariant)
 
-loop-again-4 : tie.Need-loop-preserved-4 invariant-loop decreases-loop
-loop-again-4 c =
+loop-open-preserved : tie.Need-loop-open-preserved invariant-loop decreases-loop
+loop-open-preserved c =
     let d = c.before.before.before in
-    let n = c.match.rest in
-    counted_other _ _ _ _ d.loop-test.true d.before.loop.invariant c.before.if1.false n.0.1 n.1
+    let n = c.in_default.in_default-own.rest in
+    counted_other _ _ _ _ d.loop-open-test.true d.loop-open.invariant c.if-b-eq34.false n.0.1 n.1
 
 returns : tie.Need-returns invariant-loop decreases-loop
-returns c = counted_done _ _ _ _ (omega (arith, c.loop-test.false)) c.before.loop.invariant
+returns c = counted_done _ _ _ _ (omega (arith, c.loop-open-test.false)) c.loop-open.invariant
 
-pub skip-nested-spec : {M : Type 1} → statement M
-skip-nested-spec =
-    tie.close (tie.spec invariant-loop decreases-loop loop-holds shared-slice-read-b add-string-end string-end-requires loop-less loop-again add-i add_open
-    loop-less-2 loop-again-2 sub_open loop-less-3 loop-again-3 loop-less-4 loop-again-4 returns)
+pub skip_nested_spec : {M : Type 1} → statement M
+skip_nested_spec =
+    tie.close (tie.spec invariant-loop decreases-loop loop-open-init bounds-s-i overflow_add-i string_end-i-requires loop-open-smaller-then-b-eq34 loop-open-preserved-then-b-eq34 overflow_add-i-else-b-eq34 overflow_add-open
+    loop-open-smaller-in-91 loop-open-preserved-in-91 overflow_sub-open loop-open-smaller-in-93 loop-open-preserved-in-93 loop-open-smaller loop-open-preserved returns)

@@ -9,37 +9,37 @@ use Rattle.text_view.proofs.Passing.{run_fits, Reaches, reaches_start, reaches_r
 use Rattle.text_view.proofs.value.string_end.Statement.{statement}
 use Rattle.text_view.proofs.value.string_end.Tie as tie
 
-abbrev invariant-loop : tie.invariant-loop
+abbrev invariant-loop : tie.invariant-loop-i
 invariant-loop s from i₀ i = Reaches s from i
 
-abbrev decreases-loop : tie.decreases-loop
+abbrev decreases-loop : tie.decreases-loop-i
 decreases-loop s from i₀ i = length s - i
 
-loop-holds : tie.Need-loop-init invariant-loop decreases-loop
-loop-holds c = reaches_start _ _ c.before.requires
+loop-i-init : tie.Need-loop-i-init invariant-loop decreases-loop
+loop-i-init c = reaches_start _ _ c.requires
 
-unmarked-left-requires : tie.Need-unmarked-left-requires invariant-loop decreases-loop
-unmarked-left-requires c κs = omega (arith, inside_within _ _ c.loop.invariant.inside)
+unmarked_left-requires : tie.Need-unmarked_left-requires invariant-loop decreases-loop
+unmarked_left-requires c κs = omega (arith, inside_within _ _ c.loop-i.invariant.inside)
 
-add-i : tie.Need-overflow-add-i invariant-loop decreases-loop
-add-i c =
-    let l = c.before.before.loop in
-    let s = c.before.before.before.before.args.s.now in
+overflow_add-i : tie.Need-overflow_add-i invariant-loop decreases-loop
+overflow_add-i c =
+    let l = c.loop-i in
+    let s = c.args.s.now in
     let w = inside_within s l.i l.invariant.inside in
-    omega (arith, run_fits s l.i 16 (sym c.before.unmarked-left.ensures ∙ c.if1.true) (omega arith))
+    omega (arith, run_fits s l.i 16 (sym c.unmarked_left.ensures ∙ c.loop-i-test.true) (omega arith))
 
-loop-less : tie.Need-loop-smaller invariant-loop decreases-loop
-loop-less c = omega (arith, inside_within _ _ c.before.before.loop.invariant.inside)
+loop-i-smaller : tie.Need-loop-i-smaller invariant-loop decreases-loop
+loop-i-smaller c = omega (arith, inside_within _ _ c.loop-i.invariant.inside)
 
-loop-again : tie.Need-loop-preserved invariant-loop decreases-loop
-loop-again c = reaches_run _ _ _ c.before.before.loop.invariant 16 (sym c.before.unmarked-left.ensures ∙ c.if1.true)
+loop-i-preserved : tie.Need-loop-i-preserved invariant-loop decreases-loop
+loop-i-preserved c = reaches_run _ _ _ c.loop-i.invariant 16 (sym c.unmarked_left.ensures ∙ c.loop-i-test.true)
 
-string-rest-requires : tie.Need-string-rest-requires invariant-loop decreases-loop
-string-rest-requires c κs = c.before.before.loop.invariant.inside
+string_rest-requires : tie.Need-string_rest-requires invariant-loop decreases-loop
+string_rest-requires c κs = c.loop-i.invariant.inside
 
 returns : tie.Need-returns invariant-loop decreases-loop
-returns c = reaches_end _ _ _ c.before.before.before.loop.invariant _ c.string-rest.ensures
+returns c = reaches_end _ _ _ c.loop-i.invariant _ c.string_rest.ensures
 
-pub string-end-spec : {M : Type 1} → statement M
-string-end-spec =
-    tie.close (tie.spec invariant-loop decreases-loop loop-holds unmarked-left-requires add-i loop-less loop-again string-rest-requires returns)
+pub string_end_spec : {M : Type 1} → statement M
+string_end_spec =
+    tie.close (tie.spec invariant-loop decreases-loop loop-i-init unmarked_left-requires overflow_add-i loop-i-smaller loop-i-preserved string_rest-requires returns)

@@ -6,31 +6,31 @@ use Rattle.text_view.proofs.Passing.{run_fits, reaches_start, reaches_run, reach
 use Rattle.text_view.proofs.value.string_rest.Statement.{statement}
 use Rattle.text_view.proofs.value.string_rest.Tie as tie
 
-unmarked-left-requires : tie.Need-unmarked-left-requires
-unmarked-left-requires c κs = omega (arith, inside_within _ _ c.before.requires)
+unmarked_left-requires : tie.Need-unmarked_left-requires
+unmarked_left-requires c κs = omega (arith, inside_within _ _ c.requires)
 
-add-string-tail : tie.Need-overflow-add-string-tail
-add-string-tail c =
-    let a = c.before.before.before.args in
-    let w = inside_within a.s.now a.from c.before.before.before.requires in
-    omega (arith, run_fits a.s.now a.from 8 (sym c.before.unmarked-left.ensures ∙ c.if1.true) (omega arith))
+overflow_add-from : tie.Need-overflow_add-from
+overflow_add-from c =
+    let a = c.args in
+    let w = inside_within a.s.now a.from c.requires in
+    omega (arith, run_fits a.s.now a.from 8 (sym c.unmarked_left.ensures ∙ c.if-unmarked_left.true) (omega arith))
 
-string-tail-requires : tie.Need-string-tail-requires
-string-tail-requires c κs =
-    (reaches_run _ _ _ (reaches_start _ _ c.before.before.before.requires) 8 (sym c.before.unmarked-left.ensures ∙ c.if1.true)).inside
+string_tail-requires : tie.Need-string_tail-requires
+string_tail-requires c κs =
+    (reaches_run _ _ _ (reaches_start _ _ c.requires) 8 (sym c.unmarked_left.ensures ∙ c.if-unmarked_left.true)).inside
+
+returns-then-unmarked_left : tie.Need-returns-then-unmarked_left
+returns-then-unmarked_left c =
+    reaches_end _ _ _ (reaches_run _ _ _ (reaches_start _ _ c.requires) 8 (sym c.unmarked_left.ensures
+    ∙ c.if-unmarked_left.true)) _
+    c.string_tail.ensures
+
+string_tail-requires-2 : tie.Need-string_tail-requires-2
+string_tail-requires-2 c κs = c.requires
 
 returns : tie.Need-returns
-returns c =
-    reaches_end _ _ _ (reaches_run _ _ _ (reaches_start _ _ c.before.before.before.before.requires) 8 (sym c.before.before.unmarked-left.ensures
-    ∙ c.before.if1.true)) _
-    c.string-tail.ensures
+returns c = c.string_tail-2.ensures
 
-string-tail-requires-2 : tie.Need-string-tail-requires-2
-string-tail-requires-2 c κs = c.before.before.before.requires
-
-returns-2 : tie.Need-returns-2
-returns-2 c = c.string-tail2.ensures
-
-pub string-rest-spec : {M : Type 1} → statement M
-string-rest-spec =
-    tie.close (tie.spec unmarked-left-requires add-string-tail string-tail-requires returns string-tail-requires-2 returns-2)
+pub string_rest_spec : {M : Type 1} → statement M
+string_rest_spec =
+    tie.close (tie.spec unmarked_left-requires overflow_add-from string_tail-requires returns-then-unmarked_left string_tail-requires-2 returns)

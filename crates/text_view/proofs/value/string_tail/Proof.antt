@@ -8,45 +8,45 @@ use Rattle.text_view.proofs.Passing.{Reaches, reaches_start, reaches_byte, reach
 use Rattle.text_view.proofs.value.string_tail.Statement.{statement}
 use Rattle.text_view.proofs.value.string_tail.Tie as tie
 
-abbrev invariant-loop : tie.invariant-loop
+abbrev invariant-loop : tie.invariant-loop-from
 invariant-loop s from i₀ i = Reaches s from i
 
-abbrev decreases-loop : tie.decreases-loop
+abbrev decreases-loop : tie.decreases-loop-from
 decreases-loop s from i₀ i = length s - i
 
-loop-holds : tie.Need-loop-init invariant-loop decreases-loop
-loop-holds c = reaches_start _ _ c.before.requires
+loop-from-init : tie.Need-loop-from-init invariant-loop decreases-loop
+loop-from-init c = reaches_start _ _ c.requires
 
-shared-slice-read-b : tie.Need-shared-slice-read-b invariant-loop decreases-loop
-shared-slice-read-b c = inside_within _ _ c.before.loop.invariant.inside
+bounds-s-i : tie.Need-bounds-s-i invariant-loop decreases-loop
+bounds-s-i c = inside_within _ _ c.loop-from.invariant.inside
 
-add-result : tie.Need-overflow-add-result invariant-loop decreases-loop
-add-result c = omega (arith, inside_within _ _ c.before.before.loop.invariant.inside)
+overflow_add-result : tie.Need-overflow_add-result invariant-loop decreases-loop
+overflow_add-result c = omega (arith, inside_within _ _ c.loop-from.invariant.inside)
 
-returns : tie.Need-returns invariant-loop decreases-loop
-returns c = reaches_close _ _ _ c.before.before.loop.invariant c.if1.true
+returns-then-b-eq34 : tie.Need-returns-then-b-eq34 invariant-loop decreases-loop
+returns-then-b-eq34 c = reaches_close _ _ _ c.loop-from.invariant c.if-b-eq34.true
 
-escape-end-requires : tie.Need-escape-end-requires invariant-loop decreases-loop
-escape-end-requires c κs = escape_here _ _ c.before.before.before.loop.invariant.inside c.if2.true
+escape_end-i-requires : tie.Need-escape_end-i-requires invariant-loop decreases-loop
+escape_end-i-requires c κs = escape_here _ _ c.loop-from.invariant.inside c.if-b-eq92.true
 
-loop-less : tie.Need-loop-smaller invariant-loop decreases-loop
-loop-less c =
-    let h = c.escape-end.ensures.later in
-    omega (arith, inside_within _ _ c.before.before.before.before.loop.invariant.inside)
+loop-from-smaller-then-b-eq92 : tie.Need-loop-from-smaller-then-b-eq92 invariant-loop decreases-loop
+loop-from-smaller-then-b-eq92 c =
+    let h = c.escape_end-i.ensures.later in
+    omega (arith, inside_within _ _ c.loop-from.invariant.inside)
 
-loop-again : tie.Need-loop-preserved invariant-loop decreases-loop
-loop-again c = reaches_char _ _ _ c.before.before.before.before.loop.invariant _ c.escape-end.ensures
+loop-from-preserved-then-b-eq92 : tie.Need-loop-from-preserved-then-b-eq92 invariant-loop decreases-loop
+loop-from-preserved-then-b-eq92 c = reaches_char _ _ _ c.loop-from.invariant _ c.escape_end-i.ensures
 
-add-i : tie.Need-overflow-add-i invariant-loop decreases-loop
-add-i c = omega (arith, inside_within _ _ c.before.before.before.loop.invariant.inside)
+overflow_add-i : tie.Need-overflow_add-i invariant-loop decreases-loop
+overflow_add-i c = omega (arith, inside_within _ _ c.loop-from.invariant.inside)
 
-loop-less-2 : tie.Need-loop-smaller-2 invariant-loop decreases-loop
-loop-less-2 c = omega (arith, inside_within _ _ c.before.before.before.loop.invariant.inside)
+loop-from-smaller : tie.Need-loop-from-smaller invariant-loop decreases-loop
+loop-from-smaller c = omega (arith, inside_within _ _ c.loop-from.invariant.inside)
 
-loop-again-2 : tie.Need-loop-preserved-2 invariant-loop decreases-loop
-loop-again-2 c = reaches_byte _ _ _ c.before.before.before.loop.invariant c.before.if1.false c.if2.false
+loop-from-preserved : tie.Need-loop-from-preserved invariant-loop decreases-loop
+loop-from-preserved c = reaches_byte _ _ _ c.loop-from.invariant c.if-b-eq34.false c.if-b-eq92.false
 
-pub string-tail-spec : {M : Type 1} → statement M
-string-tail-spec =
-    tie.close (tie.spec invariant-loop decreases-loop loop-holds shared-slice-read-b add-result returns escape-end-requires loop-less loop-again add-i loop-less-2
-    loop-again-2)
+pub string_tail_spec : {M : Type 1} → statement M
+string_tail_spec =
+    tie.close (tie.spec invariant-loop decreases-loop loop-from-init bounds-s-i overflow_add-result returns-then-b-eq34 escape_end-i-requires loop-from-smaller-then-b-eq92 loop-from-preserved-then-b-eq92 overflow_add-i loop-from-smaller
+    loop-from-preserved)
