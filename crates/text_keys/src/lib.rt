@@ -1,5 +1,7 @@
 // The keys of an object in place: sorted by their contents, and the first one that repeats an earlier one. A key is given by the
 // position of its opening quotation mark in the text.
+#![tactic(auto)]
+
 ghost use Rattle.std.specs.Prelude.{◌≡◌, List, true, ℕ, ◌+◌, ◌≤◌, max, length, take, drop};
 ghost use Rattle.laws.specs.Sort.{sort, merge};
 ghost use Rattle.text_strings.specs.InString.{Inside, key_le};

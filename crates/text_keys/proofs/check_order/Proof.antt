@@ -17,52 +17,52 @@ use Rattle.text_keys.proofs.Repeats.{next_left, next_rising, next_step, next_sho
 use Rattle.text_keys.proofs.check_order.Statement.{statement}
 use Rattle.text_keys.proofs.check_order.Tie as tie
 
-abbrev invariant-loop : tie.invariant-loop
+abbrev invariant-loop : tie.invariant-loop-at
 invariant-loop s keys most₀ at₀ most at =
     (at ≤ length keys) × (rising_keys s (drop at keys) ≡ rising_keys s keys) × (max most (next_left s (drop at keys)) ≡ next_left s keys)
 
-abbrev decreases-loop : tie.decreases-loop
+abbrev decreases-loop : tie.decreases-loop-at
 decreases-loop s keys most₀ at₀ most at = length keys - at
 
-loop-holds : tie.Need-loop-init invariant-loop decreases-loop
-loop-holds c = (omega arith, refl, zero-max _)
+loop-at-init : tie.Need-loop-at-init invariant-loop decreases-loop
+loop-at-init c = (omega arith, refl, zero-max _)
 
-check-pair-requires : tie.Need-check-pair-requires invariant-loop decreases-loop
-check-pair-requires c κs =
-    let p = c.before.before.before.before.before.before.requires in
+check_pair-pair-requires : tie.Need-check_pair-pair-requires invariant-loop decreases-loop
+check_pair-pair-requires c κs =
+    let p = c.requires in
     (keys_get p _ (omega arith), keys_get p _ (omega arith))
 
 -- the keys from here on are in order if this one does not come after the next, and those after it are
-step : (c : tie.After-check-pair invariant-loop decreases-loop) (b : Bool) → c.check-pair.result.rising ≡ b
-    → let l = c.before.before.before.before.loop in let a = c.before.before.before.before.before.before.before.args in
+step : (c : tie.After-check_pair-pair invariant-loop decreases-loop) (b : Bool) → c.check_pair-pair.result.rising ≡ b
+    → let l = c.loop-at in let a = c.args in
     (b && rising_keys a.s.now (drop (l.at + 1) a.keys.now)) ≡ rising_keys a.s.now a.keys.now
 step c b e =
-    let l = c.before.before.before.before.loop in
-    let a = c.before.before.before.before.before.before.before.args in
-    ap (λ (x : Bool). x && rising_keys a.s.now (drop (l.at + 1) a.keys.now)) (sym e ∙ c.check-pair.ensures.1)
+    let l = c.loop-at in
+    let a = c.args in
+    ap (λ (x : Bool). x && rising_keys a.s.now (drop (l.at + 1) a.keys.now)) (sym e ∙ c.check_pair-pair.ensures.1)
     ∙ sym (rising_step a.s.now a.keys.now l.at (omega arith)) ∙ l.invariant.1
 
-returns : tie.Need-returns invariant-loop decreases-loop
-returns c = let e = not-true _ c.if1.true in (e ∙ step c.before.before false e, λ f. false_true (sym e ∙ f))
+returns-then-not-pair : tie.Need-returns-then-not-pair invariant-loop decreases-loop
+returns-then-not-pair c = let e = not-true _ c.if-not-pair.true in (e ∙ step c.before.before false e, λ f. false_true (sym e ∙ f))
 
-loop-again : tie.Need-loop-preserved invariant-loop decreases-loop
-loop-again c =
+loop-at-preserved : tie.Need-loop-at-preserved invariant-loop decreases-loop
+loop-at-preserved c =
     let p = c.before.before.before in
-    let l = p.before.before.before.before.loop in (
+    let l = p.loop-at in (
       omega arith,
-      step p true (not-false _ c.before.if1.false),
-      next_step _ _ l.at l.most _ _ (omega arith) c.larger.ensures p.check-pair.ensures.0 l.invariant.2,
+      step p true (not-false _ c.if-not-pair.false),
+      next_step _ _ l.at l.most _ _ (omega arith) c.larger-most.ensures p.check_pair-pair.ensures.0 l.invariant.2,
     )
 
-returns-2 : tie.Need-returns-2 invariant-loop decreases-loop
-returns-2 c =
-    let a = c.before.before.before.before.args in
-    let l = c.before.loop in
+returns : tie.Need-returns invariant-loop decreases-loop
+returns c =
+    let a = c.args in
+    let l = c.loop-at in
     let h : length (drop l.at a.keys.now) ≤ 1 = rw length-drop (omega arith) in
     let e = sym (rising_short a.s.now (drop l.at a.keys.now) h) ∙ l.invariant.1 in
     (e, λ f. omega (arith, next_short a.s.now (drop l.at a.keys.now) h, l.invariant.2, next_rising a.s.now a.keys.now (sym e)))
 
-pub check-order-spec : {M : Type 1} → statement M
-check-order-spec =
-    tie.close (tie.spec invariant-loop decreases-loop loop-holds (λ c. omega arith) (λ c. omega arith) (λ c. omega arith) (λ c. omega arith) (λ c. omega arith)
-    (λ c. omega arith) check-pair-requires returns (λ c κs. search rules) (λ c. omega arith) (λ c. omega arith) loop-again returns-2)
+pub check_order_spec : {M : Type 1} → statement M
+check_order_spec =
+    tie.close (tie.spec invariant-loop decreases-loop loop-at-init (λ c. omega arith) (λ c. omega arith) (λ c. omega arith) (λ c. omega arith) (λ c. omega arith)
+    (λ c. omega arith) check_pair-pair-requires returns-then-not-pair (λ c κs. search rules) (λ c. omega arith) (λ c. omega arith) loop-at-preserved returns)

@@ -9,41 +9,41 @@ use Rattle.text_keys.proofs.Merges.{Merging, key_right, merging_start, merging_d
 use Rattle.text_keys.proofs.merge_back.Statement.{statement}
 use Rattle.text_keys.proofs.merge_back.Tie as tie
 
-abbrev invariant-loop : tie.invariant-loop
+abbrev invariant-loop : tie.invariant-loop-i
 invariant-loop s left keys₀ i₀ j₀ at₀ keys i j at = Merging s left keys₀ keys i j at
 
-abbrev decreases-loop : tie.decreases-loop
+abbrev decreases-loop : tie.decreases-loop-i
 decreases-loop s left keys₀ i₀ j₀ at₀ keys i j at = length keys₀ - at
 
-loop-holds : tie.Need-loop-init invariant-loop decreases-loop
-loop-holds c = merging_start _ _ _ c.before.before.before.requires.2
+loop-i-init : tie.Need-loop-i-init invariant-loop decreases-loop
+loop-i-init c = merging_start _ _ _ c.requires.2
 
-check-pair-requires : tie.Need-check-pair-requires invariant-loop decreases-loop
-check-pair-requires c κs =
+check_pair-pair-requires : tie.Need-check_pair-pair-requires invariant-loop decreases-loop
+check_pair-pair-requires c κs =
     let a = c.before.before.before.before.before.before.before.before in (
-      keys_get a.requires.0 _ c.before.before.before.loop-test.true,
-      key_right c.before.before.before.before.loop.invariant a.requires.1 c.before.before.if1.true,
+      keys_get a.requires.0 _ c.loop-i-test.true,
+      key_right c.loop-i.invariant a.requires.1 c.if-j-keys.true,
     )
 
-loop-again : tie.Need-loop-preserved invariant-loop decreases-loop
-loop-again c =
+loop-i-preserved-then-not-pair : tie.Need-loop-i-preserved-then-not-pair invariant-loop decreases-loop
+loop-i-preserved-then-not-pair c =
     let r = c.before.before.before in
-    merging_right _ _ _ _ _ _ _ r.before.before.before.before.before.loop.invariant r.before.before.before.before.loop-test.true
-    r.before.before.before.if1.true (sym r.check-pair.ensures.1 ∙ not-true _ c.before.if2.true)
+    merging_right _ _ _ _ _ _ _ r.loop-i.invariant r.loop-i-test.true
+    r.if-j-keys.true (sym r.check_pair-pair.ensures.1 ∙ not-true _ c.if-not-pair.true)
 
-loop-again-2 : tie.Need-loop-preserved-2 invariant-loop decreases-loop
-loop-again-2 c = merging_left _ _ _ _ _ _ _ c.before.before.before.loop.invariant c.before.before.loop-test.true
-    (⊎_elim (λ w. inr (w.0.taken, sym w.3.ensures.1 ∙ not-false _ w.5.left)) (λ w. inl w.left) c.before.if1.branch)
+loop-i-preserved : tie.Need-loop-i-preserved invariant-loop decreases-loop
+loop-i-preserved c = merging_left _ _ _ _ _ _ _ c.loop-i.invariant c.loop-i-test.true
+    (⊎_elim (λ w. inr (w.if-j-keys.true, sym w.check_pair-pair.ensures.1 ∙ not-false _ w.if-not-pair.false)) (λ w. inl w.if-j-keys.false) c.if-j-keys.branch-raw)
 
-same_length : tie.Need-same-length invariant-loop decreases-loop
-same_length c = c.before.loop.invariant.size
+shape_of-keys : tie.Need-shape_of-keys invariant-loop decreases-loop
+shape_of-keys c = c.loop-i.invariant.size
 
 returns : tie.Need-returns invariant-loop decreases-loop
-returns c = merging_done _ _ _ _ _ _ _ c.loop-test.false c.before.loop.invariant
+returns c = merging_done _ _ _ _ _ _ _ c.loop-i-test.false c.loop-i.invariant
 
-pub merge-back-spec : {M : Type 1} → statement M
-merge-back-spec =
-    tie.close (tie.spec invariant-loop decreases-loop loop-holds (λ c. omega arith) (λ c. omega arith) (λ c. omega arith) (λ c. omega arith) check-pair-requires
-    (λ c. omega arith) (λ c. omega arith) (λ c. omega arith) (λ c. omega arith) (λ c. omega arith) (λ c. omega arith) (λ c. omega arith) loop-again
-    (λ c. omega arith) (λ c. omega arith) (λ c. omega arith) (λ c. omega arith) (λ c. omega arith) (λ c. omega arith) (λ c. omega arith) loop-again-2
-    same_length returns)
+pub merge_back_spec : {M : Type 1} → statement M
+merge_back_spec =
+    tie.close (tie.spec invariant-loop decreases-loop loop-i-init (λ c. omega arith) (λ c. omega arith) (λ c. omega arith) (λ c. omega arith) check_pair-pair-requires
+    (λ c. omega arith) (λ c. omega arith) (λ c. omega arith) (λ c. omega arith) (λ c. omega arith) (λ c. omega arith) (λ c. omega arith) loop-i-preserved-then-not-pair
+    (λ c. omega arith) (λ c. omega arith) (λ c. omega arith) (λ c. omega arith) (λ c. omega arith) (λ c. omega arith) (λ c. omega arith) loop-i-preserved
+    shape_of-keys returns)

@@ -9,29 +9,29 @@ use Rattle.text_keys.proofs.Repeats.{next_left, next_sort, next_step, next_short
 use Rattle.text_keys.proofs.repeat_left.Statement.{statement}
 use Rattle.text_keys.proofs.repeat_left.Tie as tie
 
-abbrev invariant-loop : tie.invariant-loop
+abbrev invariant-loop : tie.invariant-loop-i
 invariant-loop s keys most₀ i₀ most i = (i ≤ length keys) × (max most (next_left s (drop i keys)) ≡ next_left s keys)
 
-abbrev decreases-loop : tie.decreases-loop
+abbrev decreases-loop : tie.decreases-loop-i
 decreases-loop s keys most₀ i₀ most i = length keys - i
 
-loop-holds : tie.Need-loop-init invariant-loop decreases-loop
-loop-holds c = (omega arith, zero-max _)
+loop-i-init : tie.Need-loop-i-init invariant-loop decreases-loop
+loop-i-init c = (omega arith, zero-max _)
 
-check-pair-requires : tie.Need-check-pair-requires invariant-loop decreases-loop
-check-pair-requires c κs =
-    let p = c.before.before.before.before.before.before.requires in
+check_pair-pair-requires : tie.Need-check_pair-pair-requires invariant-loop decreases-loop
+check_pair-pair-requires c κs =
+    let p = c.requires in
     (keys_get p _ (omega arith), keys_get p _ (omega arith))
 
-loop-again : tie.Need-loop-preserved invariant-loop decreases-loop
-loop-again c =
-    let l = c.before.before.before.before.before.loop in
-    (omega arith, next_step _ _ l.i l.most _ _ (omega arith) c.larger.ensures c.before.check-pair.ensures.0 l.invariant.1)
+loop-i-preserved : tie.Need-loop-i-preserved invariant-loop decreases-loop
+loop-i-preserved c =
+    let l = c.loop-i in
+    (omega arith, next_step _ _ l.i l.most _ _ (omega arith) c.larger-most.ensures c.check_pair-pair.ensures.0 l.invariant.1)
 
 returns : tie.Need-returns invariant-loop decreases-loop
 returns c =
-    let l = c.before.loop in
-    let a = c.before.before.before.before.args in
+    let l = c.loop-i in
+    let a = c.args in
     λ ks e. omega (
       arith,
       next_short a.s.now (drop l.i a.keys.now) (rw length-drop (omega arith)),
@@ -40,7 +40,7 @@ returns c =
       l.invariant.1,
     )
 
-pub repeat-left-spec : {M : Type 1} → statement M
-repeat-left-spec =
-    tie.close (tie.spec invariant-loop decreases-loop loop-holds (λ c. omega arith) (λ c. omega arith) (λ c. omega arith) (λ c. omega arith) (λ c. omega arith)
-    (λ c. omega arith) check-pair-requires (λ c κs. search rules) (λ c. omega arith) (λ c. omega arith) loop-again returns)
+pub repeat_left_spec : {M : Type 1} → statement M
+repeat_left_spec =
+    tie.close (tie.spec invariant-loop decreases-loop loop-i-init (λ c. omega arith) (λ c. omega arith) (λ c. omega arith) (λ c. omega arith) (λ c. omega arith)
+    (λ c. omega arith) check_pair-pair-requires (λ c κs. search rules) (λ c. omega arith) (λ c. omega arith) loop-i-preserved returns)

@@ -6,10 +6,10 @@ use Rattle.text_keys.proofs.Orders.{rising_sorted}
 use Rattle.text_keys.proofs.sort_keys.Statement.{statement}
 use Rattle.text_keys.proofs.sort_keys.Tie as tie
 
-returns-2 : tie.Need-returns-2
-returns-2 c = sym (rising_sorted _ _ (sym c.before.before.check-order.ensures.0 ∙ not-false _ c.if1.false))
+returns-else-not-found : tie.Need-returns-else-not-found
+returns-else-not-found c = sym (rising_sorted _ _ (sym c.check_order-found.ensures.0 ∙ not-false _ c.if-not-found.false))
 
-pub sort-keys-spec : {M : Type 1} → statement M
-sort-keys-spec =
+pub sort_keys_spec : {M : Type 1} → statement M
+sort_keys_spec =
     tie.close (tie.spec (λ c κs. search rules) (λ c κs. search rules) (λ c. search rules) (λ c. search rules) (λ c. search rules) (λ c. search rules)
-    returns-2)
+    returns-else-not-found)
