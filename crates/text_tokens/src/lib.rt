@@ -1,5 +1,7 @@
 // What the one pass over a text is made of: its tokens, what stands between the items of an array or an object, and what is held of
 // the parts that were read.
+#![tactic(auto)]
+
 ghost use Rattle.std.specs.Prelude.{◌≡◌, true, false, cond, ◌+◌, ◌-◌, ◌<◌, ◌≤◌, max, length, drop, get_or};
 ghost use Rattle.text_json.specs.Syntax.{Syntax};
 ghost use Rattle.text_json.specs.Read.{found, and_then, read_scalar, read_string, read_number};

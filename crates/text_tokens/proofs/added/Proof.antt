@@ -12,15 +12,15 @@ returns : tie.Need-returns
 unfolding plus
 returns c =
     let third = c.before.before.before.before in
-    let a = third.before.before.before.args in
+    let a = third.args in
     λ i. record {
-      string = third.before.before.larger.ensures i;
-      number = third.before.larger2.ensures i;
-      key = third.larger3.ensures i;
+      string = third.larger-string.ensures i;
+      number = third.larger-number.ensures i;
+      key = third.larger-key.ensures i;
       size = a.a.size + a.b.size + 1;
       ordered = a.a.ordered && a.b.ordered;
     }
 
-pub added-spec : {M : Type 1} → statement M
-added-spec =
+pub added_spec : {M : Type 1} → statement M
+added_spec =
     tie.close (tie.spec (λ c κs. search rules) (λ c κs. search rules) (λ c κs. search rules) (λ c. search rules) (λ c. search rules) returns)

@@ -6,23 +6,23 @@ use Rattle.text_tokens.proofs.after_item.Reads as reads
 use Rattle.text_tokens.proofs.after_item.Lts as lts
 use Rattle.text_json.proofs.space.skip_spaces.Reads as skip-spaces-reads
 
+returns-then-s-i : tie.Need-returns-then-s-i
+returns-then-s-i c = nothing_follows _ _ _ _ c.skip_spaces-i.ensures.0 c.skip_spaces-i.ensures.1 c.if-s-i.true
+
+returns-then-b-end_mark : tie.Need-returns-then-b-end_mark
+returns-then-b-end_mark c = end_follows _ _ _ _ c.skip_spaces-i.ensures.0 c.skip_spaces-i.ensures.1
+    c.if-s-i.false c.if-b-end_mark.true
+
+returns-then-b-eq44 : tie.Need-returns-then-b-eq44
+returns-then-b-eq44 c = more_follows _ _ _ _ c.skip_spaces-i.ensures.0
+    c.skip_spaces-i.ensures.1 c.if-s-i.false _ c.if-b-end_mark.false
+    c.if-b-eq44.true c.skip_spaces.ensures
+
 returns : tie.Need-returns
-returns c = nothing_follows _ _ _ _ c.before.skip-spaces.ensures.0 c.before.skip-spaces.ensures.1 c.if1.true
+returns c = misfit_follows _ _ _ _ c.skip_spaces-i.ensures.0 c.skip_spaces-i.ensures.1
+    c.if-s-i.false c.if-b-end_mark.false c.if-b-eq44.false
 
-returns-2 : tie.Need-returns-2
-returns-2 c = end_follows _ _ _ _ c.before.before.before.skip-spaces.ensures.0 c.before.before.before.skip-spaces.ensures.1
-    c.before.before.if1.false c.if2.true
-
-returns-3 : tie.Need-returns-3
-returns-3 c = more_follows _ _ _ _ c.before.before.before.before.before.skip-spaces.ensures.0
-    c.before.before.before.before.before.skip-spaces.ensures.1 c.before.before.before.before.if1.false _ c.before.before.if2.false
-    c.before.if3.true c.skip-spaces2.ensures
-
-returns-4 : tie.Need-returns-4
-returns-4 c = misfit_follows _ _ _ _ c.before.before.before.before.skip-spaces.ensures.0 c.before.before.before.before.skip-spaces.ensures.1
-    c.before.before.before.if1.false c.before.if2.false c.if3.false
-
-pub after-item-spec : {M : Type 1} → statement M
-after-item-spec =
-    tie.close (tie.spec (λ c κs. search rules) returns (λ c. search rules) (λ c. search rules) returns-2 (λ c. search rules) (λ c κs. search rules)
-    returns-3 returns-4)
+pub after_item_spec : {M : Type 1} → statement M
+after_item_spec =
+    tie.close (tie.spec (λ c κs. search rules) returns-then-s-i (λ c. search rules) (λ c. search rules) returns-then-b-end_mark (λ c. search rules) (λ c κs. search rules)
+    returns-then-b-eq44 returns)

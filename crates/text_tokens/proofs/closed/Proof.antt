@@ -15,12 +15,12 @@ returns : tie.Need-returns
 unfolding closed_summary
 returns c =
     let l = c.before.before in
-    let o = l.before.before.before.before.before.order-keys in
-    let a = l.before.before.before.before.before.before.before.before.before.before.before.args in
-    let key = l.larger.ensures ∙ ap (λ (k : ℕ). max k a.sum.key) o.ensures.1.0 in (
+    let o = l.order_keys-own in
+    let a = l.args in
+    let key = l.larger-key.ensures ∙ ap (λ (k : ℕ). max k a.sum.key) o.ensures.1.0 in (
       λ i. Value (record {
         end = a.end;
-        count = o.auto.1.0 i;
+        count = o.auto.keys i;
         sum = record {
           string = a.sum.string;
           number = a.sum.number;
@@ -32,6 +32,6 @@ returns c =
       o.ensures.0,
     )
 
-pub closed-spec : {M : Type 1} → statement M
-closed-spec =
+pub closed_spec : {M : Type 1} → statement M
+closed_spec =
     tie.close (tie.spec (λ c κs. search rules) (λ c κs. search rules) (λ c. search rules) (λ c. search rules) returns)

@@ -8,12 +8,12 @@ use Rattle.text_tokens.proofs.literal.Reads as reads
 use Rattle.text_tokens.proofs.literal.Lts as lts
 use Rattle.text_tokens.proofs.plain.Reads as plain-reads
 
-returns : tie.Need-returns
-returns c = c.plain.ensures ∙ sym (ap (λ (w : Step). literal_answer w c.before.before.before.before.args.size) c.before.before.step.given.1)
+returns-in-End : tie.Need-returns-in-End
+returns-in-End c = c.plain.ensures ∙ sym (ap (λ (w : Step). literal_answer w c.args.size) c.in-End.is)
 
-returns-2 : tie.Need-returns-2
-returns-2 c = sym (ap (λ (w : Step). literal_answer w c.before.before.before.args.size) c.before.step2.given.1)
+returns-in-Stuck : tie.Need-returns-in-Stuck
+returns-in-Stuck c = sym (ap (λ (w : Step). literal_answer w c.args.size) c.in-Stuck.is)
 
-pub literal-spec : {M : Type 1} → statement M
-literal-spec =
-    tie.close (tie.spec (λ c. search rules) (λ c κs. search rules) (λ c. search rules) returns returns-2)
+pub literal_spec : {M : Type 1} → statement M
+literal_spec =
+    tie.close (tie.spec (λ c. search rules) (λ c κs. search rules) (λ c. search rules) returns-in-End returns-in-Stuck)

@@ -4,9 +4,9 @@ use Rattle.text_tokens.proofs.mark.Tie as tie
 use Rattle.text_tokens.proofs.mark.Reads as reads
 use Rattle.text_tokens.proofs.mark.Lts as lts
 
-returns : tie.Need-returns
-returns c = rw c.if1.true
+returns-then-faulty : tie.Need-returns-then-faulty
+returns-then-faulty c = rw c.if-faulty.true
 
 pub mark_spec : {M : Type 1} → statement M
 mark_spec =
-    tie.close (tie.spec (λ c. search rules) returns (λ c. search rules))
+    tie.close (tie.spec (λ c. search rules) returns-then-faulty (λ c. search rules))

@@ -10,15 +10,15 @@ use Rattle.text_tokens.proofs.larger.Reads as larger-reads
 returns : tie.Need-returns
 unfolding member_summary
 returns c =
-    let a = c.before.before.before.args in
+    let a = c.args in
     λ i. record {
-      string = c.before.before.larger.ensures i;
+      string = c.larger-string.ensures i;
       number = a.value.number;
       key = a.value.key;
       size = a.name.size + a.value.size + 1;
       ordered = a.value.ordered;
     }
 
-pub member-spec : {M : Type 1} → statement M
-member-spec =
+pub member_spec : {M : Type 1} → statement M
+member_spec =
     tie.close (tie.spec (λ c κs. search rules) (λ c. search rules) (λ c. search rules) returns)

@@ -7,15 +7,15 @@ use Rattle.text_tokens.proofs.stands.Tie as tie
 use Rattle.text_tokens.proofs.stands.Reads as reads
 use Rattle.text_tokens.proofs.stands.Lts as lts
 
-returns : tie.Need-returns
-returns c = (λ _. (c.before.before.if1.true, c.if2.true), λ e. false_true (sym e))
+returns-then-s-at : tie.Need-returns-then-s-at
+returns-then-s-at c = (λ _. (c.if-at-s.true, c.if-s-at.true), λ e. false_true (sym e))
 
-returns-2 : tie.Need-returns-2
-returns-2 c = (λ e. false_true e, λ _ _. c.if2.false)
+returns-else-s-at : tie.Need-returns-else-s-at
+returns-else-s-at c = (λ e. false_true e, λ _ _. c.if-s-at.false)
 
-returns-3 : tie.Need-returns-3
-returns-3 c = (λ e. false_true e, λ _ h. absurd (omega (arith, h, c.if1.false)))
+returns-else-at-s : tie.Need-returns-else-at-s
+returns-else-at-s c = (λ e. false_true e, λ _ h. absurd (omega (arith, h, c.if-at-s.false)))
 
-pub stands-spec : {M : Type 1} → statement M
-stands-spec =
-    tie.close (tie.spec (λ c. search rules) returns returns-2 returns-3)
+pub stands_spec : {M : Type 1} → statement M
+stands_spec =
+    tie.close (tie.spec (λ c. search rules) returns-then-s-at returns-else-s-at returns-else-at-s)
