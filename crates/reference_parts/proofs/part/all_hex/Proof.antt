@@ -11,28 +11,28 @@ use Rattle.reference_parts.specs.Hex.{is_lower_hex}
 use Rattle.reference_parts.proofs.part.all_hex.Statement.{statement}
 use Rattle.reference_parts.proofs.part.all_hex.Tie as tie
 
-abbrev invariant-loop : tie.invariant-loop
+abbrev invariant-loop : tie.invariant-loop-n
 invariant-loop s at count all₀ n₀ all n = (n ≤ count) × (all ≡ every is_lower_hex (take n (drop at s)))
 
-abbrev decreases-loop : tie.decreases-loop
+abbrev decreases-loop : tie.decreases-loop-n
 decreases-loop s at count all₀ n₀ all n = count - n
 
-loop-holds : tie.Need-loop-init invariant-loop decreases-loop
+loop-n-init : tie.Need-loop-n-init invariant-loop decreases-loop
 unfolding every
-loop-holds c = (omega arith, refl)
+loop-n-init c = (omega arith, refl)
 
-loop-again : tie.Need-loop-preserved invariant-loop decreases-loop
+loop-n-preserved : tie.Need-loop-n-preserved invariant-loop decreases-loop
 unfolding is_lower_hex between
-loop-again c =
+loop-n-preserved c =
     let l = c.before.before in
-    let a = l.before.args in
-    (omega arith, every_next is_lower_hex a.s.now a.at l.loop.n l.loop.all (omega arith) l.loop.invariant.1)
+    let a = l.args in
+    (omega arith, every_next is_lower_hex a.s.now a.at l.loop-n.n l.loop-n.all (omega arith) l.loop-n.invariant.1)
 
 returns : tie.Need-returns invariant-loop decreases-loop
 returns c =
-    let l = c.before.loop in
-    let o : l.n ≡ c.before.before.args.count = omega arith in rw o at l.invariant.1
+    let l = c.loop-n in
+    let o : l.n ≡ c.args.count = omega arith in rw o at l.invariant.1
 
-pub all-hex-spec : {M : Type 1} → statement M
-all-hex-spec =
-    tie.close (tie.spec invariant-loop decreases-loop loop-holds (λ c. omega arith) (λ c. omega arith) (λ c. omega arith) (λ c. omega arith) loop-again returns)
+pub all_hex_spec : {M : Type 1} → statement M
+all_hex_spec =
+    tie.close (tie.spec invariant-loop decreases-loop loop-n-init (λ c. omega arith) (λ c. omega arith) (λ c. omega arith) (λ c. omega arith) loop-n-preserved returns)

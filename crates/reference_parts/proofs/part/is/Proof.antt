@@ -5,15 +5,15 @@ use Rattle.reference_parts.proofs.Counting.{as_begins, other_length}
 use Rattle.reference_parts.proofs.part.is.Statement.{statement}
 use Rattle.reference_parts.proofs.part.is.Tie as tie
 
-returns : tie.Need-returns
-returns c = other_length _ _ (λ e. c.if1.true (c.before.before.before.requires.1 ∙ e))
+returns-then-len-name : tie.Need-returns-then-len-name
+returns-then-len-name c = other_length _ _ (λ e. c.if-len-name.true (c.requires.1 ∙ e))
 
 begins-requires : tie.Need-begins-requires
-begins-requires c κs = c.before.before.before.requires.0
+begins-requires c κs = c.requires.0
 
-returns-2 : tie.Need-returns-2
-returns-2 c = c.begins.ensures ∙ as_begins _ _ (sym c.before.if1.false ∙ c.before.before.before.before.requires.1)
+returns : tie.Need-returns
+returns c = c.begins.ensures ∙ as_begins _ _ (sym c.if-len-name.false ∙ c.requires.1)
 
-pub is-spec : {M : Type 1} → statement M
-is-spec =
-    tie.close (tie.spec returns begins-requires returns-2)
+pub is_spec : {M : Type 1} → statement M
+is_spec =
+    tie.close (tie.spec returns-then-len-name begins-requires returns)

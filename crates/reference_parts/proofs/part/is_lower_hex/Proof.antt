@@ -5,14 +5,14 @@ use Rattle.reference_parts.specs.Hex.{is_lower_hex}
 use Rattle.reference_parts.proofs.part.is_lower_hex.Statement.{statement}
 use Rattle.reference_parts.proofs.part.is_lower_hex.Tie as tie
 
-returns : tie.Need-returns
+returns-then-between : tie.Need-returns-then-between
 unfolding is_lower_hex
-returns c = rw (← c.before.between.ensures, c.if1.true)
+returns-then-between c = rw (← c.between.ensures, c.if-between.true)
 
-returns-2 : tie.Need-returns-2
+returns-else-between : tie.Need-returns-else-between
 unfolding is_lower_hex
-returns-2 c = rw (← c.between2.ensures, ← c.before.before.between.ensures, c.before.if1.false)
+returns-else-between c = rw (← c.between-else-between.ensures, ← c.between.ensures, c.if-between.false)
 
-pub is-lower-hex-spec : {M : Type 1} → statement M
-is-lower-hex-spec =
-    tie.close (tie.spec (λ c κs. search rules) (λ c κs. search rules) returns returns-2)
+pub is_lower_hex_spec : {M : Type 1} → statement M
+is_lower_hex_spec =
+    tie.close (tie.spec (λ c κs. search rules) (λ c κs. search rules) returns-then-between returns-else-between)

@@ -9,49 +9,49 @@ use Rattle.reference_parts.proofs.Counting.{first_shorter, begins, next_same, ne
 use Rattle.reference_parts.proofs.part.is_plain.Statement.{statement}
 use Rattle.reference_parts.proofs.part.is_plain.Tie as tie
 
-abbrev invariant-loop : tie.invariant-loop
+abbrev invariant-loop : tie.invariant-loop-k
 invariant-loop s i len name k₀ k = (i + length name ≤ length s) × (drop i s ≡ take k name ++ drop k (drop i s))
 
-abbrev decreases-loop : tie.decreases-loop
+abbrev decreases-loop : tie.decreases-loop-k
 decreases-loop s i len name k₀ k = length name - k
 
-returns : tie.Need-returns invariant-loop decreases-loop
-returns c = other_length _ _ (λ e. c.if1.true (c.before.requires.1 ∙ e))
+returns-then-len-name : tie.Need-returns-then-len-name invariant-loop decreases-loop
+returns-then-len-name c = other_length _ _ (λ e. c.if-len-name.true (c.requires.1 ∙ e))
 
-loop-holds : tie.Need-loop-init invariant-loop decreases-loop
-loop-holds c = (
+loop-k-init : tie.Need-loop-k-init invariant-loop decreases-loop
+loop-k-init c = (
   omega (
     arith,
-    first_shorter (drop c.before.args.i c.before.args.s.now),
-    length-drop c.before.args.i c.before.args.s.now,
+    first_shorter (drop c.args.i c.args.s.now),
+    length-drop c.args.i c.args.s.now,
   ),
   refl,
 )
 
-returns-2 : tie.Need-returns-2 invariant-loop decreases-loop
-returns-2 c =
+returns-then-s-i : tie.Need-returns-then-s-i invariant-loop decreases-loop
+returns-then-s-i c =
     let l = c.before.before.before.before in
-    let a = l.before.before.args in
-    next_differs (drop a.i a.s.now) _ _ l.loop.k l.loop.invariant.1 c.before.before.before.loop-test.true _ _
-    (next_plain a.s.now a.i l.loop.k (omega arith)) c.if2.true
-    ∙ as_begins _ _ (sym l.before.if1.false ∙ l.before.before.requires.1)
+    let a = l.args in
+    next_differs (drop a.i a.s.now) _ _ l.loop-k.k l.loop-k.invariant.1 c.loop-k-test.true _ _
+    (next_plain a.s.now a.i l.loop-k.k (omega arith)) c.if-s-i.true
+    ∙ as_begins _ _ (sym l.if-len-name.false ∙ l.requires.1)
 
-loop-again : tie.Need-loop-preserved invariant-loop decreases-loop
-loop-again c =
+loop-k-preserved : tie.Need-loop-k-preserved invariant-loop decreases-loop
+loop-k-preserved c =
     let l = c.before.before.before.before in
-    let a = l.before.before.args in (
-      l.loop.invariant.0,
-      next_same (drop a.i a.s.now) _ _ l.loop.k l.loop.invariant.1 c.before.before.before.loop-test.true _ _
-          (next_plain a.s.now a.i l.loop.k (omega arith)) c.if2.false,
+    let a = l.args in (
+      l.loop-k.invariant.0,
+      next_same (drop a.i a.s.now) _ _ l.loop-k.k l.loop-k.invariant.1 c.loop-k-test.true _ _
+          (next_plain a.s.now a.i l.loop-k.k (omega arith)) c.if-s-i.false,
     )
 
-returns-3 : tie.Need-returns-3 invariant-loop decreases-loop
-returns-3 c =
+returns : tie.Need-returns invariant-loop decreases-loop
+returns c =
     let l = c.before in
-    begins (drop l.before.before.args.i l.before.before.args.s.now) _ _ l.loop.k l.loop.invariant.1 c.loop-test.false
-    ∙ as_begins _ _ (sym l.before.if1.false ∙ l.before.before.requires.1)
+    begins (drop l.args.i l.args.s.now) _ _ l.loop-k.k l.loop-k.invariant.1 c.loop-k-test.false
+    ∙ as_begins _ _ (sym l.if-len-name.false ∙ l.requires.1)
 
-pub is-plain-spec : {M : Type 1} → statement M
-is-plain-spec =
-    tie.close (tie.spec invariant-loop decreases-loop returns loop-holds (λ c. omega arith) (λ c. omega arith) (λ c. omega arith) returns-2 (λ c. omega arith)
-    (λ c. omega arith) loop-again returns-3)
+pub is_plain_spec : {M : Type 1} → statement M
+is_plain_spec =
+    tie.close (tie.spec invariant-loop decreases-loop returns-then-len-name loop-k-init (λ c. omega arith) (λ c. omega arith) (λ c. omega arith) returns-then-s-i (λ c. omega arith)
+    (λ c. omega arith) loop-k-preserved returns)

@@ -7,27 +7,27 @@ use Rattle.reference_parts.proofs.Counting.{char_escaped, char_byte}
 use Rattle.reference_parts.proofs.part.one_char.Statement.{statement}
 use Rattle.reference_parts.proofs.part.one_char.Tie as tie
 
-shared-slice-read-b : tie.Need-shared-slice-read-b
-shared-slice-read-b c = inside_within _ _ c.before.before.requires.0
+bounds-s-k : tie.Need-bounds-s-k
+bounds-s-k c = inside_within _ _ c.requires.0
 
-read-escape-requires : tie.Need-read-escape-requires
-read-escape-requires c κs = escape_at _ _ c.before.before.before.requires.0 c.if1.true
+read_escape-e-requires : tie.Need-read_escape-e-requires
+read_escape-e-requires c κs = escape_at _ _ c.requires.0 c.if-b-eq92.true
 
-encoded-requires : tie.Need-encoded-requires
-encoded-requires c κs = c.read-escape.ensures.small
+encoded-x-requires : tie.Need-encoded-x-requires
+encoded-x-requires c κs = c.read_escape-e.ensures.small
+
+returns-then-b-eq92 : tie.Need-returns-then-b-eq92
+returns-then-b-eq92 c = char_escaped _ _ c.requires.0 _ _ _ c.read_escape-e.ensures c.encoded-x.ensures.0
+
+overflow_add-result : tie.Need-overflow_add-result
+overflow_add-result c = omega (arith, inside_within _ _ c.requires.0)
+
+overflow_cast-result : tie.Need-overflow_cast-result
+overflow_cast-result c = omega (arith, c.shared_slice_known-2-1.given c.args.k)
 
 returns : tie.Need-returns
-returns c = char_escaped _ _ c.before.before.before.before.before.requires.0 _ _ _ c.before.read-escape.ensures c.encoded.ensures.0
+returns c = char_byte _ _ c.requires.0 c.requires.1 c.if-b-eq92.false
 
-add-t10 : tie.Need-overflow-add-t10
-add-t10 c = omega (arith, inside_within _ _ c.before.before.before.requires.0)
-
-cast-t11 : tie.Need-overflow-cast-t11
-cast-t11 c = omega (arith, c.before.shared-slice-known2.given c.before.before.before.args.k)
-
-returns-2 : tie.Need-returns-2
-returns-2 c = char_byte _ _ c.before.before.before.requires.0 c.before.before.before.requires.1 c.if1.false
-
-pub one-char-spec : {M : Type 1} → statement M
-one-char-spec =
-    tie.close (tie.spec shared-slice-read-b read-escape-requires encoded-requires returns add-t10 cast-t11 returns-2)
+pub one_char_spec : {M : Type 1} → statement M
+one_char_spec =
+    tie.close (tie.spec bounds-s-k read_escape-e-requires encoded-x-requires returns-then-b-eq92 overflow_add-result overflow_cast-result returns)

@@ -10,57 +10,57 @@ use Rattle.reference_parts.proofs.Blocks.{begun}
 use Rattle.reference_parts.proofs.part.read.Statement.{statement}
 use Rattle.reference_parts.proofs.part.read.Tie as tie
 
-abbrev invariant-loop : tie.invariant-loop
+abbrev invariant-loop : tie.invariant-loop-i
 invariant-loop s i k₀ n₀ hex₀ k n hex = Inside s k × DigitsCounted (content_from s i) (content_from s k) n hex
 
-abbrev decreases-loop : tie.decreases-loop
+abbrev decreases-loop : tie.decreases-loop-i
 decreases-loop s i k₀ n₀ hex₀ k n hex = length s - k
 
-read-start-requires : tie.Need-read-start-requires invariant-loop decreases-loop
-read-start-requires c κs = c.before.requires
+read_start-begun-requires : tie.Need-read_start-begun-requires invariant-loop decreases-loop
+read_start-begun-requires c κs = c.requires
 
-sub-length : tie.Need-overflow-sub-length invariant-loop decreases-loop
-sub-length c = omega (arith, c.read-start.ensures.size)
+overflow_sub-length : tie.Need-overflow_sub-length invariant-loop decreases-loop
+overflow_sub-length c = omega (arith, c.read_start-begun.ensures.size)
 
-loop-holds : tie.Need-loop-init invariant-loop decreases-loop
-loop-holds c = (c.read-start.ensures.inside, begun _ _ _ c.read-start.ensures)
+loop-i-init : tie.Need-loop-i-init invariant-loop decreases-loop
+loop-i-init c = (c.read_start-begun.ensures.inside, begun _ _ _ c.read_start-begun.ensures)
 
-shared-slice-read-b : tie.Need-shared-slice-read-b invariant-loop decreases-loop
-shared-slice-read-b c = inside_within _ _ c.before.loop.invariant.0
+bounds-s-k : tie.Need-bounds-s-k invariant-loop decreases-loop
+bounds-s-k c = inside_within _ _ c.loop-i.invariant.0
 
-returns : tie.Need-returns invariant-loop decreases-loop
-returns c = let l = c.before.before in at_mark _ l.before.before.before.args.i l.loop.k _ _ l.loop.invariant.1 l.loop.invariant.0 c.if1.true
+returns-then-b-eq34 : tie.Need-returns-then-b-eq34 invariant-loop decreases-loop
+returns-then-b-eq34 c = let l = c.before.before in at_mark _ l.args.i l.loop-i.k _ _ l.loop-i.invariant.1 l.loop-i.invariant.0 c.if-b-eq34.true
 
-one-char-requires : tie.Need-one-char-requires invariant-loop decreases-loop
-one-char-requires c κs = (c.before.before.loop.invariant.0, c.if1.false)
+one_char-x-requires : tie.Need-one_char-x-requires invariant-loop decreases-loop
+one_char-x-requires c κs = (c.loop-i.invariant.0, c.if-b-eq34.false)
 
-returns-2 : tie.Need-returns-2 invariant-loop decreases-loop
-returns-2 c =
+returns-then-x-eq47 : tie.Need-returns-then-x-eq47 invariant-loop decreases-loop
+returns-then-x-eq47 c =
     let x = c.before.before in
     let l = x.before.before.before in
-    at_divider _ l.before.before.before.args.i l.loop.k _ _ l.loop.invariant.1 _ x.one_char.ensures c.if2.true
+    at_divider _ l.args.i l.loop-i.k _ _ l.loop-i.invariant.1 _ x.one_char-x.ensures c.if-x-eq47.true
 
-add-length : tie.Need-overflow-add-length invariant-loop decreases-loop
-add-length c =
+overflow_add-length : tie.Need-overflow_add-length invariant-loop decreases-loop
+overflow_add-length c =
     let x = c.before.before.before in
     let l = x.before.before.before in
-    omega (arith, char_fits _ l.before.before.before.args.i l.loop.k _ _ l.loop.invariant.1 _ x.one_char.ensures l.before.before.before.requires)
+    omega (arith, char_fits _ l.args.i l.loop-i.k _ _ l.loop-i.invariant.1 _ x.one_char-x.ensures l.requires)
 
-loop-less : tie.Need-loop-smaller invariant-loop decreases-loop
-loop-less c =
-    let x = c.before.before.before.before.one_char.ensures in
+loop-i-smaller : tie.Need-loop-i-smaller invariant-loop decreases-loop
+loop-i-smaller c =
+    let x = c.one_char-x.ensures in
     omega (arith, x.later, inside_within _ _ x.inside)
 
-loop-again : tie.Need-loop-preserved invariant-loop decreases-loop
-loop-again c =
+loop-i-preserved : tie.Need-loop-i-preserved invariant-loop decreases-loop
+loop-i-preserved c =
     let x = c.before.before.before.before in
     let l = x.before.before.before in (
-      x.one_char.ensures.inside,
-      over_char _ l.before.before.before.args.i l.loop.k _ _ l.loop.invariant.1 _ x.one_char.ensures c.before.before.if2.false _
-          c.is-lower-hex.ensures,
+      x.one_char-x.ensures.inside,
+      over_char _ l.args.i l.loop-i.k _ _ l.loop-i.invariant.1 _ x.one_char-x.ensures c.if-x-eq47.false _
+          c.is_lower_hex-hex.ensures,
     )
 
 pub read_spec : {M : Type 1} → statement M
 read_spec =
-    tie.close (tie.spec invariant-loop decreases-loop read-start-requires sub-length loop-holds shared-slice-read-b returns one-char-requires returns-2 add-length
-    (λ c κs. tt) loop-less loop-again)
+    tie.close (tie.spec invariant-loop decreases-loop read_start-begun-requires overflow_sub-length loop-i-init bounds-s-k returns-then-b-eq34 one_char-x-requires returns-then-x-eq47 overflow_add-length
+    (λ c κs. tt) loop-i-smaller loop-i-preserved)

@@ -10,44 +10,44 @@ use Rattle.reference_parts.proofs.Blocks.{nothing_yet, within, block_more}
 use Rattle.reference_parts.proofs.part.read_blocks.Statement.{statement}
 use Rattle.reference_parts.proofs.part.read_blocks.Tie as tie
 
-abbrev invariant-loop : tie.invariant-loop
+abbrev invariant-loop : tie.invariant-loop-hex
 invariant-loop s i k₀ hex₀ k hex = StartAt s i (record { next = k; hex = hex })
 
-abbrev decreases-loop : tie.decreases-loop
+abbrev decreases-loop : tie.decreases-loop-hex
 decreases-loop s i k₀ hex₀ k hex = length s - k
 
-loop-holds : tie.Need-loop-init invariant-loop decreases-loop
-loop-holds c = nothing_yet _ _ c.before.requires
+loop-hex-init : tie.Need-loop-hex-init invariant-loop decreases-loop
+loop-hex-init c = nothing_yet _ _ c.requires
 
 undivided-requires : tie.Need-undivided-requires invariant-loop decreases-loop
-undivided-requires c κs = omega (arith, inside_within _ _ c.loop.invariant.inside)
+undivided-requires c κs = omega (arith, inside_within _ _ c.loop-hex.invariant.inside)
 
-all-hex-requires : tie.Need-all-hex-requires invariant-loop decreases-loop
-all-hex-requires c κs =
-    let l = c.before.before.loop in
-    let a = c.before.before.before.before.args in
+all_hex-hex-requires : tie.Need-all_hex-hex-requires invariant-loop decreases-loop
+all_hex-hex-requires c κs =
+    let l = c.loop-hex in
+    let a = c.args in
     let i = inside_within a.s.now l.k l.invariant.inside in
-    within 16 a.s.now a.i l.k l.hex l.invariant (sym c.before.undivided.ensures ∙ c.if1.true) (omega arith)
+    within 16 a.s.now a.i l.k l.hex l.invariant (sym c.undivided.ensures ∙ c.loop-hex-test.true) (omega arith)
 
-add-k : tie.Need-overflow-add-k invariant-loop decreases-loop
-add-k c =
-    let l = c.before.before.before.loop in
-    let a = c.before.before.before.before.before.args in
+overflow_add-k : tie.Need-overflow_add-k invariant-loop decreases-loop
+overflow_add-k c =
+    let l = c.loop-hex in
+    let a = c.args in
     let i = inside_within a.s.now l.k l.invariant.inside in
-    let w = within 16 a.s.now a.i l.k l.hex l.invariant (sym c.before.before.undivided.ensures ∙ c.before.if1.true) (omega arith) in
-    omega (arith, c.before.before.before.before.before.well-formed)
+    let w = within 16 a.s.now a.i l.k l.hex l.invariant (sym c.undivided.ensures ∙ c.loop-hex-test.true) (omega arith) in
+    omega (arith, c.well_formed)
 
-loop-less : tie.Need-loop-smaller invariant-loop decreases-loop
-loop-less c = omega (arith, inside_within _ _ c.before.before.before.loop.invariant.inside)
+loop-hex-smaller : tie.Need-loop-hex-smaller invariant-loop decreases-loop
+loop-hex-smaller c = omega (arith, inside_within _ _ c.loop-hex.invariant.inside)
 
-loop-again : tie.Need-loop-preserved invariant-loop decreases-loop
-loop-again c =
-    let l = c.before.before.before.loop in
-    block_more 16 _ _ l.k l.hex l.invariant (sym c.before.before.undivided.ensures ∙ c.before.if1.true) _ c.all-hex.ensures
+loop-hex-preserved : tie.Need-loop-hex-preserved invariant-loop decreases-loop
+loop-hex-preserved c =
+    let l = c.loop-hex in
+    block_more 16 _ _ l.k l.hex l.invariant (sym c.undivided.ensures ∙ c.loop-hex-test.true) _ c.all_hex-hex.ensures
 
 returns : tie.Need-returns invariant-loop decreases-loop
-returns c = c.before.before.loop.invariant
+returns c = c.loop-hex.invariant
 
-pub read-blocks-spec : {M : Type 1} → statement M
-read-blocks-spec =
-    tie.close (tie.spec invariant-loop decreases-loop loop-holds undivided-requires all-hex-requires add-k loop-less loop-again returns)
+pub read_blocks_spec : {M : Type 1} → statement M
+read_blocks_spec =
+    tie.close (tie.spec invariant-loop decreases-loop loop-hex-init undivided-requires all_hex-hex-requires overflow_add-k loop-hex-smaller loop-hex-preserved returns)

@@ -8,48 +8,48 @@ use Rattle.reference_parts.proofs.Counting.{DigitsCounted, start, goes_on_byte, 
 use Rattle.reference_parts.proofs.part.read_plain.Statement.{statement}
 use Rattle.reference_parts.proofs.part.read_plain.Tie as tie
 
-abbrev invariant-loop : tie.invariant-loop
+abbrev invariant-loop : tie.invariant-loop-k
 invariant-loop s i k₀ n₀ hex₀ k n hex = (k ≤ length s) × DigitsCounted (drop i s) (drop k s) n hex
 
-abbrev decreases-loop : tie.decreases-loop
+abbrev decreases-loop : tie.decreases-loop-k
 decreases-loop s i k₀ n₀ hex₀ k n hex = length s - k
 
-loop-holds : tie.Need-loop-init invariant-loop decreases-loop
-loop-holds c = (c.before.requires, start _)
+loop-k-init : tie.Need-loop-k-init invariant-loop decreases-loop
+loop-k-init c = (c.requires, start _)
+
+returns-then-b-eq47 : tie.Need-returns-then-b-eq47 invariant-loop decreases-loop
+returns-then-b-eq47 c =
+    let l = c.before.before.before in
+    let e = drop_next l.args.s.now l.loop-k.k c.loop-k-test.true in (
+      record { counts = counts_divided _ _ _ _ l.loop-k.invariant.1 _ _ e c.if-b-eq47.true _; rest = rest_divided _ _ _ _ l.loop-k.invariant.1 _ _ e c.if-b-eq47.true },
+      omega arith,
+    )
+
+overflow_add-length : tie.Need-overflow_add-length invariant-loop decreases-loop
+overflow_add-length c =
+    let l = c.before.before.before in
+    let a = l.args in
+    omega (arith, sizes _ _ _ _ l.loop-k.invariant.1, length-drop l.loop-k.k a.s.now, length-drop a.i a.s.now)
+
+overflow_cast-b : tie.Need-overflow_cast-b invariant-loop decreases-loop
+overflow_cast-b c = omega (arith, c.shared_slice_known-in-loop-k-1.given c.loop-k.k)
+
+loop-k-preserved : tie.Need-loop-k-preserved invariant-loop decreases-loop
+loop-k-preserved c =
+    let l = c.before.before.before.before in
+    let s = l.args.s.now in (
+      omega arith,
+      goes_on_byte _ _ _ _ l.loop-k.invariant.1 _ _ (drop_next s l.loop-k.k c.loop-k-test.true) c.if-b-eq47.false _
+          c.is_lower_hex-hex.ensures,
+    )
 
 returns : tie.Need-returns invariant-loop decreases-loop
 returns c =
-    let l = c.before.before.before in
-    let e = drop_next l.before.before.args.s.now l.loop.k c.before.before.loop-test.true in (
-      record { counts = counts_divided _ _ _ _ l.loop.invariant.1 _ _ e c.if1.true _; rest = rest_divided _ _ _ _ l.loop.invariant.1 _ _ e c.if1.true },
-      omega arith,
-    )
-
-add-length : tie.Need-overflow-add-length invariant-loop decreases-loop
-add-length c =
-    let l = c.before.before.before in
-    let a = l.before.before.args in
-    omega (arith, sizes _ _ _ _ l.loop.invariant.1, length-drop l.loop.k a.s.now, length-drop a.i a.s.now)
-
-cast-is-lower-hex : tie.Need-overflow-cast-is-lower-hex invariant-loop decreases-loop
-cast-is-lower-hex c = omega (arith, c.before.shared-slice-known2.given c.before.before.before.loop.k)
-
-loop-again : tie.Need-loop-preserved invariant-loop decreases-loop
-loop-again c =
-    let l = c.before.before.before.before in
-    let s = l.before.before.args.s.now in (
-      omega arith,
-      goes_on_byte _ _ _ _ l.loop.invariant.1 _ _ (drop_next s l.loop.k c.before.before.before.loop-test.true) c.before.if1.false _
-          c.is-lower-hex.ensures,
-    )
-
-returns-2 : tie.Need-returns-2 invariant-loop decreases-loop
-returns-2 c =
     let l = c.before in
-    let e = drop_of_length-le l.before.before.args.s.now {i = l.loop.k} c.loop-test.false in
-    (record { counts = counts_last _ _ _ _ l.loop.invariant.1 e _; rest = rest_last _ _ _ _ l.loop.invariant.1 e }, l.loop.invariant.0)
+    let e = drop_of_length-le l.args.s.now {i = l.loop-k.k} c.loop-k-test.false in
+    (record { counts = counts_last _ _ _ _ l.loop-k.invariant.1 e _; rest = rest_last _ _ _ _ l.loop-k.invariant.1 e }, l.loop-k.invariant.0)
 
-pub read-plain-spec : {M : Type 1} → statement M
-read-plain-spec =
-    tie.close (tie.spec invariant-loop decreases-loop loop-holds (λ c. omega arith) (λ c. omega arith) returns add-length cast-is-lower-hex (λ c κs. tt)
-    (λ c. omega arith) loop-again returns-2)
+pub read_plain_spec : {M : Type 1} → statement M
+read_plain_spec =
+    tie.close (tie.spec invariant-loop decreases-loop loop-k-init (λ c. omega arith) (λ c. omega arith) returns-then-b-eq47 overflow_add-length overflow_cast-b (λ c κs. tt)
+    (λ c. omega arith) loop-k-preserved returns)

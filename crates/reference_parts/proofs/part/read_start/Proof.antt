@@ -12,33 +12,33 @@ use Rattle.reference_parts.proofs.part.read_start.Statement.{statement}
 use Rattle.reference_parts.proofs.part.read_start.Tie as tie
 
 undivided-requires : tie.Need-undivided-requires
-undivided-requires c κs = omega (arith, inside_within _ _ c.read-blocks.ensures.inside)
+undivided-requires c κs = omega (arith, inside_within _ _ c.read_blocks-begun.ensures.inside)
 
-returns : tie.Need-returns
-returns c = c.before.before.read-blocks.ensures
+returns-then-not-undivided : tie.Need-returns-then-not-undivided
+returns-then-not-undivided c = c.read_blocks-begun.ensures
 
 -- the eight bytes lie within the text
-eight_within : (c : tie.Else1) → let b = c.before.before in b.read-blocks.result.next + 8 ≤ length b.before.before.args.s.now
+eight_within : (c : tie.Else-not-undivided) → let b = c.before.before in b.read_blocks-begun.result.next + 8 ≤ length b.args.s.now
 eight_within c =
     let b = c.before.before in
-    let a = b.before.before.args in
-    let r = b.read-blocks in
+    let a = b.args in
+    let r = b.read_blocks-begun in
     let w = inside_within a.s.now r.result.next r.ensures.inside in
-    within 8 a.s.now a.i r.result.next r.result.hex r.ensures (sym c.before.undivided.ensures ∙ not-false _ c.if1.false)
+    within 8 a.s.now a.i r.result.next r.result.hex r.ensures (sym c.undivided.ensures ∙ not-false _ c.if-not-undivided.false-raw)
     (omega arith)
 
-all-hex-requires : tie.Need-all-hex-requires
-all-hex-requires c κs = eight_within c
+all_hex-requires : tie.Need-all_hex-requires
+all_hex-requires c κs = eight_within c
 
-returns-2 : tie.Need-returns-2
-returns-2 c =
+returns : tie.Need-returns
+returns c =
     let e = c.before.before in
     let b = e.before.before in
-    let a = b.before.before.args in
-    let r = b.read-blocks in
-    block_more 8 a.s.now a.i r.result.next r.result.hex r.ensures (sym e.before.undivided.ensures ∙ not-false _ e.if1.false) _
-    c.before.all-hex.ensures
+    let a = b.args in
+    let r = b.read_blocks-begun in
+    block_more 8 a.s.now a.i r.result.next r.result.hex r.ensures (sym e.undivided.ensures ∙ not-false _ e.if-not-undivided.false-raw) _
+    c.all_hex.ensures
 
-pub read-start-spec : {M : Type 1} → statement M
-read-start-spec = tie.close (tie.spec (λ c κs. search rules) undivided-requires returns all-hex-requires
-    (λ c. omega (arith, eight_within c.before.before, c.before.before.before.before.before.before.well-formed)) returns-2)
+pub read_start_spec : {M : Type 1} → statement M
+read_start_spec = tie.close (tie.spec (λ c κs. search rules) undivided-requires returns-then-not-undivided all_hex-requires
+    (λ c. omega (arith, eight_within c.before.before, c.well_formed)) returns)

@@ -7,12 +7,12 @@ use Rattle.reference_parts.proofs.Blocks.{few_left, enough_left}
 use Rattle.reference_parts.proofs.part.undivided.Statement.{statement}
 use Rattle.reference_parts.proofs.part.undivided.Tie as tie
 
+returns-then-s-at : tie.Need-returns-then-s-at
+returns-then-s-at c = few_left _ _ (rw length-drop (omega arith))
+
 returns : tie.Need-returns
-returns c = few_left _ _ (rw length-drop (omega arith))
+returns c = rw (c.unmarked.ensures, c.none_is.ensures) (enough_left _ _ (rw length-drop (omega arith)))
 
-returns-2 : tie.Need-returns-2
-returns-2 c = rw (c.before.unmarked.ensures, c.none-is.ensures) (enough_left _ _ (rw length-drop (omega arith)))
-
-pub undivided-spec : {M : Type 1} → statement M
-undivided-spec =
-    tie.close (tie.spec (λ c. search rules) returns (λ c κs. omega arith) (λ c κs. omega arith) returns-2)
+pub undivided_spec : {M : Type 1} → statement M
+undivided_spec =
+    tie.close (tie.spec (λ c. search rules) returns-then-s-at (λ c κs. omega arith) (λ c κs. omega arith) returns)
