@@ -6,34 +6,34 @@ use borrow.Author.Rules.{rules}
 use Rattle.reference_digests.proofs.algorithm.named.Statement.{statement}
 use Rattle.reference_digests.proofs.algorithm.named.Tie as tie
 
-returns : tie.Need-returns
-returns c = sym (named_first _ (sym c.before.is-named.ensures ∙ c.if1.true))
+returns-then-is_named : tie.Need-returns-then-is_named
+returns-then-is_named c = sym (named_first _ (sym c.is_named.ensures ∙ c.if-is_named.true))
 
-returns-2 : tie.Need-returns-2
-returns-2 c =
+returns-then-is_named-2 : tie.Need-returns-then-is_named-2
+returns-then-is_named-2 c =
     let d = c.before in
     let e = d.before.before in
-    sym (named_second _ (sym e.before.is-named.ensures ∙ e.if1.false) (sym d.is-named2.ensures ∙ c.if2.true))
+    sym (named_second _ (sym e.is_named.ensures ∙ e.if-is_named.false) (sym d.is_named-2.ensures ∙ c.if-is_named-2.true))
 
-returns-3 : tie.Need-returns-3
-returns-3 c =
+returns-then-is_named-3 : tie.Need-returns-then-is_named-3
+returns-then-is_named-3 c =
     let f = c.before in
     let g = f.before.before in
     let d = g.before in
     let e = d.before.before in
-    sym (named_third _ (sym e.before.is-named.ensures ∙ e.if1.false) (sym d.is-named2.ensures
-    ∙ g.if2.false) (sym f.is-named3.ensures ∙ c.if3.true))
+    sym (named_third _ (sym e.is_named.ensures ∙ e.if-is_named.false) (sym d.is_named-2.ensures
+    ∙ g.if-is_named-2.false) (sym f.is_named-3.ensures ∙ c.if-is_named-3.true))
 
-returns-4 : tie.Need-returns-4
-returns-4 c =
+returns : tie.Need-returns
+returns c =
     let f = c.before in
     let g = f.before.before in
     let d = g.before in
     let e = d.before.before in
-    sym (named_none _ (sym e.before.is-named.ensures ∙ e.if1.false) (sym d.is-named2.ensures ∙ g.if2.false) (sym f.is-named3.ensures
-    ∙ c.if3.false))
+    sym (named_none _ (sym e.is_named.ensures ∙ e.if-is_named.false) (sym d.is_named-2.ensures ∙ g.if-is_named-2.false) (sym f.is_named-3.ensures
+    ∙ c.if-is_named-3.false))
 
-pub named-spec : {M : Type 1} → statement M
-named-spec =
-    tie.close (tie.spec (λ c. search rules) (λ c κs. search rules) returns (λ c. search rules) (λ c κs. search rules) returns-2 (λ c. search rules)
-    (λ c κs. search rules) returns-3 returns-4)
+pub named_spec : {M : Type 1} → statement M
+named_spec =
+    tie.close (tie.spec (λ c κs. search rules) returns-then-is_named (λ c κs. search rules) returns-then-is_named-2 (λ c κs. search rules)
+    returns-then-is_named-3 returns)

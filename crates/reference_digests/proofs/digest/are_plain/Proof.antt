@@ -6,25 +6,25 @@ use Rattle.reference_digests.proofs.Hex.{byte_within, next_within, plain_pair}
 use Rattle.reference_digests.proofs.digest.are_plain.Statement.{statement}
 use Rattle.reference_digests.proofs.digest.are_plain.Tie as tie
 
-shared-slice-read-if1 : tie.Need-shared-slice-read-if1
-shared-slice-read-if1 c = let a = c.before in byte_within _ _ a.requires.0 a.requires.1
+bounds-s-j : tie.Need-bounds-s-j
+bounds-s-j c = let a = c.before in byte_within _ _ a.requires.0 a.requires.1
 
-add-result : tie.Need-overflow-add-result
-add-result c =
+overflow_add-result : tie.Need-overflow_add-result
+overflow_add-result c =
     let a = c.before.before in
-    omega (arith, next_within _ _ a.requires.0 a.requires.1 c.if1.true, a.well-formed)
+    omega (arith, next_within _ _ a.requires.0 a.requires.1 c.if-s-j-ne92.true, a.well_formed)
 
-shared-slice-read-result : tie.Need-shared-slice-read-result
-shared-slice-read-result c = let a = c.before.before.before in next_within _ _ a.requires.0 a.requires.1 c.before.if1.true
+bounds-s-j-then-s-j-ne92 : tie.Need-bounds-s-j-then-s-j-ne92
+bounds-s-j-then-s-j-ne92 c = let a = c.before.before.before in next_within _ _ a.requires.0 a.requires.1 c.if-s-j-ne92.true
 
-returns : tie.Need-returns
-returns c = λ e.
+returns-then-s-j-ne92 : tie.Need-returns-then-s-j-ne92
+returns-then-s-j-ne92 c = λ e.
     let a = c.before.before.before in
-    plain_pair _ _ a.requires.0 a.requires.1 c.before.if1.true (eqb-false _ _ (not-true _ e))
+    plain_pair _ _ a.requires.0 a.requires.1 c.if-s-j-ne92.true (eqb-false _ _ (not-true _ e))
 
-returns-2 : tie.Need-returns-2
-returns-2 c = λ e. absurd (eqb-false _ _ (not-true _ e) c.if1.false)
+returns-else-s-j-ne92 : tie.Need-returns-else-s-j-ne92
+returns-else-s-j-ne92 c = λ e. absurd (eqb-false _ _ (not-true _ e) c.if-s-j-ne92.false)
 
-pub are-plain-spec : {M : Type 1} → statement M
-are-plain-spec =
-    tie.close (tie.spec shared-slice-read-if1 add-result shared-slice-read-result returns returns-2)
+pub are_plain_spec : {M : Type 1} → statement M
+are_plain_spec =
+    tie.close (tie.spec bounds-s-j overflow_add-result bounds-s-j-then-s-j-ne92 returns-then-s-j-ne92 returns-else-s-j-ne92)

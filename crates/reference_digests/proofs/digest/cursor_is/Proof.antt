@@ -15,87 +15,87 @@ use Rattle.reference_digests.proofs.Hex.{all_compared, pair_left, pair_digits, p
 use Rattle.reference_digests.proofs.digest.cursor_is.Statement.{statement}
 use Rattle.reference_digests.proofs.digest.cursor_is.Tie as tie
 
-abbrev invariant-loop : tie.invariant-loop
+abbrev invariant-loop : tie.invariant-loop-k
 invariant-loop s bytes at c₀ k₀ c k =
     (r : List ℕ) × Left s c r × Digits r (length bytes - k)
     × ((d : List ℕ) → Left s c₀ d → same (digest_of (first_part r)) (drop k bytes) ≡ same (digest_of (first_part d)) (drop k₀ bytes))
 
-abbrev decreases-loop : tie.decreases-loop
+abbrev decreases-loop : tie.decreases-loop-k
 decreases-loop s bytes at c₀ k₀ c k = length bytes - k
 
-loop-holds : tie.Need-loop-init invariant-loop decreases-loop
-loop-holds c =
-    let p = c.before.before.requires in
-    let a = c.before.before.args in (
+loop-k-init : tie.Need-loop-k-init invariant-loop decreases-loop
+loop-k-init c =
+    let p = c.requires in
+    let a = c.args in (
       p.content,
       p.left,
       p.part,
       λ d q. ap (λ (x : List ℕ). same (digest_of (first_part x)) (drop a.at a.bytes.now)) (left_same _ _ _ d p.left q),
     )
 
-next-requires : tie.Need-next-requires invariant-loop decreases-loop
-next-requires c κs =
-    let i = c.before.loop.invariant in record { bytes = i.0; left = i.1 }
+next-high-requires : tie.Need-next-high-requires invariant-loop decreases-loop
+next-high-requires c κs =
+    let i = c.loop-k.invariant in record { bytes = i.0; left = i.1 }
 
-next-requires-2 : tie.Need-next-requires-2 invariant-loop decreases-loop
-next-requires-2 c κs =
-    let l = c.before.before.before.loop in
-    let a = c.before.before.before.before.before.before.args in
-    let n = c.before.next in
-    let w = pair_left l.invariant.0 a.bytes.now l.k l.invariant.2 c.before.before.loop-test.true in
+next-low-requires : tie.Need-next-low-requires invariant-loop decreases-loop
+next-low-requires c κs =
+    let l = c.loop-k in
+    let a = c.args in
+    let n = c.next-high in
+    let w = pair_left l.invariant.0 a.bytes.now l.k l.invariant.2 c.loop-k-test.true in
     let b = next_byte _ l.invariant.0 n.result (n.ensures.0 l.invariant.0 l.invariant.1) (omega arith) in
     record { bytes = b.0; left = b.2 }
 
 -- the next two digits
-pair : (c : tie.After-next2 invariant-loop decreases-loop) → let l = c.before.before.before.before in let a = l.before.before.before.args in
-    (q : List ℕ) × (l.loop.invariant.0 ≡ c.before.before.next.result.byte ∷ c.next2.result.byte ∷ q) × Left a.s.now c.next2.result.rest q
+pair : (c : tie.After-next-low invariant-loop decreases-loop) → let l = c.before.before.before.before in let a = l.args in
+    (q : List ℕ) × (l.loop-k.invariant.0 ≡ c.next-high.result.byte ∷ c.next-low.result.byte ∷ q) × Left a.s.now c.next-low.result.rest q
 pair c =
-    let l = c.before.before.before.before.loop in
-    let a = c.before.before.before.before.before.before.before.args in
-    let n = c.before.before.next in
-    next_bytes _ l.invariant.0 n.result c.next2.result (n.ensures.0 l.invariant.0 l.invariant.1) c.next2.ensures.0
-    (pair_left l.invariant.0 a.bytes.now l.k l.invariant.2 c.before.before.before.loop-test.true)
+    let l = c.loop-k in
+    let a = c.args in
+    let n = c.next-high in
+    next_bytes _ l.invariant.0 n.result c.next-low.result (n.ensures.0 l.invariant.0 l.invariant.1) c.next-low.ensures.0
+    (pair_left l.invariant.0 a.bytes.now l.k l.invariant.2 c.loop-k-test.true)
 
-byte-of-requires : tie.Need-byte-of-requires invariant-loop decreases-loop
-byte-of-requires c κs =
-    let l = c.before.before.before.before.loop in
-    let a = c.before.before.before.before.before.before.before.args in
-    pair_digits _ a.bytes.now l.k l.invariant.2 c.before.before.before.loop-test.true _ _ _ (pair c).1
+byte_of-requires : tie.Need-byte_of-requires invariant-loop decreases-loop
+byte_of-requires c κs =
+    let l = c.loop-k in
+    let a = c.args in
+    pair_digits _ a.bytes.now l.k l.invariant.2 c.loop-k-test.true _ _ _ (pair c).1
 
-shared-slice-read-if1 : tie.Need-shared-slice-read-if1 invariant-loop decreases-loop
-shared-slice-read-if1 c = c.before.before.before.before.before.loop-test.true
+bounds-bytes-k : tie.Need-bounds-bytes-k invariant-loop decreases-loop
+bounds-bytes-k c = c.loop-k-test.true
 
-returns : tie.Need-returns invariant-loop decreases-loop
-returns c =
+returns-then-byte_of-bytes : tie.Need-returns-then-byte_of-bytes invariant-loop decreases-loop
+returns-then-byte_of-bytes c =
     let b = c.before.before in
     let n = b.before in
-    let l = n.before.before.before.before.loop in
-    let a = n.before.before.before.before.before.before.before.args in
-    let h = n.before.before.before.loop-test.true in
-    λ d p. byte_differs _ a.bytes.now l.k l.invariant.2 h _ _ _ (pair n).1 _ b.byte_of.ensures c.if1.true
+    let l = n.loop-k in
+    let a = n.args in
+    let h = n.loop-k-test.true in
+    λ d p. byte_differs _ a.bytes.now l.k l.invariant.2 h _ _ _ (pair n).1 _ b.byte_of.ensures c.if-byte_of-bytes.true
     ∙ l.invariant.3 d p
 
-loop-again : tie.Need-loop-preserved invariant-loop decreases-loop
-loop-again c =
+loop-k-preserved : tie.Need-loop-k-preserved invariant-loop decreases-loop
+loop-k-preserved c =
     let b = c.before.before.before in
     let n = b.before in
-    let l = n.before.before.before.before.loop in
-    let a = n.before.before.before.before.before.before.before.args in
-    let h = n.before.before.before.loop-test.true in
+    let l = n.loop-k in
+    let a = n.args in
+    let h = n.loop-k-test.true in
     let q = pair n in (
       q.0,
       q.2,
       pair_after _ a.bytes.now l.k l.invariant.2 h _ _ _ q.1,
-      λ d p. byte_same _ a.bytes.now l.k l.invariant.2 h _ _ _ q.1 _ b.byte_of.ensures c.before.if1.false ∙ l.invariant.3 d p,
+      λ d p. byte_same _ a.bytes.now l.k l.invariant.2 h _ _ _ q.1 _ b.byte_of.ensures c.if-byte_of-bytes.false ∙ l.invariant.3 d p,
     )
 
-returns-2 : tie.Need-returns-2 invariant-loop decreases-loop
-returns-2 c =
-    let l = c.before.loop in
-    let a = c.before.before.before.before.args in
-    λ d p. all_compared _ a.bytes.now l.k l.invariant.2 c.loop-test.false ∙ l.invariant.3 d p
+returns : tie.Need-returns invariant-loop decreases-loop
+returns c =
+    let l = c.loop-k in
+    let a = c.args in
+    λ d p. all_compared _ a.bytes.now l.k l.invariant.2 c.loop-k-test.false ∙ l.invariant.3 d p
 
-pub cursor-is-spec : {M : Type 1} → statement M
-cursor-is-spec =
-    tie.close (tie.spec invariant-loop decreases-loop loop-holds next-requires next-requires-2 byte-of-requires shared-slice-read-if1 returns (λ c. omega arith)
-    (λ c. omega arith) loop-again returns-2)
+pub cursor_is_spec : {M : Type 1} → statement M
+cursor_is_spec =
+    tie.close (tie.spec invariant-loop decreases-loop loop-k-init next-high-requires next-low-requires byte_of-requires bounds-bytes-k returns-then-byte_of-bytes (λ c. omega arith)
+    (λ c. omega arith) loop-k-preserved returns)

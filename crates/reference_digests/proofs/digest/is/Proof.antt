@@ -17,106 +17,106 @@ use Rattle.reference_digests.proofs.Hex.{digest_digits, other_bytes, all_compare
 use Rattle.reference_digests.proofs.digest.is.Statement.{statement}
 use Rattle.reference_digests.proofs.digest.is.Tie as tie
 
-abbrev invariant-loop : tie.invariant-loop
+abbrev invariant-loop : tie.invariant-loop-k
 invariant-loop s i bytes k₀ j₀ k j =
     Inside s j × Digits (content_from s j) (length bytes - k)
     × (same (digest_of (first_part (content_from s j))) (drop k bytes) ≡ same (digest_of (first_part (content_from s i))) bytes)
 
-abbrev decreases-loop : tie.decreases-loop
+abbrev decreases-loop : tie.decreases-loop-k
 decreases-loop s i bytes k₀ j₀ k j = length bytes - k
 
-returns : tie.Need-returns invariant-loop decreases-loop
-returns c =
+returns-then-bytes-digest_bytes : tie.Need-returns-then-bytes-digest_bytes invariant-loop decreases-loop
+returns-then-bytes-digest_bytes c =
     let a = c.before.before.before.before in
-    other_bytes a.args.a _ _ a.requires.digest (λ e. c.if1.true (e ∙ sym c.before.digest-bytes.ensures.0))
+    other_bytes a.args.a _ _ a.requires.digest (λ e. c.if-bytes-digest_bytes.true (e ∙ sym c.digest_bytes.ensures.0))
 
-loop-holds : tie.Need-loop-init invariant-loop decreases-loop
-loop-holds c =
+loop-k-init : tie.Need-loop-k-init invariant-loop decreases-loop
+loop-k-init c =
     let a = c.before.before.before.before in
     let d = digest_digits a.args.a (content_from a.args.s.now a.args.i) a.requires.digest in (
       a.requires.inside,
-      record { size = omega (arith, d.size, c.if1.false, c.before.digest-bytes.ensures.0); digits = d.digits },
+      record { size = omega (arith, d.size, c.if-bytes-digest_bytes.false, c.digest_bytes.ensures.0); digits = d.digits },
       refl,
     )
 
-are-plain-requires : tie.Need-are-plain-requires invariant-loop decreases-loop
-are-plain-requires c κs =
-    let l = c.before.loop in
-    let a = c.before.before.before.before.before.before.args in
-    (l.invariant.0, pair_left _ a.bytes.now l.k l.invariant.1 c.loop-test.true)
+are_plain-requires : tie.Need-are_plain-requires invariant-loop decreases-loop
+are_plain-requires c κs =
+    let l = c.loop-k in
+    let a = c.args in
+    (l.invariant.0, pair_left _ a.bytes.now l.k l.invariant.1 c.loop-k-test.true)
 
-cursor-is-requires : tie.Need-cursor-is-requires invariant-loop decreases-loop
-cursor-is-requires c κs =
-    let i = c.before.before.before.before.loop.invariant in
+cursor_is-requires : tie.Need-cursor_is-requires invariant-loop decreases-loop
+cursor_is-requires c κs =
+    let i = c.loop-k.invariant in
     record { content = _; left = new_left _ _ c.new.result _ c.new.ensures (inside_content _ _ i.0); part = i.1 }
 
-returns-2 : tie.Need-returns-2 invariant-loop decreases-loop
-returns-2 c =
+returns-then-not-are_plain : tie.Need-returns-then-not-are_plain invariant-loop decreases-loop
+returns-then-not-are_plain c =
     let n = c.before in
-    let i = n.before.before.before.before.loop.invariant in
-    c.cursor-is.ensures _ (new_left _ _ n.new.result _ n.new.ensures (inside_content _ _ i.0)) ∙ i.2
+    let i = n.loop-k.invariant in
+    c.cursor_is.ensures _ (new_left _ _ n.new.result _ n.new.ensures (inside_content _ _ i.0)) ∙ i.2
 
 -- the next two digits stand for themselves
-pair : (e : tie.Else2 invariant-loop decreases-loop) → let l = e.before.before.before in PlainPair l.before.before.before.before.before.args.s.now l.loop.at
-pair e = e.before.are-plain.ensures (not-false _ e.if2.false)
+pair : (e : tie.Else-not-are_plain invariant-loop decreases-loop) → let l = e.before.before.before in PlainPair l.args.s.now l.loop-k.at
+pair e = e.are_plain.ensures (not-false _ e.if-not-are_plain.false-raw)
 
-pair_within : (e : tie.Else2 invariant-loop decreases-loop) → let l = e.before.before.before in
-    l.loop.at + 2 < length l.before.before.before.before.before.args.s.now
+pair_within : (e : tie.Else-not-are_plain invariant-loop decreases-loop) → let l = e.before.before.before in
+    l.loop-k.at + 2 < length l.args.s.now
 pair_within e = inside_within _ _ (pair e).inside
 
-shared-slice-read-byte-of : tie.Need-shared-slice-read-byte-of invariant-loop decreases-loop
-shared-slice-read-byte-of c = omega (arith, pair_within c.before)
+bounds-s-at : tie.Need-bounds-s-at invariant-loop decreases-loop
+bounds-s-at c = omega (arith, pair_within c.before)
 
-add-byte-of : tie.Need-overflow-add-byte-of invariant-loop decreases-loop
-add-byte-of c = omega (arith, pair_within c.before, c.before.before.before.before.before.before.before.before.before.well-formed)
+overflow_add-at : tie.Need-overflow_add-at invariant-loop decreases-loop
+overflow_add-at c = omega (arith, pair_within c.before, c.well_formed)
 
-shared-slice-read-byte-of-2 : tie.Need-shared-slice-read-byte-of-2 invariant-loop decreases-loop
-shared-slice-read-byte-of-2 c = omega (arith, pair_within c.before.before)
+bounds-s-at-in-loop-k : tie.Need-bounds-s-at-in-loop-k invariant-loop decreases-loop
+bounds-s-at-in-loop-k c = omega (arith, pair_within c.before.before)
 
-byte-of-requires : tie.Need-byte-of-requires invariant-loop decreases-loop
-byte-of-requires c κs =
+byte_of-requires : tie.Need-byte_of-requires invariant-loop decreases-loop
+byte_of-requires c κs =
     let e = c.before.before in
-    let l = e.before.before.before.loop in
-    let a = e.before.before.before.before.before.before.before.before.args in
-    pair_digits _ a.bytes.now l.k l.invariant.1 e.before.before.loop-test.true _ _ _ (pair e).begins
+    let l = e.loop-k in
+    let a = e.args in
+    pair_digits _ a.bytes.now l.k l.invariant.1 e.loop-k-test.true _ _ _ (pair e).begins
 
-shared-slice-read-if3 : tie.Need-shared-slice-read-if3 invariant-loop decreases-loop
-shared-slice-read-if3 c = c.before.before.before.before.before.before.loop-test.true
+bounds-bytes-k : tie.Need-bounds-bytes-k invariant-loop decreases-loop
+bounds-bytes-k c = c.loop-k-test.true
 
-returns-3 : tie.Need-returns-3 invariant-loop decreases-loop
-returns-3 c =
+returns-then-byte_of-bytes : tie.Need-returns-then-byte_of-bytes invariant-loop decreases-loop
+returns-then-byte_of-bytes c =
     let b = c.before.before in
     let e = b.before.before.before in
-    let l = e.before.before.before.loop in
-    let a = e.before.before.before.before.before.before.before.before.args in
-    byte_differs _ a.bytes.now l.k l.invariant.1 e.before.before.loop-test.true _ _ _ (pair e).begins _ b.byte_of.ensures c.if3.true
+    let l = e.loop-k in
+    let a = e.args in
+    byte_differs _ a.bytes.now l.k l.invariant.1 e.loop-k-test.true _ _ _ (pair e).begins _ b.byte_of.ensures c.if-byte_of-bytes.true
     ∙ l.invariant.2
 
-add_at : tie.Need-overflow-add-at invariant-loop decreases-loop
-add_at c =
+overflow_add-at-in-loop-k : tie.Need-overflow_add-at-in-loop-k invariant-loop decreases-loop
+overflow_add-at-in-loop-k c =
     let e = c.before.before.before.before.before in
-    omega (arith, pair_within e, e.before.before.before.before.before.before.before.before.well-formed)
+    omega (arith, pair_within e, e.well_formed)
 
-loop-again : tie.Need-loop-preserved invariant-loop decreases-loop
-loop-again c =
+loop-k-preserved : tie.Need-loop-k-preserved invariant-loop decreases-loop
+loop-k-preserved c =
     let b = c.before.before in
     let e = b.before.before.before in
-    let l = e.before.before.before.loop in
-    let a = e.before.before.before.before.before.before.before.before.args in
-    let h = e.before.before.loop-test.true in (
+    let l = e.loop-k in
+    let a = e.args in
+    let h = e.loop-k-test.true in (
       (pair e).inside,
       pair_after _ a.bytes.now l.k l.invariant.1 h _ _ _ (pair e).begins,
-      byte_same _ a.bytes.now l.k l.invariant.1 h _ _ _ (pair e).begins _ b.byte_of.ensures c.if3.false ∙ l.invariant.2,
+      byte_same _ a.bytes.now l.k l.invariant.1 h _ _ _ (pair e).begins _ b.byte_of.ensures c.if-byte_of-bytes.false ∙ l.invariant.2,
     )
 
-returns-4 : tie.Need-returns-4 invariant-loop decreases-loop
-returns-4 c =
-    let l = c.before.loop in
-    let a = c.before.before.before.before.before.before.args in
-    all_compared _ a.bytes.now l.k l.invariant.1 c.loop-test.false ∙ l.invariant.2
+returns : tie.Need-returns invariant-loop decreases-loop
+returns c =
+    let l = c.loop-k in
+    let a = c.args in
+    all_compared _ a.bytes.now l.k l.invariant.1 c.loop-k-test.false ∙ l.invariant.2
 
-pub is-spec : {M : Type 1} → statement M
-is-spec =
-    tie.close (tie.spec invariant-loop decreases-loop (λ c κs. tt) returns loop-holds are-plain-requires (λ c κs. tt) cursor-is-requires returns-2
-    shared-slice-read-byte-of add-byte-of shared-slice-read-byte-of-2 byte-of-requires shared-slice-read-if3 returns-3 add_at (λ c. omega arith)
-    (λ c. omega arith) loop-again returns-4)
+pub is_spec : {M : Type 1} → statement M
+is_spec =
+    tie.close (tie.spec invariant-loop decreases-loop (λ c κs. tt) returns-then-bytes-digest_bytes loop-k-init are_plain-requires (λ c κs. tt) cursor_is-requires returns-then-not-are_plain
+    bounds-s-at overflow_add-at bounds-s-at-in-loop-k byte_of-requires bounds-bytes-k returns-then-byte_of-bytes overflow_add-at-in-loop-k (λ c. omega arith)
+    (λ c. omega arith) loop-k-preserved returns)

@@ -5,12 +5,12 @@ use borrow.Author.Rules.{rules}
 use Rattle.reference_digests.proofs.digest.is_digest.Statement.{statement}
 use Rattle.reference_digests.proofs.digest.is_digest.Tie as tie
 
-returns : tie.Need-returns
-returns c = let x = c.before.before.args in digest_test x.a x.digits _ x.hex c.before.hex-digits.ensures c.if1.true
+returns-then-digits-hex_digits : tie.Need-returns-then-digits-hex_digits
+returns-then-digits-hex_digits c = let x = c.args in digest_test x.a x.digits _ x.hex c.hex_digits.ensures c.if-digits-hex_digits.true
 
-returns-2 : tie.Need-returns-2
-returns-2 c = let x = c.before.before.args in no_digest_test x.a x.digits _ x.hex c.before.hex-digits.ensures c.if1.false
+returns-else-digits-hex_digits : tie.Need-returns-else-digits-hex_digits
+returns-else-digits-hex_digits c = let x = c.args in no_digest_test x.a x.digits _ x.hex c.hex_digits.ensures c.if-digits-hex_digits.false
 
-pub is-digest-spec : {M : Type 1} → statement M
-is-digest-spec =
-    tie.close (tie.spec (λ c κs. search rules) returns returns-2)
+pub is_digest_spec : {M : Type 1} → statement M
+is_digest_spec =
+    tie.close (tie.spec (λ c κs. search rules) returns-then-digits-hex_digits returns-else-digits-hex_digits)

@@ -12,81 +12,81 @@ use Rattle.reference_digests.proofs.Hex.{Writing, nothing_written, all_written, 
 use Rattle.reference_digests.proofs.digest.write_plain.Statement.{statement}
 use Rattle.reference_digests.proofs.digest.write_plain.Tie as tie
 
-abbrev invariant-loop : tie.invariant-loop
+abbrev invariant-loop : tie.invariant-loop-k
 invariant-loop s i out₀ n k₀ j₀ out k j = (n ≤ length out₀) × (j ≤ length s) × Writing (first_part (drop i s)) (drop j s) n k out₀ out
 
-abbrev decreases-loop : tie.decreases-loop
+abbrev decreases-loop : tie.decreases-loop-k
 decreases-loop s i out₀ n k₀ j₀ out k j = n - k
 
-loop-holds : tie.Need-loop-init invariant-loop decreases-loop
-loop-holds c =
-    let a = c.before.before.before.args in
-    let e = c.digest-bytes.ensures.0 in
-    let p = c.before.before.before.requires in (
+loop-k-init : tie.Need-loop-k-init invariant-loop decreases-loop
+loop-k-init c =
+    let a = c.args in
+    let e = c.digest_bytes-n.ensures.0 in
+    let p = c.requires in (
       omega (arith, e, p.1),
       p.0.within,
       subst (λ (n : ℕ). Writing (first_part (drop a.i a.s.now)) (drop a.i a.s.now) n 0 a.out.now a.out.now) (sym e)
           (nothing_written a.a (drop a.i a.s.now) a.out.now p.0.digest),
     )
 
-shared-slice-read-byte-of : tie.Need-shared-slice-read-byte-of invariant-loop decreases-loop
-shared-slice-read-byte-of c =
-    let l = c.before.before.loop in
-    let h = c.before.loop-test.true in
-    let a = c.before.before.before.before.before.before.args in
+bounds-s-j : tie.Need-bounds-s-j invariant-loop decreases-loop
+bounds-s-j c =
+    let l = c.loop-k in
+    let h = c.loop-k-test.true in
+    let a = c.args in
     let w = two_within a.s.now l.j (some_left _ _ _ l.k _ _ l.invariant.2 h) in
     omega arith
 
-add-byte-of : tie.Need-overflow-add-byte-of invariant-loop decreases-loop
-add-byte-of c =
-    let l = c.before.before.loop in
-    let h = c.before.loop-test.true in
-    let a = c.before.before.before.before.before.before.args in
+overflow_add-j : tie.Need-overflow_add-j invariant-loop decreases-loop
+overflow_add-j c =
+    let l = c.loop-k in
+    let h = c.loop-k-test.true in
+    let a = c.args in
     let w = two_within a.s.now l.j (some_left _ _ _ l.k _ _ l.invariant.2 h) in
-    omega (arith, c.before.before.before.before.before.before.well-formed)
+    omega (arith, c.well_formed)
 
-shared-slice-read-byte-of-2 : tie.Need-shared-slice-read-byte-of-2 invariant-loop decreases-loop
-shared-slice-read-byte-of-2 c =
-    let l = c.before.before.before.loop in
-    let h = c.before.before.loop-test.true in
-    let a = c.before.before.before.before.before.before.before.args in
+bounds-s-j-in-loop-k : tie.Need-bounds-s-j-in-loop-k invariant-loop decreases-loop
+bounds-s-j-in-loop-k c =
+    let l = c.loop-k in
+    let h = c.loop-k-test.true in
+    let a = c.args in
     let w = two_within a.s.now l.j (some_left _ _ _ l.k _ _ l.invariant.2 h) in
     w
 
-byte-of-requires : tie.Need-byte-of-requires invariant-loop decreases-loop
-byte-of-requires c κs =
-    let l = c.before.before.before.loop in
-    let h = c.before.before.loop-test.true in
-    let a = c.before.before.before.before.before.before.before.args in
+byte_of-requires : tie.Need-byte_of-requires invariant-loop decreases-loop
+byte_of-requires c κs =
+    let l = c.loop-k in
+    let h = c.loop-k-test.true in
+    let a = c.args in
     let w = two_within a.s.now l.j (some_left _ _ _ l.k _ _ l.invariant.2 h) in
     both_digits _ _ _ l.k _ _ l.invariant.2 h _ _ _ (next_two a.s.now l.j w)
 
-slice-write-out : tie.Need-slice-write-out invariant-loop decreases-loop
-slice-write-out c =
-    let l = c.before.before.before.before.loop in
-    omega (arith, c.before.before.before.loop-test.true, l.invariant.0, kept_length _ _ _ l.k _ _ l.invariant.2 l.invariant.0)
+bounds-out-k : tie.Need-bounds-out-k invariant-loop decreases-loop
+bounds-out-k c =
+    let l = c.loop-k in
+    omega (arith, c.loop-k-test.true, l.invariant.0, kept_length _ _ _ l.k _ _ l.invariant.2 l.invariant.0)
 
-add-j : tie.Need-overflow-add-j invariant-loop decreases-loop
-add-j c =
-    let l = c.before.before.before.before.loop in
-    let h = c.before.before.before.loop-test.true in
-    let a = c.before.before.before.before.before.before.before.before.args in
+overflow_add-j-in-loop-k : tie.Need-overflow_add-j-in-loop-k invariant-loop decreases-loop
+overflow_add-j-in-loop-k c =
+    let l = c.loop-k in
+    let h = c.loop-k-test.true in
+    let a = c.args in
     let w = two_within a.s.now l.j (some_left _ _ _ l.k _ _ l.invariant.2 h) in
-    omega (arith, c.before.before.before.before.before.before.before.before.well-formed)
+    omega (arith, c.well_formed)
 
-add-k : tie.Need-overflow-add-k invariant-loop decreases-loop
-add-k c =
+overflow_add-k : tie.Need-overflow_add-k invariant-loop decreases-loop
+overflow_add-k c =
     omega arith
 
-loop-less : tie.Need-loop-smaller invariant-loop decreases-loop
-loop-less c =
-    omega (arith, c.before.before.before.loop-test.true)
+loop-k-smaller : tie.Need-loop-k-smaller invariant-loop decreases-loop
+loop-k-smaller c =
+    omega (arith, c.loop-k-test.true)
 
-loop-again : tie.Need-loop-preserved invariant-loop decreases-loop
-loop-again c =
-    let l = c.before.before.before.before.loop in
-    let h = c.before.before.before.loop-test.true in
-    let a = c.before.before.before.before.before.before.before.before.args in
+loop-k-preserved : tie.Need-loop-k-preserved invariant-loop decreases-loop
+loop-k-preserved c =
+    let l = c.loop-k in
+    let h = c.loop-k-test.true in
+    let a = c.args in
     let w = two_within a.s.now l.j (some_left _ _ _ l.k _ _ l.invariant.2 h) in (
       l.invariant.0,
       omega arith,
@@ -94,18 +94,18 @@ loop-again c =
           (omega (arith, h, l.invariant.0)),
     )
 
-same_length : tie.Need-same-length invariant-loop decreases-loop
-same_length c =
-    let l = c.before.loop in kept_length _ _ _ l.k _ _ l.invariant.2 l.invariant.0
+shape_of-out : tie.Need-shape_of-out invariant-loop decreases-loop
+shape_of-out c =
+    let l = c.loop-k in kept_length _ _ _ l.k _ _ l.invariant.2 l.invariant.0
 
 returns : tie.Need-returns invariant-loop decreases-loop
 returns c =
-    let l = c.before.loop in
-    let a = c.before.before.before.before.before.args in
-    all_written _ _ _ l.k _ _ l.invariant.2 c.loop-test.false
-    ∙ ap (λ (n : ℕ). digest_of (first_part (drop a.i a.s.now)) ++ drop n a.out.now) c.before.before.digest-bytes.ensures.0
+    let l = c.loop-k in
+    let a = c.args in
+    all_written _ _ _ l.k _ _ l.invariant.2 c.loop-k-test.false
+    ∙ ap (λ (n : ℕ). digest_of (first_part (drop a.i a.s.now)) ++ drop n a.out.now) c.digest_bytes-n.ensures.0
 
-pub write-plain-spec : {M : Type 1} → statement M
-write-plain-spec =
-    tie.close (tie.spec invariant-loop decreases-loop (λ c κs. tt) loop-holds shared-slice-read-byte-of add-byte-of shared-slice-read-byte-of-2 byte-of-requires
-    slice-write-out add-j add-k loop-less loop-again same_length returns)
+pub write_plain_spec : {M : Type 1} → statement M
+write_plain_spec =
+    tie.close (tie.spec invariant-loop decreases-loop (λ c κs. tt) loop-k-init bounds-s-j overflow_add-j bounds-s-j-in-loop-k byte_of-requires
+    bounds-out-k overflow_add-j-in-loop-k overflow_add-k loop-k-smaller loop-k-preserved shape_of-out returns)
