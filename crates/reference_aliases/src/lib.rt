@@ -1,4 +1,6 @@
 // Aliases: names with all of their bytes.
+#![tactic(auto)]
+
 ghost use Rattle.std.specs.Prelude.{◌≡◌};
 ghost use Rattle.text_strings.specs.InString.{Inside, content_from};
 ghost use Rattle.reference_parts.specs.Parts.{first_part};

@@ -8,14 +8,14 @@ use borrow.Author.Rules.{rules}
 use Rattle.reference_aliases.proofs.is_alias.Statement.{statement}
 use Rattle.reference_aliases.proofs.is_alias.Tie as tie
 
-returns : tie.Need-returns
-returns c =
+returns-then-p : tie.Need-returns-then-p
+returns-then-p c =
     let d = c.before in
-    c.is-alias-part.ensures ∙ ap is_alias (whole _ _ _ d.before.read.ensures d.if1.true)
+    c.is_alias_part.ensures ∙ ap is_alias (whole _ _ _ d.read-p.ensures d.if-p.true)
 
-returns-2 : tie.Need-returns-2
-returns-2 c = sym (divided_alias _ (is_not_last _ _ c.before.read.ensures.counts c.if1.false))
+returns : tie.Need-returns
+returns c = sym (divided_alias _ (is_not_last _ _ c.read-p.ensures.counts c.if-p.false))
 
-pub is-alias-spec : {M : Type 1} → statement M
-is-alias-spec =
-    tie.close (tie.spec (λ c κs. search rules) (λ c κs. search rules) returns returns-2)
+pub is_alias_spec : {M : Type 1} → statement M
+is_alias_spec =
+    tie.close (tie.spec (λ c κs. search rules) (λ c κs. search rules) returns-then-p returns)

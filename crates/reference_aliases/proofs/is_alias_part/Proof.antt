@@ -7,17 +7,17 @@ use borrow.Author.Rules.{rules}
 use Rattle.reference_aliases.proofs.is_alias_part.Statement.{statement}
 use Rattle.reference_aliases.proofs.is_alias_part.Tie as tie
 
-returns : tie.Need-returns
-returns c =
+returns-then-is_name_length : tie.Need-returns-then-is_name_length
+returns-then-is_name_length c =
     let d = c.before in
     let a = d.before.before.before in
-    ap not c.is-reserved.ensures ∙ alias_length _ a.args.p a.requires.1.counts (sym d.before.is-name-length.ensures ∙ d.if1.true)
+    ap not c.is_reserved.ensures ∙ alias_length _ a.args.p a.requires.1.counts (sym d.is_name_length.ensures ∙ d.if-is_name_length.true)
 
-returns-2 : tie.Need-returns-2
-returns-2 c =
+returns : tie.Need-returns
+returns c =
     let a = c.before.before.before in
-    sym (no_alias_length _ a.args.p a.requires.1.counts (sym c.before.is-name-length.ensures ∙ c.if1.false))
+    sym (no_alias_length _ a.args.p a.requires.1.counts (sym c.is_name_length.ensures ∙ c.if-is_name_length.false))
 
-pub is-alias-part-spec : {M : Type 1} → statement M
-is-alias-part-spec =
-    tie.close (tie.spec (λ c κs. search rules) (λ c κs. search rules) returns returns-2)
+pub is_alias_part_spec : {M : Type 1} → statement M
+is_alias_part_spec =
+    tie.close (tie.spec (λ c κs. search rules) (λ c κs. search rules) returns-then-is_name_length returns)

@@ -9,23 +9,23 @@ use borrow.Author.Rules.{rules}
 use Rattle.reference_aliases.proofs.is_name_length.Statement.{statement}
 use Rattle.reference_aliases.proofs.is_name_length.Tie as tie
 
+returns-then-n-lt1 : tie.Need-returns-then-n-lt1
+returns-then-n-lt1 c = sym (no_bytes _ _ c.if-n-lt1.true)
+
+returns-then-n-gt255 : tie.Need-returns-then-n-gt255
+returns-then-n-gt255 c = sym (too_many _ _ (omega arith) c.if-n-gt255.true)
+
+returns-then-hex : tie.Need-returns-then-hex
+returns-then-hex c =
+    let a = c.args in
+    ap not c.is_digest_length.ensures ∙ sym (some_bytes a.n a.hex (omega arith) (omega arith)
+    ∙ ap (λ (b : Bool). not (b && is_digest_length a.n)) c.if-hex.true)
+
 returns : tie.Need-returns
-returns c = sym (no_bytes _ _ c.if1.true)
+returns c =
+    let a = c.args in
+    sym (some_bytes a.n a.hex (omega arith) (omega arith) ∙ ap (λ (b : Bool). not (b && is_digest_length a.n)) c.if-hex.false)
 
-returns-2 : tie.Need-returns-2
-returns-2 c = sym (too_many _ _ (omega arith) c.if2.true)
-
-returns-3 : tie.Need-returns-3
-returns-3 c =
-    let a = c.before.before.before.before.args in
-    ap not c.is-digest-length.ensures ∙ sym (some_bytes a.n a.hex (omega arith) (omega arith)
-    ∙ ap (λ (b : Bool). not (b && is_digest_length a.n)) c.before.if3.true)
-
-returns-4 : tie.Need-returns-4
-returns-4 c =
-    let a = c.before.before.before.args in
-    sym (some_bytes a.n a.hex (omega arith) (omega arith) ∙ ap (λ (b : Bool). not (b && is_digest_length a.n)) c.if3.false)
-
-pub is-name-length-spec : {M : Type 1} → statement M
-is-name-length-spec =
-    tie.close (tie.spec returns returns-2 (λ c κs. search rules) returns-3 returns-4)
+pub is_name_length_spec : {M : Type 1} → statement M
+is_name_length_spec =
+    tie.close (tie.spec returns-then-n-lt1 returns-then-n-gt255 (λ c κs. search rules) returns-then-hex returns)

@@ -6,24 +6,23 @@ use borrow.Author.Rules.{rules}
 use Rattle.reference_aliases.proofs.is_reserved.Statement.{statement}
 use Rattle.reference_aliases.proofs.is_reserved.Tie as tie
 
-returns : tie.Need-returns
+returns-then-is : tie.Need-returns-then-is
 unfolding is_reserved
-returns c = or_taken _ _ _ c.before.is.ensures c.if1.true
+returns-then-is c = or_taken _ _ _ c.is.ensures c.if-is.true
 
-returns-2 : tie.Need-returns-2
+returns-then-is-2 : tie.Need-returns-then-is-2
 unfolding is_reserved
-returns-2 c =
+returns-then-is-2 c =
     let e = c.before.before.before in
-    or_left _ _ _ _ e.before.is.ensures e.if1.false (or_taken _ _ _ c.before.is2.ensures c.if2.true)
+    or_left _ _ _ _ e.is.ensures e.if-is.false (or_taken _ _ _ c.is-else-is.ensures c.if-is-2.true)
 
-returns-3 : tie.Need-returns-3
+returns-else-is-2 : tie.Need-returns-else-is-2
 unfolding is_reserved
-returns-3 c =
+returns-else-is-2 c =
     let f = c.before.before in
     let e = f.before.before.before in
-    or_left _ _ _ _ e.before.is.ensures e.if1.false (or_left _ _ _ _ f.before.is2.ensures f.if2.false c.is3.ensures)
+    or_left _ _ _ _ e.is.ensures e.if-is.false (or_left _ _ _ _ f.is-else-is.ensures f.if-is-2.false c.is-else-is-2.ensures)
 
-pub is-reserved-spec : {M : Type 1} → statement M
-is-reserved-spec =
-    tie.close (tie.spec (λ c. search rules) (λ c κs. search rules) (λ c. search rules) (λ c κs. search rules) (λ c. search rules)
-    (λ c κs. search rules) returns returns-2 returns-3)
+pub is_reserved_spec : {M : Type 1} → statement M
+is_reserved_spec =
+    tie.close (tie.spec (λ c κs. search rules) (λ c κs. search rules) (λ c κs. search rules) returns-then-is returns-then-is-2 returns-else-is-2)
