@@ -1,5 +1,7 @@
 // The canonical form of a value of a checked JSON text. Each function writes at the start of the slice that it is lent and says how
 // many bytes it wrote; what is left of the slice is lent on to the next writer.
+#![tactic(auto)]
+
 ghost use Rattle.std.specs.Prelude.{◌≡◌, List, ◌++◌, ℕ, ◌+◌, ◌≤◌, length, take};
 ghost use Rattle.text_content.specs.Value.{boolean};
 ghost use Rattle.text_content.specs.Canonical.{canonical, comma};

@@ -108,203 +108,203 @@ write_value_calls t = (
   write-scalar-reads.Learnt,
 )
 
-abbrev write-array-Inv-loop : write-array-lts.invariant-loop
+abbrev write-array-Inv-loop : write-array-lts.invariant-loop-value
 write-array-Inv-loop s at depth out₀ keys₀ spare₀ n₀ start₀ i₀ out keys spare n start i =
     Arrays.ArrayWritten s at depth out₀ keys₀ spare₀ out n start i × (length keys ≡ length keys₀) × (length spare ≡ length spare₀)
 
-abbrev write-array-μ-loop : write-array-lts.decreases-loop
+abbrev write-array-μ-loop : write-array-lts.decreases-loop-value
 write-array-μ-loop s at depth out₀ keys₀ spare₀ n₀ start₀ i₀ out keys spare n start i = length s - i
 
 -- a need or a place of `write_array`, at the measure t
 abbrev In-array : ℕ → (write-array-lts.Claims → In 4 write-array-kinds.ps → Out 4 write-array-kinds.ps write-array-kinds.r
-    → write-array-lts.invariant-loop → write-array-lts.decreases-loop → Type 0) → Type 0
+    → write-array-lts.invariant-loop-value → write-array-lts.decreases-loop-value → Type 0) → Type 0
 In-array t F =
     F (write_array_calls t) (at_measure write-array-kinds.ps μ_write_array write-array.Pre t) write-array.Post write-array-Inv-loop write-array-μ-loop
 
-write-array-slice-write-out : (t : ℕ) → In-array t write-array-lts.Need-slice-write-out
-write-array-slice-write-out t c = Arrays.mark_fits c.before.before.before.before.requires.1
+write-array-slice-write-out : (t : ℕ) → In-array t write-array-lts.Need-bounds-out-0
+write-array-slice-write-out t c = Arrays.mark_fits c.requires.1
 
-write-array-add-i : (t : ℕ) → In-array t write-array-lts.Need-overflow-add-i
+write-array-add-i : (t : ℕ) → In-array t write-array-lts.Need-overflow_add-i
 write-array-add-i t c =
     let b = c.before.before.before.before in
-    omega (arith, within _ _ _ _ b.requires.1.space.here, b.well-formed)
+    omega (arith, within _ _ _ _ b.requires.1.space.here, b.well_formed)
 
-write-array-loop-holds : (t : ℕ) → In-array t write-array-lts.Need-loop-init
-write-array-loop-holds t c = (Arrays.started c.before.before.before.before.requires.1, refl, refl)
+write-array-loop-holds : (t : ℕ) → In-array t write-array-lts.Need-loop-value-init
+write-array-loop-holds t c = (Arrays.started c.requires.1, refl, refl)
 
-write-array-sub-read-item : (t : ℕ) → In-array t write-array-lts.Need-overflow-sub-read-item
-write-array-sub-read-item t c = omega (arith, c.loop.invariant.0.some)
+write-array-sub-read-item : (t : ℕ) → In-array t write-array-lts.Need-overflow_sub-depth
+write-array-sub-read-item t c = omega (arith, c.loop-value.invariant.0.some)
 
-write-array-read-item-requires : (t : ℕ) → In-array t write-array-lts.Need-read-item-requires
-write-array-read-item-requires t c κs = Arrays.items_left c.loop.invariant.0
+write-array-read-item-requires : (t : ℕ) → In-array t write-array-lts.Need-read_item-requires
+write-array-read-item-requires t c κs = Arrays.items_left c.loop-value.invariant.0
 
-abbrev array-entry : (t : ℕ) → In-array t write-array-lts.At-loop → In-array t write-array-lts.Start
+abbrev array-entry : (t : ℕ) → In-array t write-array-lts.At-loop-value → In-array t write-array-lts.Start
 array-entry t l = l.before.before.before.before.before
 
 -- what is left is an element and others
-element_given : (t : ℕ) (c : In-array t write-array-lts.After-known-told)
-    → let l = c.before.before.before.before in let a = (array-entry t l).args in let g = c.before.value.given.0 in
-    GivesItem a.s.now l.loop.i (a.depth - 1) false l.loop.invariant.0.trees l.loop.invariant.0.rest (At g.0 g.1.0 g.1.1.0)
+element_given : (t : ℕ) (c : In-array t write-array-lts.In-At)
+    → let l = c.before.before in let a = (array-entry t l).args in let g = c.in-At in
+    GivesItem a.s.now l.loop-value.i (a.depth - 1) false l.loop-value.invariant.0.trees l.loop-value.invariant.0.rest (At g.first g.value g.next)
 element_given t c =
-    let d = c.before.before.before in
-    let p = d.before.loop.invariant.0 in
-    let a = d.before.before.before.before.before.before.args in
-    subst (GivesItem a.s.now d.before.loop.i (a.depth - 1) false p.trees p.rest) c.before.value.given.1
-    (d.read-item.ensures p.trees p.rest p.left)
+    let d = c.before in
+    let p = d.loop-value.invariant.0 in
+    let a = d.args in
+    subst (GivesItem a.s.now d.loop-value.i (a.depth - 1) false p.trees p.rest) c.in-At.is
+    (d.read_item.ensures p.trees p.rest p.left)
 
-write-array-separate-requires : (t : ℕ) → In-array t write-array-lts.Need-separate-requires
+write-array-separate-requires : (t : ℕ) → In-array t write-array-lts.Need-separate-n-requires
 write-array-separate-requires t c κs =
     let k = c.before in
-    Arrays.comma_fits k.before.before.before.before.loop.invariant.0 _ _ _ (element_given t k)
+    Arrays.comma_fits k.loop-value.invariant.0 _ _ _ (element_given t k)
 
-write-array-sub-write-value : (t : ℕ) → In-array t write-array-lts.Need-overflow-sub-write-value
-write-array-sub-write-value t c = omega (arith, c.before.before.before.before.before.before.before.before.loop.invariant.0.some)
+write-array-sub-write-value : (t : ℕ) → In-array t write-array-lts.Need-overflow_sub-depth-in-At
+write-array-sub-write-value t c = omega (arith, c.loop-value.invariant.0.some)
 
-write-array-sub-write-value-2 : (t : ℕ) → In-array t write-array-lts.Need-overflow-sub-write-value-2
+write-array-sub-write-value-2 : (t : ℕ) → In-array t write-array-lts.Need-slice_bounds-write_value-count
 write-array-sub-write-value-2 t c =
     let d = c.before.before in
     let k = d.before.before in
-    let p = k.before.before.before.before.loop.invariant.0 in
-    let w = d.separate.ensures.1 _ _ p.size p.written in
-    Arrays.part_fits p _ _ _ (element_given t k) _ _ d.separate.ensures.0 w
+    let p = k.loop-value.invariant.0 in
+    let w = d.separate-n.ensures.1 _ _ p.size p.written in
+    Arrays.part_fits p _ _ _ (element_given t k) _ _ d.separate-n.ensures.0 w
 
-write-array-part-write-value-start : (t : ℕ) → In-array t write-array-lts.Need-slice-bounds-write-value-start
+write-array-part-write-value-start : (t : ℕ) → In-array t write-array-lts.Need-slice_bounds-write_value-start
 write-array-part-write-value-start t c = write-array-sub-write-value-2 t c
 
-write-array-write-value-requires : (t : ℕ) → In-array t write-array-lts.Need-write-value-requires
+write-array-write-value-requires : (t : ℕ) → In-array t write-array-lts.Need-write_value-n-requires
 write-array-write-value-requires t c κs =
     let d = c.before.before.before.before.before in
     let k = d.before.before in
-    let l = k.before.before.before.before in
-    let p = l.loop.invariant.0 in
-    let w = d.separate.ensures.1 _ _ p.size p.written in
-    let e = Arrays.element p _ _ _ (element_given t k) _ _ d.separate.ensures.0 w in
-    (omega (arith, (array-entry t l).requires.0, p.some), e _ _ l.loop.invariant.1 l.loop.invariant.2)
+    let l = k.before.before in
+    let p = l.loop-value.invariant.0 in
+    let w = d.separate-n.ensures.1 _ _ p.size p.written in
+    let e = Arrays.element p _ _ _ (element_given t k) _ _ d.separate-n.ensures.0 w in
+    (omega (arith, (array-entry t l).requires.0, p.some), e _ _ l.loop-value.invariant.1 l.loop-value.invariant.2)
 
-write-array-add-n : (t : ℕ) → In-array t write-array-lts.Need-overflow-add-n
+write-array-add-n : (t : ℕ) → In-array t write-array-lts.Need-overflow_add-n
 write-array-add-n t c =
     let e = c.before.before.before.before.before.before in
     let d = e.before.before.before.before.before.before in
     let k = d.before.before in
-    let l = k.before.before.before.before in
-    let p = l.loop.invariant.0 in
+    let l = k.before.before in
+    let p = l.loop-value.invariant.0 in
     let b = array-entry t l in
-    let w = d.separate.ensures.1 _ _ p.size p.written in
-    let f = Arrays.next_fits p _ _ _ (element_given t k) _ _ d.separate.ensures.0 w _ _ e.write-value.ensures in
-    omega (arith, f, length-set b.args.out.now 0 0x5B, b.good)
+    let w = d.separate-n.ensures.1 _ _ p.size p.written in
+    let f = Arrays.next_fits p _ _ _ (element_given t k) _ _ d.separate-n.ensures.0 w _ _ e.write_value-n.ensures in
+    omega (arith, f, length-set b.args.out.now 0 0x5B, b.well_formed)
 
-write-array-loop-less : (t : ℕ) → In-array t write-array-lts.Need-loop-smaller
+write-array-loop-less : (t : ℕ) → In-array t write-array-lts.Need-loop-value-smaller
 write-array-loop-less t c =
     let d = c.before.before.before.before.before.before.before.before.before.before.before.before in
     let k = d.before.before in
-    omega (arith, Arrays.later k.before.before.before.before.loop.invariant.0 _ _ _ (element_given t k))
+    omega (arith, Arrays.later k.loop-value.invariant.0 _ _ _ (element_given t k))
 
-write-array-loop-again : (t : ℕ) → In-array t write-array-lts.Need-loop-preserved
+write-array-loop-again : (t : ℕ) → In-array t write-array-lts.Need-loop-value-preserved
 write-array-loop-again t c =
     let e = c.before.before.before.before.before.before in
     let d = e.before.before.before.before.before.before in
     let k = d.before.before in
-    let l = k.before.before.before.before in
-    let p = l.loop.invariant.0 in
-    let w = d.separate.ensures.1 _ _ p.size p.written in
-    let v = e.write-value in (
-      Arrays.advanced p _ _ _ (element_given t k) _ _ d.separate.ensures.0 w _ _ v.ensures,
-      v.auto.1.1.1.1.0 ∙ l.loop.invariant.1,
-      v.auto.1.1.1.1.1.0 ∙ l.loop.invariant.2,
+    let l = k.before.before in
+    let p = l.loop-value.invariant.0 in
+    let w = d.separate-n.ensures.1 _ _ p.size p.written in
+    let v = e.write_value-n in (
+      Arrays.advanced p _ _ _ (element_given t k) _ _ d.separate-n.ensures.0 w _ _ v.ensures,
+      v.auto.keys ∙ l.loop-value.invariant.1,
+      v.auto.spare ∙ l.loop-value.invariant.2,
     )
 
 -- nothing is left
-elements_ended : (t : ℕ) (c : In-array t write-array-lts.After-enum-told)
-    → let l = c.before.before.before in let a = (array-entry t l).args in
-    GivesItem a.s.now l.loop.i (a.depth - 1) false l.loop.invariant.0.trees l.loop.invariant.0.rest (End c.enum_told.given.0.0)
+elements_ended : (t : ℕ) (c : In-array t write-array-lts.In-End)
+    → let l = c.before.before in let a = (array-entry t l).args in
+    GivesItem a.s.now l.loop-value.i (a.depth - 1) false l.loop-value.invariant.0.trees l.loop-value.invariant.0.rest (End c.in-End.field-0)
 elements_ended t c =
-    let d = c.before.before in
-    let p = d.before.loop.invariant.0 in
-    let a = d.before.before.before.before.before.before.args in
-    subst (GivesItem a.s.now d.before.loop.i (a.depth - 1) false p.trees p.rest) c.enum_told.given.1
-    (d.read-item.ensures p.trees p.rest p.left)
+    let d = c.before in
+    let p = d.loop-value.invariant.0 in
+    let a = d.args in
+    subst (GivesItem a.s.now d.loop-value.i (a.depth - 1) false p.trees p.rest) c.in-End.is
+    (d.read_item.ensures p.trees p.rest p.left)
 
-write-array-slice-write-out-2 : (t : ℕ) → In-array t write-array-lts.Need-slice-write-out-2
-write-array-slice-write-out-2 t c = Arrays.end_fits c.before.before.before.loop.invariant.0 _ (elements_ended t c)
+write-array-slice-write-out-2 : (t : ℕ) → In-array t write-array-lts.Need-bounds-out-n
+write-array-slice-write-out-2 t c = Arrays.end_fits c.loop-value.invariant.0 _ (elements_ended t c)
 
-write-array-add-result : (t : ℕ) → In-array t write-array-lts.Need-overflow-add-result
+write-array-add-result : (t : ℕ) → In-array t write-array-lts.Need-overflow_add-result
 write-array-add-result t c =
-    let l = c.before.before.before in
-    let p = l.loop.invariant.0 in
+    let l = c.before.before in
+    let p = l.loop-value.invariant.0 in
     let b = array-entry t l in
-    omega (arith, Arrays.end_fits p _ (elements_ended t c), Written.same_length p.written, length-set b.args.out.now 0 0x5B, b.good)
+    omega (arith, Arrays.end_fits p _ (elements_ended t c), Written.same_length p.written, length-set b.args.out.now 0 0x5B, b.well_formed)
 
-write-array-same-length : (t : ℕ) → In-array t write-array-lts.Need-same-length
+write-array-same-length : (t : ℕ) → In-array t write-array-lts.Need-shape_of-out-in-End
 write-array-same-length t c =
-    let l = c.before.before.before in
-    simp length-set (Written.same_length l.loop.invariant.0.written ∙ length-set (array-entry t l).args.out.now 0 0x5B)
+    let l = c.before.before in
+    simp length-set (Written.same_length l.loop-value.invariant.0.written ∙ length-set (array-entry t l).args.out.now 0 0x5B)
 
-write-array-same-length-2 : (t : ℕ) → In-array t write-array-lts.Need-same-length-2
-write-array-same-length-2 t c = c.before.before.before.loop.invariant.1
+write-array-same-length-2 : (t : ℕ) → In-array t write-array-lts.Need-shape_of-keys-in-End
+write-array-same-length-2 t c = c.loop-value.invariant.1
 
-write-array-same-length-3 : (t : ℕ) → In-array t write-array-lts.Need-same-length-3
-write-array-same-length-3 t c = c.before.before.before.loop.invariant.2
+write-array-same-length-3 : (t : ℕ) → In-array t write-array-lts.Need-shape_of-spare-in-End
+write-array-same-length-3 t c = c.loop-value.invariant.2
 
-write-array-returns : (t : ℕ) → In-array t write-array-lts.Need-returns
+write-array-returns : (t : ℕ) → In-array t write-array-lts.Need-returns-in-End
 write-array-returns t c =
-    let l = c.before.before.before in
-    λ v h. from_mark _ 0x5B _ (Arrays.finished l.loop.invariant.0 _ (elements_ended t c) v h)
+    let l = c.before.before in
+    λ v h. from_mark _ 0x5B _ (Arrays.finished l.loop-value.invariant.0 _ (elements_ended t c) v h)
 
 -- a need or a place of `write_member`, at the measure t
 abbrev In-member : ℕ → (write-member-lts.Claims → In 4 write-member-kinds.ps → Out 4 write-member-kinds.ps write-member-kinds.r → Type 0) → Type 0
 In-member t F = F (write_member_calls t) (at_measure write-member-kinds.ps μ_write_member write-member.Pre t) write-member.Post
 
-write-member-write-string-requires : (t : ℕ) → In-member t write-member-lts.Need-write-string-requires
+write-member-write-string-requires : (t : ℕ) → In-member t write-member-lts.Need-write_string-n-requires
 write-member-write-string-requires t c κs =
-    let p = c.before.before.before.before.before.requires.1 in
+    let p = c.requires.1 in
     (MemberParts.key_inside p, MemberParts.key_fits p)
 
-write-member-slice-write-out : (t : ℕ) → In-member t write-member-lts.Need-slice-write-out
+write-member-slice-write-out : (t : ℕ) → In-member t write-member-lts.Need-bounds-out-n
 write-member-slice-write-out t c =
     let d = c.before.before in
-    MemberParts.colon_fits d.before.before.before.before.before.before.requires.1 _ _ d.write-string.ensures
+    MemberParts.colon_fits d.requires.1 _ _ d.write_string-n.ensures
 
-write-member-add-start : (t : ℕ) → In-member t write-member-lts.Need-overflow-add-start
+write-member-add-start : (t : ℕ) → In-member t write-member-lts.Need-overflow_add-start
 write-member-add-start t c =
     let d = c.before.before in
-    let f = MemberParts.colon_fits d.before.before.before.before.before.before.requires.1 _ _ d.write-string.ensures in
-    omega (arith, f, d.write-string.auto.1.1.0, d.before.before.before.before.before.before.well-formed)
+    let f = MemberParts.colon_fits d.requires.1 _ _ d.write_string-n.ensures in
+    omega (arith, f, d.write_string-n.auto.out, d.well_formed)
 
-write-member-item-value-requires : (t : ℕ) → In-member t write-member-lts.Need-item-value-requires
-write-member-item-value-requires t c κs = MemberParts.item c.before.before.before.before.before.before.before.before.requires.1
+write-member-item-value-requires : (t : ℕ) → In-member t write-member-lts.Need-item_value-value-requires
+write-member-item-value-requires t c κs = MemberParts.item c.requires.1
 
-write-member-sub-write-value : (t : ℕ) → In-member t write-member-lts.Need-overflow-sub-write-value
+write-member-sub-write-value : (t : ℕ) → In-member t write-member-lts.Need-slice_bounds-write_value-count
 write-member-sub-write-value t c =
     let d = c.before.before.before in
-    MemberParts.part_fits d.before.before.before.before.before.before.requires.1 _ _ d.write-string.ensures
+    MemberParts.part_fits d.requires.1 _ _ d.write_string-n.ensures
 
-write-member-part-write-value-start : (t : ℕ) → In-member t write-member-lts.Need-slice-bounds-write-value-start
+write-member-part-write-value-start : (t : ℕ) → In-member t write-member-lts.Need-slice_bounds-write_value-start
 write-member-part-write-value-start t c = write-member-sub-write-value t c
 
-write-member-write-value-requires : (t : ℕ) → In-member t write-member-lts.Need-write-value-requires
+write-member-write-value-requires : (t : ℕ) → In-member t write-member-lts.Need-write_value-requires
 write-member-write-value-requires t c κs =
     let i = c.before.before.before in
     let d = i.before.before.before in
     let b = d.before.before.before.before.before.before in
-    (omega (arith, b.requires.0), MemberParts.value b.requires.1 _ _ d.write-string.ensures _ i.item-value.ensures)
+    (omega (arith, b.requires.0), MemberParts.value b.requires.1 _ _ d.write_string-n.ensures _ i.item_value-value.ensures)
 
-write-member-add-result : (t : ℕ) → In-member t write-member-lts.Need-overflow-add-result
+write-member-add-result : (t : ℕ) → In-member t write-member-lts.Need-overflow_add-result
 write-member-add-result t c =
     let w = c.before.before.before.before.before.before in
     let i = w.before.before.before.before in
     let d = i.before.before.before in
     let b = d.before.before.before.before.before.before in
-    let f = MemberParts.result_fits b.requires.1 _ _ d.write-string.ensures _ i.item-value.ensures _ _ w.write-value.ensures in
-    omega (arith, f, b.well-formed)
+    let f = MemberParts.result_fits b.requires.1 _ _ d.write_string-n.ensures _ i.item_value-value.ensures _ _ w.write_value.ensures in
+    omega (arith, f, b.well_formed)
 
-write-member-same-length : (t : ℕ) → In-member t write-member-lts.Need-same-length
+write-member-same-length : (t : ℕ) → In-member t write-member-lts.Need-shape_of-out
 write-member-same-length t c =
     let w = c.before.before.before.before.before.before in
     let i = w.before.before.before.before in
     let d = i.before.before.before in
     let b = d.before.before.before.before.before.before in
     let p = b.requires.1 in
-    let h = MemberParts.completed p _ _ d.write-string.ensures _ i.item-value.ensures _ _ w.write-value.ensures in
+    let h = MemberParts.completed p _ _ d.write_string-n.ensures _ i.item_value-value.ensures _ _ w.write_value.ensures in
     Written.same_length (h p.key p.value p.here).1
 
 write-member-returns : (t : ℕ) → In-member t write-member-lts.Need-returns
@@ -313,209 +313,209 @@ write-member-returns t c =
     let i = w.before.before.before.before in
     let d = i.before.before.before in
     let b = d.before.before.before.before.before.before in
-    MemberParts.completed b.requires.1 _ _ d.write-string.ensures _ i.item-value.ensures _ _ w.write-value.ensures
+    MemberParts.completed b.requires.1 _ _ d.write_string-n.ensures _ i.item_value-value.ensures _ _ w.write_value.ensures
 
-abbrev write-members-Inv-loop : write-members-lts.invariant-loop
+abbrev write-members-Inv-loop : write-members-lts.invariant-loop-i
 write-members-Inv-loop s at depth count out₀ keys₀ spare₀ n₀ i₀ out keys spare n i =
     Objects.ObjectWritten s at depth out₀ keys₀ spare₀ out keys count n i × (i ≤ count) × (length spare ≡ length spare₀)
 
-abbrev write-members-μ-loop : write-members-lts.decreases-loop
+abbrev write-members-μ-loop : write-members-lts.decreases-loop-i
 write-members-μ-loop s at depth count out₀ keys₀ spare₀ n₀ i₀ out keys spare n i = count - i
 
 -- a need or a place of `write_members`, at the measure t
 abbrev In-members : ℕ → (write-members-lts.Claims → In 4 write-members-kinds.ps → Out 4 write-members-kinds.ps write-members-kinds.r
-    → write-members-lts.invariant-loop → write-members-lts.decreases-loop → Type 0) → Type 0
+    → write-members-lts.invariant-loop-i → write-members-lts.decreases-loop-i → Type 0) → Type 0
 In-members t F =
     F (write_members_calls t) (at_measure write-members-kinds.ps μ_write_members write-members.Pre t) write-members.Post write-members-Inv-loop
     write-members-μ-loop
 
-write-members-slice-write-out : (t : ℕ) → In-members t write-members-lts.Need-slice-write-out
-write-members-slice-write-out t c = Objects.mark_fits c.before.before.before.before.requires.1
+write-members-slice-write-out : (t : ℕ) → In-members t write-members-lts.Need-bounds-out-0
+write-members-slice-write-out t c = Objects.mark_fits c.requires.1
 
-write-members-loop-holds : (t : ℕ) → In-members t write-members-lts.Need-loop-init
-write-members-loop-holds t c = (Objects.started c.before.before.before.before.requires.1, omega arith, refl)
+write-members-loop-holds : (t : ℕ) → In-members t write-members-lts.Need-loop-i-init
+write-members-loop-holds t c = (Objects.started c.requires.1, omega arith, refl)
 
-abbrev members-entry : (t : ℕ) → In-members t write-members-lts.At-loop → In-members t write-members-lts.Start
+abbrev members-entry : (t : ℕ) → In-members t write-members-lts.At-loop-i → In-members t write-members-lts.Start
 members-entry t l = l.before.before.before.before.before
 
-write-members-mul-key : (t : ℕ) → In-members t write-members-lts.Need-overflow-mul-key
+write-members-mul-key : (t : ℕ) → In-members t write-members-lts.Need-offset_bounds-keys-i
 write-members-mul-key t c =
     let l = c.before in
-    omega (arith, l.loop.invariant.0.within, l.loop.invariant.0.same, (members-entry t l).well-formed)
+    omega (arith, l.loop-i.invariant.0.within, l.loop-i.invariant.0.same, (members-entry t l).well_formed)
 
-write-members-slice-read-key : (t : ℕ) → In-members t write-members-lts.Need-slice-read-key
-write-members-slice-read-key t c = omega (arith, c.before.before.loop.invariant.0.within)
+write-members-slice-read-key : (t : ℕ) → In-members t write-members-lts.Need-bounds-keys-i
+write-members-slice-read-key t c = omega (arith, c.loop-i.invariant.0.within)
 
-write-members-cast-key : (t : ℕ) → In-members t write-members-lts.Need-overflow-cast-key
-write-members-cast-key t c = omega (arith, c.slice-known4.given c.before.before.loop.i)
+write-members-cast-key : (t : ℕ) → In-members t write-members-lts.Need-overflow_cast-key
+write-members-cast-key t c = omega (arith, c.slice_known-in-loop-i-1.given c.loop-i.i)
 
-write-members-separate-requires : (t : ℕ) → In-members t write-members-lts.Need-separate-requires
+write-members-separate-requires : (t : ℕ) → In-members t write-members-lts.Need-separate-n-requires
 write-members-separate-requires t c κs =
     let n = c.before.before in
-    Objects.comma_fits n.before.loop.invariant.0 n.loop-test.true
+    Objects.comma_fits n.loop-i.invariant.0 n.loop-i-test.true
 
-write-members-sub-write-member : (t : ℕ) → In-members t write-members-lts.Need-overflow-sub-write-member
-write-members-sub-write-member t c = omega (arith, c.before.before.before.before.before.before.loop.invariant.0.some)
+write-members-sub-write-member : (t : ℕ) → In-members t write-members-lts.Need-overflow_sub-depth
+write-members-sub-write-member t c = omega (arith, c.loop-i.invariant.0.some)
 
-write-members-sub-write-member-2 : (t : ℕ) → In-members t write-members-lts.Need-overflow-sub-write-member-2
+write-members-sub-write-member-2 : (t : ℕ) → In-members t write-members-lts.Need-slice_bounds-write_member-count
 write-members-sub-write-member-2 t c =
     let d = c.before.before in
     let n = d.before.before.before in
     let l = n.before in
-    let p = l.loop.invariant.0 in
-    let w = d.separate.ensures.1 _ _ p.size p.written in
-    Objects.part_fits p n.loop-test.true _ _ d.separate.ensures.0 w
+    let p = l.loop-i.invariant.0 in
+    let w = d.separate-n.ensures.1 _ _ p.size p.written in
+    Objects.part_fits p n.loop-i-test.true _ _ d.separate-n.ensures.0 w
 
-write-members-part-write-member-start : (t : ℕ) → In-members t write-members-lts.Need-slice-bounds-write-member-start
+write-members-part-write-member-start : (t : ℕ) → In-members t write-members-lts.Need-slice_bounds-write_member-start
 write-members-part-write-member-start t c = write-members-sub-write-member-2 t c
 
-write-members-mul-write-member : (t : ℕ) → In-members t write-members-lts.Need-overflow-mul-write-member
+write-members-mul-write-member : (t : ℕ) → In-members t write-members-lts.Need-offset_bounds-keys-count
 write-members-mul-write-member t c =
     let l = c.before.before.before.before.before.before.before in
-    omega (arith, l.loop.invariant.0.within, l.loop.invariant.0.same, (members-entry t l).well-formed)
+    omega (arith, l.loop-i.invariant.0.within, l.loop-i.invariant.0.same, (members-entry t l).well_formed)
 
-write-members-sub-write-member-3 : (t : ℕ) → In-members t write-members-lts.Need-overflow-sub-write-member-3
-write-members-sub-write-member-3 t c = c.before.before.before.before.before.before.before.loop.invariant.0.within
+write-members-sub-write-member-3 : (t : ℕ) → In-members t write-members-lts.Need-slice_bounds-write_member-count-in-loop-i
+write-members-sub-write-member-3 t c = c.loop-i.invariant.0.within
 
-write-members-part-write-member-start-2 : (t : ℕ) → In-members t write-members-lts.Need-slice-bounds-write-member-start-2
-write-members-part-write-member-start-2 t c = c.before.before.before.before.before.before.before.loop.invariant.0.within
+write-members-part-write-member-start-2 : (t : ℕ) → In-members t write-members-lts.Need-slice_bounds-write_member-start-in-loop-i
+write-members-part-write-member-start-2 t c = c.loop-i.invariant.0.within
 
-write-members-write-member-requires : (t : ℕ) → In-members t write-members-lts.Need-write-member-requires
+write-members-write-member-requires : (t : ℕ) → In-members t write-members-lts.Need-write_member-n-requires
 write-members-write-member-requires t c κs =
     let d = c.before.before.before.before.before in
     let n = d.before.before.before in
     let l = n.before in
-    let p = l.loop.invariant.0 in
-    let w = d.separate.ensures.1 _ _ p.size p.written in
-    let e = Objects.member p n.loop-test.true _ _ d.separate.ensures.0 w in
-    (omega (arith, (members-entry t l).requires.0, p.some), e _ l.loop.invariant.2)
+    let p = l.loop-i.invariant.0 in
+    let w = d.separate-n.ensures.1 _ _ p.size p.written in
+    let e = Objects.member p n.loop-i-test.true _ _ d.separate-n.ensures.0 w in
+    (omega (arith, (members-entry t l).requires.0, p.some), e _ l.loop-i.invariant.2)
 
-write-members-add-n : (t : ℕ) → In-members t write-members-lts.Need-overflow-add-n
+write-members-add-n : (t : ℕ) → In-members t write-members-lts.Need-overflow_add-n
 write-members-add-n t c =
     let e = c.before.before.before.before.before.before in
     let d = e.before.before.before.before.before.before in
     let n = d.before.before.before in
     let l = n.before in
-    let p = l.loop.invariant.0 in
+    let p = l.loop-i.invariant.0 in
     let b = members-entry t l in
-    let w = d.separate.ensures.1 _ _ p.size p.written in
-    let f = Objects.next_fits p n.loop-test.true _ _ d.separate.ensures.0 w _ _ e.write-member.ensures in
-    omega (arith, f, length-set b.args.out.now 0 0x7B, b.good)
+    let w = d.separate-n.ensures.1 _ _ p.size p.written in
+    let f = Objects.next_fits p n.loop-i-test.true _ _ d.separate-n.ensures.0 w _ _ e.write_member-n.ensures in
+    omega (arith, f, length-set b.args.out.now 0 0x7B, b.well_formed)
 
-write-members-add-i : (t : ℕ) → In-members t write-members-lts.Need-overflow-add-i
+write-members-add-i : (t : ℕ) → In-members t write-members-lts.Need-overflow_add-i
 write-members-add-i t c =
     let l = c.before.before.before.before.before.before.before.before.before.before.before.before.before.before.before.before in
-    omega (arith, l.loop.invariant.0.within, l.loop.invariant.0.same, (members-entry t l).well-formed)
+    omega (arith, l.loop-i.invariant.0.within, l.loop-i.invariant.0.same, (members-entry t l).well_formed)
 
-write-members-loop-less : (t : ℕ) → In-members t write-members-lts.Need-loop-smaller
+write-members-loop-less : (t : ℕ) → In-members t write-members-lts.Need-loop-i-smaller
 write-members-loop-less t c =
     let e = c.before.before.before.before.before.before in
-    omega (arith, e.before.before.before.before.before.before.before.before.before.loop-test.true)
+    omega (arith, e.loop-i-test.true)
 
-write-members-loop-again : (t : ℕ) → In-members t write-members-lts.Need-loop-preserved
+write-members-loop-again : (t : ℕ) → In-members t write-members-lts.Need-loop-i-preserved
 write-members-loop-again t c =
     let e = c.before.before.before.before.before.before in
     let d = e.before.before.before.before.before.before in
     let n = d.before.before.before in
     let l = n.before in
-    let p = l.loop.invariant.0 in
-    let w = d.separate.ensures.1 _ _ p.size p.written in
-    let m = e.write-member in (
-      Objects.advanced p n.loop-test.true _ _ d.separate.ensures.0 w _ _ m.ensures m.new.1.1.1.1.0 m.auto.1.1.1.1.0,
-      omega (arith, n.loop-test.true),
-      m.auto.1.1.1.1.1.0 ∙ l.loop.invariant.2,
+    let p = l.loop-i.invariant.0 in
+    let w = d.separate-n.ensures.1 _ _ p.size p.written in
+    let m = e.write_member-n in (
+      Objects.advanced p n.loop-i-test.true _ _ d.separate-n.ensures.0 w _ _ m.ensures m.new.keys m.auto.keys,
+      omega (arith, n.loop-i-test.true),
+      m.auto.spare ∙ l.loop-i.invariant.2,
     )
 
-write-members-slice-write-out-2 : (t : ℕ) → In-members t write-members-lts.Need-slice-write-out-2
-write-members-slice-write-out-2 t c = Objects.end_fits c.before.loop.invariant.0 c.loop-test.false
+write-members-slice-write-out-2 : (t : ℕ) → In-members t write-members-lts.Need-bounds-out-n
+write-members-slice-write-out-2 t c = Objects.end_fits c.loop-i.invariant.0 c.loop-i-test.false
 
-write-members-add-result : (t : ℕ) → In-members t write-members-lts.Need-overflow-add-result
+write-members-add-result : (t : ℕ) → In-members t write-members-lts.Need-overflow_add-result
 write-members-add-result t c =
-    let p = c.before.loop.invariant.0 in
+    let p = c.loop-i.invariant.0 in
     let b = members-entry t c.before in
-    omega (arith, Objects.end_fits p c.loop-test.false, Written.same_length p.written, length-set b.args.out.now 0 0x7B, b.good)
+    omega (arith, Objects.end_fits p c.loop-i-test.false, Written.same_length p.written, length-set b.args.out.now 0 0x7B, b.well_formed)
 
-write-members-same-length : (t : ℕ) → In-members t write-members-lts.Need-same-length
+write-members-same-length : (t : ℕ) → In-members t write-members-lts.Need-shape_of-out
 write-members-same-length t c =
     let b = members-entry t c.before in
-    simp length-set (Written.same_length c.before.loop.invariant.0.written ∙ length-set b.args.out.now 0 0x7B)
+    simp length-set (Written.same_length c.loop-i.invariant.0.written ∙ length-set b.args.out.now 0 0x7B)
 
-write-members-same-length-2 : (t : ℕ) → In-members t write-members-lts.Need-same-length-2
-write-members-same-length-2 t c = c.before.loop.invariant.0.same
+write-members-same-length-2 : (t : ℕ) → In-members t write-members-lts.Need-shape_of-keys
+write-members-same-length-2 t c = c.loop-i.invariant.0.same
 
-write-members-same-length-3 : (t : ℕ) → In-members t write-members-lts.Need-same-length-3
-write-members-same-length-3 t c = c.before.loop.invariant.2
+write-members-same-length-3 : (t : ℕ) → In-members t write-members-lts.Need-shape_of-spare
+write-members-same-length-3 t c = c.loop-i.invariant.2
 
 write-members-returns : (t : ℕ) → In-members t write-members-lts.Need-returns
-write-members-returns t c = λ v h. from_mark _ 0x7B _ (Objects.finished c.before.loop.invariant.0 c.loop-test.false v h)
+write-members-returns t c = λ v h. from_mark _ 0x7B _ (Objects.finished c.loop-i.invariant.0 c.loop-i-test.false v h)
 
 -- a need or a place of `write_object`, at the measure t
 abbrev In-object : ℕ → (write-object-lts.Claims → In 4 write-object-kinds.ps → Out 4 write-object-kinds.ps write-object-kinds.r → Type 0) → Type 0
 In-object t F = F (write_object_calls t) (at_measure write-object-kinds.ps μ_write_object write-object.Pre t) write-object.Post
 
-write-object-sorted-keys-requires : (t : ℕ) → In-object t write-object-lts.Need-sorted-keys-requires
-write-object-sorted-keys-requires t c κs = Objects.keys_space c.before.before.before.before.before.before.requires.1
+write-object-sorted-keys-requires : (t : ℕ) → In-object t write-object-lts.Need-sorted_keys-count-requires
+write-object-sorted-keys-requires t c κs = Objects.keys_space c.requires.1
 
-write-object-write-members-requires : (t : ℕ) → In-object t write-object-lts.Need-write-members-requires
+write-object-write-members-requires : (t : ℕ) → In-object t write-object-lts.Need-write_members-requires
 write-object-write-members-requires t c κs =
     let k = c.before.before.before.before.before.before.before in
-    let f = k.sorted-keys in
+    let f = k.sorted_keys-count in
     let b = k.before.before.before.before.before.before.before in
-    (omega (arith, b.requires.0), Objects.keys_given b.requires.1 _ _ _ f.auto.1.1.1.0 f.auto.1.1.1.1.0 f.ensures)
+    (omega (arith, b.requires.0), Objects.keys_given b.requires.1 _ _ _ f.auto.keys f.auto.spare f.ensures)
 
 write-object-returns : (t : ℕ) → In-object t write-object-lts.Need-returns
-write-object-returns t c = c.before.before.before.before.before.before.write-members.ensures
+write-object-returns t c = c.write_members.ensures
 
 -- a need or a place of `write_value`, at the measure t
 abbrev In-value : ℕ → (write-value-lts.Claims → In 4 write-value-kinds.ps → Out 4 write-value-kinds.ps write-value-kinds.r → Type 0) → Type 0
 In-value t F = F (write_value_calls t) (at_measure write-value-kinds.ps μ_write_value write-value.Pre t) write-value.Post
 
-write-value-kind-requires : (t : ℕ) → In-value t write-value-lts.Need-kind-requires
+write-value-kind-requires : (t : ℕ) → In-value t write-value-lts.Need-kind-kind-requires
 write-value-kind-requires t c κs =
     let b = c.before.before.before.before in
     record { depth = b.args.depth; value = b.requires.1.value; here = b.requires.1.space.here }
 
-write-value-write-array-requires : (t : ℕ) → In-value t write-value-lts.Need-write-array-requires
+write-value-write-array-requires : (t : ℕ) → In-value t write-value-lts.Need-write_array-requires
 write-value-write-array-requires t c κs =
     let d = c.before.before.before in
-    let b = d.before.before.before.before.before.before.before in
-    let k = d.before.before.kind.ensures b.args.depth b.requires.1.value b.requires.1.space.here in
-    (omega (arith, b.requires.0), writable_array b.requires.1 (sym d.enum_told.given.1 ∙ k))
+    let b = d.before.before.before.before.before.before in
+    let k = d.kind-kind.ensures b.args.depth b.requires.1.value b.requires.1.space.here in
+    (omega (arith, b.requires.0), writable_array b.requires.1 (sym d.in-Array.is ∙ k))
 
-write-value-write-object-requires : (t : ℕ) → In-value t write-value-lts.Need-write-object-requires
+write-value-write-object-requires : (t : ℕ) → In-value t write-value-lts.Need-write_object-requires
 write-value-write-object-requires t c κs =
     let d = c.before.before.before in
-    let b = d.before.before.before.before.before.before.before in
-    let k = d.before.before.kind.ensures b.args.depth b.requires.1.value b.requires.1.space.here in
-    (omega (arith, b.requires.0), writable_object b.requires.1 (sym d.enum-told2.given.1 ∙ k))
+    let b = d.before.before.before.before.before.before in
+    let k = d.kind-kind.ensures b.args.depth b.requires.1.value b.requires.1.space.here in
+    (omega (arith, b.requires.0), writable_object b.requires.1 (sym d.in-Object.is ∙ k))
 
-write-value-write-scalar-requires : (t : ℕ) → In-value t write-value-lts.Need-write-scalar-requires
+write-value-write-scalar-requires : (t : ℕ) → In-value t write-value-lts.Need-write_scalar-requires
 write-value-write-scalar-requires t c κs =
     let d = c.before in
     let b = d.before.before.before.before.before.before in
     let p = b.requires.1 in
-    let n = no_branch d.before.kind.result d.match.keys3 in
+    let n = no_branch d.kind-kind.result d.in_default.in_default-own.keys3 in
     record {
       depth = b.args.depth;
       value = p.value;
       here = p.space.here;
-      tells = d.before.kind.ensures b.args.depth p.value p.space.here;
+      tells = d.kind-kind.ensures b.args.depth p.value p.space.here;
       no_array = n.0;
       no_object = n.1;
       form = p.space.form;
     }
 
-write-value-returns : (t : ℕ) → In-value t write-value-lts.Need-returns
-write-value-returns t c = c.before.before.before.before.before.before.write-array.ensures
+write-value-returns : (t : ℕ) → In-value t write-value-lts.Need-returns-in-Array
+write-value-returns t c = c.write_array.ensures
 
-write-value-returns-2 : (t : ℕ) → In-value t write-value-lts.Need-returns-2
-write-value-returns-2 t c = c.before.before.before.before.before.before.write-object.ensures
+write-value-returns-2 : (t : ℕ) → In-value t write-value-lts.Need-returns-in-Object
+write-value-returns-2 t c = c.write_object.ensures
 
-write-value-returns-3 : (t : ℕ) → In-value t write-value-lts.Need-returns-3
-write-value-returns-3 t c = c.before.before.write-scalar.ensures _
+write-value-returns-3 : (t : ℕ) → In-value t write-value-lts.Need-returns-in_default
+write-value-returns-3 t c = c.write_scalar.ensures _
 
-pub +write-array-write-member-write-members-write-object-write-value-spec : {M : Type 1} → statement M
-+write-array-write-member-write-members-write-object-write-value-spec =
+pub +write_array_write_member_write_members_write_object_write_value_spec : {M : Type 1} → statement M
++write_array_write_member_write_members_write_object_write_value_spec =
     close μ_write_array μ_write_member μ_write_members μ_write_object μ_write_value (λ t. write-array-lts.spec (write_array_calls t)
     (at_measure write-array-kinds.ps μ_write_array write-array.Pre t) write-array.Post write-array-Inv-loop write-array-μ-loop
     (write-array-slice-write-out t) (write-array-add-i t) (write-array-loop-holds t) (write-array-sub-read-item t) (write-array-read-item-requires t)

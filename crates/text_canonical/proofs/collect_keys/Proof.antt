@@ -14,80 +14,80 @@ use Rattle.text_canonical.proofs.Collect.{KeysGathered}
 use Rattle.text_canonical.proofs.collect_keys.Statement.{statement}
 use Rattle.text_canonical.proofs.collect_keys.Tie as tie
 
-abbrev invariant-loop : tie.invariant-loop
+abbrev invariant-loop : tie.invariant-loop-first
 invariant-loop s at depth keys₀ n₀ i₀ keys n i = KeysGathered s at depth keys n i × (length keys ≡ length keys₀)
 
-abbrev decreases-loop : tie.decreases-loop
+abbrev decreases-loop : tie.decreases-loop-first
 decreases-loop s at depth keys₀ n₀ i₀ keys n i = length s - i
 
-add-i : tie.Need-overflow-add-i invariant-loop decreases-loop
-add-i c = omega (arith, within _ _ _ _ c.before.before.requires.here)
+overflow_add-i : tie.Need-overflow_add-i invariant-loop decreases-loop
+overflow_add-i c = omega (arith, within _ _ _ _ c.requires.here)
 
-loop-holds : tie.Need-loop-init invariant-loop decreases-loop
-loop-holds c = (Collect.started _ _ _ _ c.before.before.requires, refl)
+loop-first-init : tie.Need-loop-first-init invariant-loop decreases-loop
+loop-first-init c = (Collect.started _ _ _ _ c.requires, refl)
 
-sub-read-item : tie.Need-overflow-sub-read-item invariant-loop decreases-loop
-sub-read-item c = omega (arith, c.loop.invariant.0.some)
+overflow_sub-depth : tie.Need-overflow_sub-depth invariant-loop decreases-loop
+overflow_sub-depth c = omega (arith, c.loop-first.invariant.0.some)
 
-read-item-requires : tie.Need-read-item-requires invariant-loop decreases-loop
-read-item-requires c κs = Collect.items_left c.loop.invariant.0
+read_item-requires : tie.Need-read_item-requires invariant-loop decreases-loop
+read_item-requires c κs = Collect.items_left c.loop-first.invariant.0
 
 -- what `read_item` gave: a member
-abbrev inv : (c : tie.After-known-told invariant-loop decreases-loop) → let b = c.before.before.before.before in let a = b.before.before.before.args in
-    KeysGathered a.s.now a.at a.depth b.loop.keys b.loop.n b.loop.i
-inv c = c.before.before.before.before.loop.invariant.0
+abbrev inv : (c : tie.In-At invariant-loop decreases-loop) → let b = c.before.before in let a = b.args in
+    KeysGathered a.s.now a.at a.depth b.loop-first.keys b.loop-first.n b.loop-first.i
+inv c = c.loop-first.invariant.0
 
-abbrev inv_length : (c : tie.After-known-told invariant-loop decreases-loop) → let b = c.before.before.before.before in
-    length b.loop.keys ≡ length b.before.before.before.args.keys.now
-inv_length c = c.before.before.before.before.loop.invariant.1
+abbrev inv_length : (c : tie.In-At invariant-loop decreases-loop) → let b = c.before.before in
+    length b.loop-first.keys ≡ length b.args.keys.now
+inv_length c = c.loop-first.invariant.1
 
-given : (c : tie.After-known-told invariant-loop decreases-loop) → let b = c.before.before.before.before in let a = b.before.before.before.args in
-    let p = b.loop.invariant.0 in let g = c.before.first.given.0 in
-    GivesItem a.s.now b.loop.i (a.depth - 1) true p.trees p.rest (At g.0 g.1.0 g.1.1.0)
+given : (c : tie.In-At invariant-loop decreases-loop) → let b = c.before.before in let a = b.args in
+    let p = b.loop-first.invariant.0 in let g = c.in-At in
+    GivesItem a.s.now b.loop-first.i (a.depth - 1) true p.trees p.rest (At g.first g.value g.next)
 given c =
     let p = inv c in
-    let b = c.before.before.before in
-    let a = b.before.before.before.before.args in
-    subst (GivesItem a.s.now b.before.loop.i (a.depth - 1) true p.trees p.rest) c.before.first.given.1
-    (b.read-item.ensures p.trees p.rest p.left)
+    let b = c.before in
+    let a = b.args in
+    subst (GivesItem a.s.now b.loop-first.i (a.depth - 1) true p.trees p.rest) c.in-At.is
+    (b.read_item.ensures p.trees p.rest p.left)
 
-cast-keys : tie.Need-overflow-cast-keys invariant-loop decreases-loop
-cast-keys c = let p = inv c in omega (
+overflow_cast-keys : tie.Need-overflow_cast-keys invariant-loop decreases-loop
+overflow_cast-keys c = let p = inv c in omega (
   arith,
   Collect.position p _ _ _ p.trees (given c),
-  c.before.before.before.before.before.before.before.requires.short,
+  c.requires.short,
 )
 
-mul-keys : tie.Need-overflow-mul-keys invariant-loop decreases-loop
-mul-keys c = omega (arith, Collect.fits (inv c) _ _ _ (given c), inv_length c, c.before.before.before.before.before.before.before.well-formed)
+offset_bounds-keys-n : tie.Need-offset_bounds-keys-n invariant-loop decreases-loop
+offset_bounds-keys-n c = omega (arith, Collect.fits (inv c) _ _ _ (given c), inv_length c, c.well_formed)
 
-slice-write-keys : tie.Need-slice-write-keys invariant-loop decreases-loop
-slice-write-keys c = Collect.fits (inv c) _ _ _ (given c)
+bounds-keys-n : tie.Need-bounds-keys-n invariant-loop decreases-loop
+bounds-keys-n c = Collect.fits (inv c) _ _ _ (given c)
 
-add-n : tie.Need-overflow-add-n invariant-loop decreases-loop
-add-n c = omega (arith, Collect.fits (inv c) _ _ _ (given c), inv_length c, c.before.before.before.before.before.before.before.well-formed)
+overflow_add-n : tie.Need-overflow_add-n invariant-loop decreases-loop
+overflow_add-n c = omega (arith, Collect.fits (inv c) _ _ _ (given c), inv_length c, c.well_formed)
 
-loop-less : tie.Need-loop-smaller invariant-loop decreases-loop
-loop-less c = let p = inv c in omega (arith, Collect.later p _ _ _ p.trees (given c))
+loop-first-smaller : tie.Need-loop-first-smaller invariant-loop decreases-loop
+loop-first-smaller c = let p = inv c in omega (arith, Collect.later p _ _ _ p.trees (given c))
 
-loop-again : tie.Need-loop-preserved invariant-loop decreases-loop
-loop-again c = (Collect.collected (inv c) _ _ _ (given c), simp length-set (inv_length c))
+loop-first-preserved : tie.Need-loop-first-preserved invariant-loop decreases-loop
+loop-first-preserved c = (Collect.collected (inv c) _ _ _ (given c), simp length-set (inv_length c))
 
-same_length : tie.Need-same-length invariant-loop decreases-loop
-same_length c = c.before.before.before.loop.invariant.1
+shape_of-keys-in-End : tie.Need-shape_of-keys-in-End invariant-loop decreases-loop
+shape_of-keys-in-End c = c.loop-first.invariant.1
 
-returns : tie.Need-returns invariant-loop decreases-loop
-returns c =
-    let d = c.before.before in
-    let p = d.before.loop.invariant.0 in
-    let a = d.before.before.before.before.args in (
-      omega (arith, p.space, d.before.loop.invariant.1),
+returns-in-End : tie.Need-returns-in-End invariant-loop decreases-loop
+returns-in-End c =
+    let d = c.before in
+    let p = d.loop-first.invariant.0 in
+    let a = d.args in (
+      omega (arith, p.space, d.loop-first.invariant.1),
       Collect.finished p _
-          (subst (GivesItem a.s.now d.before.loop.i (a.depth - 1) true p.trees p.rest) c.enum_told.given.1
-          (d.read-item.ensures p.trees p.rest p.left)),
+          (subst (GivesItem a.s.now d.loop-first.i (a.depth - 1) true p.trees p.rest) c.in-End.is
+          (d.read_item.ensures p.trees p.rest p.left)),
     )
 
-pub collect-keys-spec : {M : Type 1} → statement M
-collect-keys-spec =
-    tie.close (tie.spec invariant-loop decreases-loop add-i loop-holds sub-read-item read-item-requires (λ c. search rules) cast-keys mul-keys slice-write-keys
-    add-n loop-less loop-again (λ c. search rules) same_length returns)
+pub collect_keys_spec : {M : Type 1} → statement M
+collect_keys_spec =
+    tie.close (tie.spec invariant-loop decreases-loop overflow_add-i loop-first-init overflow_sub-depth read_item-requires (λ c. search rules) overflow_cast-keys offset_bounds-keys-n bounds-keys-n
+    overflow_add-n loop-first-smaller loop-first-preserved (λ c. search rules) shape_of-keys-in-End returns-in-End)

@@ -10,37 +10,37 @@ use Rattle.text_canonical.proofs.Scalars.{digits_end}
 use Rattle.text_canonical.proofs.digits_end.Statement.{statement}
 use Rattle.text_canonical.proofs.digits_end.Tie as tie
 
-shared-slice-read-sign-size : tie.Need-shared-slice-read-sign-size
-shared-slice-read-sign-size c = let p = c.before.before.requires in within _ _ p.depth _ p.here
+bounds-s-at : tie.Need-bounds-s-at
+bounds-s-at c = let p = c.requires in within _ _ p.depth _ p.here
 
-add-first : tie.Need-overflow-add-first
-add-first c =
-    let p = c.before.before.before.requires in
-    omega (arith, after_sign _ _ p.depth _ p.here _ c.sign-size.ensures)
+overflow_add-first : tie.Need-overflow_add-first
+overflow_add-first c =
+    let p = c.requires in
+    omega (arith, after_sign _ _ p.depth _ p.here _ c.sign_size.ensures)
 
-int-part-requires : tie.Need-int-part-requires
-int-part-requires c κs =
-    let p = c.before.before.before.requires in
-    after_sign _ _ p.depth _ p.here _ c.sign-size.ensures
+int_part-requires : tie.Need-int_part-requires
+int_part-requires c κs =
+    let p = c.requires in
+    after_sign _ _ p.depth _ p.here _ c.sign_size.ensures
 
-returns : tie.Need-returns
-returns c =
-    let d = c.before.before.before in
+returns-in-Digits : tie.Need-returns-in-Digits
+returns-in-Digits c =
+    let d = c.before in
     let b = d.before.before.before.before in
     let p = b.requires in
-    let f = ap (λ (n : ℕ). b.args.at + n) d.before.sign-size.ensures in
+    let f = ap (λ (n : ℕ). b.args.at + n) d.sign_size.ensures in
     digits_end _ _ _ _ _ (within _ _ p.depth _ p.here) f
-    (subst (Ints b.args.s.now (b.args.at + d.before.sign-size.result)) c.before.end.given.1 d.int-part.ensures)
+    (subst (Ints b.args.s.now (b.args.at + d.sign_size.result)) c.in-Digits.is d.int_part.ensures)
 
-returns-2 : tie.Need-returns-2
-returns-2 c =
-    let d = c.before.before.before in
+returns-in-NoInt : tie.Need-returns-in-NoInt
+returns-in-NoInt c =
+    let d = c.before in
     let b = d.before.before.before.before in
     let p = b.requires in
-    always_digits _ _ p.depth p.negative p.digits p.here _ d.before.sign-size.ensures _
-    (subst (Ints b.args.s.now (b.args.at + d.before.sign-size.result)) c.before.end2.given.1 d.int-part.ensures)
+    always_digits _ _ p.depth p.negative p.digits p.here _ d.sign_size.ensures _
+    (subst (Ints b.args.s.now (b.args.at + d.sign_size.result)) c.in-NoInt.is d.int_part.ensures)
 
-pub digits-end-spec : {M : Type 1} → statement M
-digits-end-spec =
-    tie.close (tie.spec shared-slice-read-sign-size (λ c κs. search rules) add-first int-part-requires (λ c. search rules) (λ c. search rules) returns
-    returns-2)
+pub digits_end_spec : {M : Type 1} → statement M
+digits_end_spec =
+    tie.close (tie.spec bounds-s-at (λ c κs. search rules) overflow_add-first int_part-requires (λ c. search rules) (λ c. search rules) returns-in-Digits
+    returns-in-NoInt)

@@ -7,33 +7,33 @@ use Rattle.text_canonical.proofs.Collect.{sorted}
 use Rattle.text_canonical.proofs.sorted_keys.Statement.{statement}
 use Rattle.text_canonical.proofs.sorted_keys.Tie as tie
 
-slice-aggregate-sort-keys : tie.Need-slice-aggregate-sort-keys
-slice-aggregate-sort-keys c =
-    let f = c.before.before.before.collect-keys in
-    sym (length-take-le _ _ (omega (arith, f.ensures.0, f.auto.1.1.1.0)))
+slice_bounds-sort_keys-end-2 : tie.Need-slice_bounds-sort_keys-end-2
+slice_bounds-sort_keys-end-2 c =
+    let f = c.collect_keys-count in
+    sym (length-take-le _ _ (omega (arith, f.ensures.0, f.auto.keys)))
 
-sort-keys-requires : tie.Need-sort-keys-requires
-sort-keys-requires c κs =
-    let f = c.before.before.before.before.collect-keys in
+sort_keys-requires : tie.Need-sort_keys-requires
+sort_keys-requires c κs =
+    let f = c.collect_keys-count in
     let b = c.before.before.before.before.before.before.before.before.before in (
       f.ensures.1.keys,
       omega (
         arith,
         f.ensures.0,
-        f.auto.1.1.1.0,
-        length-take-le f.result f.new.1.1.1.0 (omega (arith, f.ensures.0, f.auto.1.1.1.0)),
+        f.auto.keys,
+        length-take-le f.result f.new.keys (omega (arith, f.ensures.0, f.auto.keys)),
         b.requires.1,
       ),
     )
 
 returns : tie.Need-returns
 returns c =
-    let f = c.before.before.before.before.before.before.before.before.before.collect-keys in
-    let g = c.before.before.before.before.sort-keys in
-    sorted _ _ _ f.result f.new.1.1.1.0 g.new.1.0 (omega (arith, f.ensures.0, f.auto.1.1.1.0)) f.ensures.1 g.ensures
-    g.auto.1.0
+    let f = c.collect_keys-count in
+    let g = c.sort_keys in
+    sorted _ _ _ f.result f.new.keys g.new.keys (omega (arith, f.ensures.0, f.auto.keys)) f.ensures.1 g.ensures
+    g.auto.keys
 
-pub sorted-keys-spec : {M : Type 1} → statement M
-sorted-keys-spec =
-    tie.close (tie.spec (λ c κs. search rules) (λ c. search rules) slice-aggregate-sort-keys sort-keys-requires (λ c. search rules)
+pub sorted_keys_spec : {M : Type 1} → statement M
+sorted_keys_spec =
+    tie.close (tie.spec (λ c κs. search rules) (λ c. search rules) slice_bounds-sort_keys-end-2 sort_keys-requires (λ c. search rules)
     (λ c. search rules) returns)

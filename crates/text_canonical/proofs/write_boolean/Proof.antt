@@ -13,26 +13,25 @@ use Rattle.text_canonical.proofs.write_boolean.Tie as tie
 copy-requires : tie.Need-copy-requires
 copy-requires c κs =
     let b = c.before.before in
-    let e = ap (λ (x : Bool). length (canonical (boolean x))) b.if1.true ∙ ap length true_form in
-    omega (arith, b.before.before.requires)
+    let e = ap (λ (x : Bool). length (canonical (boolean x))) b.if-b.true ∙ ap length true_form in
+    omega (arith, b.requires)
 
-copy-requires-2 : tie.Need-copy-requires-2
-copy-requires-2 c κs =
+copy-requires-else-b : tie.Need-copy-requires-else-b
+copy-requires-else-b c κs =
     let b = c.before.before in
-    let e = ap (λ (x : Bool). length (canonical (boolean x))) b.if1.false ∙ ap length false_form in
-    omega (arith, b.before.before.requires)
+    let e = ap (λ (x : Bool). length (canonical (boolean x))) b.if-b.false ∙ ap length false_form in
+    omega (arith, b.requires)
 
-returns : tie.Need-returns
-returns c =
+returns-then-b : tie.Need-returns-then-b
+returns-then-b c =
     let d = c.before.before in
-    rw (d.before.before.before.if1.true, true_form) d.copy.ensures
+    rw (d.if-b.true, true_form) d.copy.ensures
 
-returns-2 : tie.Need-returns-2
-returns-2 c =
+returns-else-b : tie.Need-returns-else-b
+returns-else-b c =
     let d = c.before.before in
-    rw (d.before.before.before.if1.false, false_form) d.copy2.ensures
+    rw (d.if-b.false, false_form) d.copy-else-b.ensures
 
-pub write-boolean-spec : {M : Type 1} → statement M
-write-boolean-spec =
-    tie.close (tie.spec (λ c. search rules) copy-requires (λ c. search rules) copy-requires-2 (λ c. search rules) returns (λ c. search rules)
-    returns-2)
+pub write_boolean_spec : {M : Type 1} → statement M
+write_boolean_spec =
+    tie.close (tie.spec copy-requires copy-requires-else-b (λ c. search rules) returns-then-b (λ c. search rules) returns-else-b)
