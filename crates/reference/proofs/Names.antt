@@ -28,6 +28,7 @@ one_of c (n ∷ ns) e =
 -- A name that stands in a list is found there by the test.
 pub one_of_these : (c : List ℕ) (ns : List (List ℕ)) → StandsIn c ns → is_one_of c ns ≡ true
 unfolding is_one_of
+one_of_these c [] x = elim x [ ]
 one_of_these c (n ∷ ns) first = rw (same_refl c)
 one_of_these c (n ∷ ns) (later p) = by_test (same c n) (λ f. rw f) (λ f. rw f (one_of_these c ns p))
 

@@ -1,5 +1,7 @@
 // References of ACON images (document 01, "References, names and rules"): read in place, in the strings of a JSON text or, for an
 // Image ID, in plain bytes.
+#![tactic(auto)]
+
 pub mod id;
 pub mod layer;
 pub mod rule;

@@ -6,33 +6,33 @@ use borrow.Author.Rules.{rules}
 use Rattle.reference.proofs.layer.read.Statement.{statement}
 use Rattle.reference.proofs.layer.read.Tie as tie
 
-returns : tie.Need-returns
-returns c = layer_one _ (at_last _ _ _ c.before.read.ensures c.if1.true)
+returns-then-first : tie.Need-returns-then-first
+returns-then-first c = layer_one _ (at_last _ _ _ c.read-first.ensures c.if-first.true)
 
-returns-3 : tie.Need-returns-3
-returns-3 c =
+returns-then-third : tie.Need-returns-then-third
+returns-then-third c =
     let z = c.before in
     let y = z.before in
     let x = y.before.before in
     let a = x.before.before.before in
     layer_three _ _ _ _ (three_parts _ _ _ _
-    (record { here = a.requires; first = x.before.read.ensures; more = x.if1.false; second = y.before.read2.ensures }) _
-    (record { here = x.before.read.ensures.inside; first = y.before.read2.ensures; more = y.if2.false; second = z.read3.ensures })
-    c.if3.true)
+    (record { here = a.requires; first = x.read-first.ensures; more = x.if-first.false; second = y.read-second.ensures }) _
+    (record { here = x.read-first.ensures.inside; first = y.read-second.ensures; more = y.if-second.false; second = z.read-third.ensures })
+    c.if-third.true)
 
-returns-5 : tie.Need-returns-5
-returns-5 c =
+returns : tie.Need-returns
+returns c =
     let z = c.before.before in
     let y = z.before.before in
     let x = y.before.before in
     let a = x.before.before.before in
     layer_five _ _ _ _ _ _ (past_four _ _ _ _
-    (record { here = a.requires; first = x.before.read.ensures; more = x.if1.false; second = y.before.read2.ensures }) _
-    (record { here = x.before.read.ensures.inside; first = y.before.read2.ensures; more = y.if2.false; second = z.before.read3.ensures }) _
-    (record { here = y.before.read2.ensures.inside; first = z.before.read3.ensures; more = z.if3.false; second = c.before.read4.ensures })
-    c.if4.false)
+    (record { here = a.requires; first = x.read-first.ensures; more = x.if-first.false; second = y.read-second.ensures }) _
+    (record { here = x.read-first.ensures.inside; first = y.read-second.ensures; more = y.if-second.false; second = z.read-third.ensures }) _
+    (record { here = y.read-second.ensures.inside; first = z.read-third.ensures; more = z.if-third.false; second = c.read-fourth.ensures })
+    c.if-fourth.false)
 
 pub read_spec : {M : Type 1} → statement M
 read_spec =
-    tie.close (tie.spec (λ c κs. search rules) returns (λ c κs. search rules) (λ c κs. search rules) (λ c. search rules) (λ c κs. search rules)
-    returns-3 (λ c κs. search rules) (λ c κs. search rules) (λ c. search rules) returns-5)
+    tie.close (tie.spec (λ c κs. search rules) returns-then-first (λ c κs. search rules) (λ c κs. search rules) (λ c. search rules) (λ c κs. search rules)
+    returns-then-third (λ c κs. search rules) (λ c κs. search rules) (λ c. search rules) returns)

@@ -8,28 +8,29 @@ use borrow.Author.Rules.{rules}
 use Rattle.reference.proofs.rule.is_manifest.Statement.{statement}
 use Rattle.reference.proofs.rule.is_manifest.Tie as tie
 
-returns : tie.Need-returns
+returns-then-is : tie.Need-returns-then-is
 unfolding is_manifest
-returns c = or_taken _ _ _ c.before.is.ensures c.if1.true
+returns-then-is c = or_taken _ _ _ c.is.ensures c.if-is.true
 
-returns-2 : tie.Need-returns-2
+returns-then-is_digest : tie.Need-returns-then-is_digest
 unfolding is_manifest
-returns-2 c =
+returns-then-is_digest c =
     let e = c.before.before in
     let a = e.before.before.before.before in
-    or_left _ _ _ _ e.before.is.ensures e.if1.false
-    (or_taken _ _ _ (c.before.is-digest.ensures ∙ digest_counted a.args.a _ a.args.p a.requires.1.counts) c.if2.true)
+    or_left _ _ _ _ e.is.ensures e.if-is.false
+    (or_taken _ _ _ (c.is_digest.ensures ∙ digest_counted a.args.a _ a.args.p a.requires.1.counts) c.if-is_digest.true)
 
-returns-3 : tie.Need-returns-3
+returns-else-is_digest : tie.Need-returns-else-is_digest
 unfolding is_manifest
-returns-3 c =
+returns-else-is_digest c =
     let f = c.before in
     let e = f.before.before in
     let a = e.before.before.before.before in
-    or_left _ _ _ _ e.before.is.ensures e.if1.false
-    (or_left _ _ _ _ (f.before.is-digest.ensures ∙ digest_counted a.args.a _ a.args.p a.requires.1.counts) f.if2.false
-    c.is-alias-part.ensures)
+    or_left _ _ _ _ e.is.ensures e.if-is.false
+    (or_left _ _ _ _ (f.is_digest.ensures ∙ digest_counted a.args.a _ a.args.p a.requires.1.counts) f.if-is_digest.false
+    c.is_alias_part.ensures)
 
-pub is-manifest-spec : {M : Type 1} → statement M
-is-manifest-spec =
-    tie.close (tie.spec (λ c. search rules) (λ c κs. search rules) (λ c κs. search rules) (λ c κs. search rules) returns returns-2 returns-3)
+pub is_manifest_spec : {M : Type 1} → statement M
+is_manifest_spec =
+    tie.close (tie.spec (λ c κs. search rules) (λ c κs. search rules) (λ c κs. search rules) returns-then-is returns-then-is_digest
+    returns-else-is_digest)

@@ -8,17 +8,17 @@ use borrow.Author.Rules.{rules}
 use Rattle.reference.proofs.rule.is_signer.Statement.{statement}
 use Rattle.reference.proofs.rule.is_signer.Tie as tie
 
-returns : tie.Need-returns
+returns-then-is : tie.Need-returns-then-is
 unfolding is_signer
-returns c = or_taken _ _ _ c.before.is.ensures c.if1.true
+returns-then-is c = or_taken _ _ _ c.is.ensures c.if-is.true
 
-returns-2 : tie.Need-returns-2
+returns-else-is : tie.Need-returns-else-is
 unfolding is_signer
-returns-2 c =
+returns-else-is c =
     let e = c.before in
     let a = e.before.before.before.before in
-    or_left _ _ _ _ e.before.is.ensures e.if1.false (c.is-digest.ensures ∙ digest_counted a.args.a _ a.args.p a.requires.1.counts)
+    or_left _ _ _ _ e.is.ensures e.if-is.false (c.is_digest.ensures ∙ digest_counted a.args.a _ a.args.p a.requires.1.counts)
 
-pub is-signer-spec : {M : Type 1} → statement M
-is-signer-spec =
-    tie.close (tie.spec (λ c. search rules) (λ c κs. search rules) (λ c κs. search rules) returns returns-2)
+pub is_signer_spec : {M : Type 1} → statement M
+is_signer_spec =
+    tie.close (tie.spec (λ c κs. search rules) (λ c κs. search rules) returns-then-is returns-else-is)

@@ -14,36 +14,36 @@ use borrow.Author.Rules.{rules}
 use Rattle.reference.proofs.rule.manifest_of.Statement.{statement}
 use Rattle.reference.proofs.rule.manifest_of.Tie as tie
 
-returns : tie.Need-returns
-returns c =
+returns-then-is : tie.Need-returns-then-is
+returns-then-is c =
     let a = c.before.before.before.before in
     let w = whole _ _ _ a.requires.1 a.requires.2 in
-    (tt, manifest_any _ a.args.a (sym (c.before.is.ensures ∙ ap (λ (x : List ℕ). same x star) w) ∙ c.if1.true))
+    (tt, manifest_any _ a.args.a (sym (c.is.ensures ∙ ap (λ (x : List ℕ). same x star) w) ∙ c.if-is.true))
 
-returns-2 : tie.Need-returns-2
-returns-2 c =
+returns-then-is_digest : tie.Need-returns-then-is_digest
+returns-then-is_digest c =
     let e = c.before.before in
     let a = e.before.before.before.before in
-    let d = sym (c.before.is-digest.ensures ∙ digest_counted a.args.a _ a.args.p a.requires.1.counts) ∙ c.if2.true in
+    let d = sym (c.is_digest.ensures ∙ digest_counted a.args.a _ a.args.p a.requires.1.counts) ∙ c.if-is_digest.true in
     let w = whole _ _ _ a.requires.1 a.requires.2 in (
       record { inside = a.requires.0; digest = d },
       ap (λ (x : List ℕ). manifest (digest_of x)) w
           ∙ manifest_one _ a.args.a
-          (sym (e.before.is.ensures ∙ ap (λ (x : List ℕ). same x star) w) ∙ e.if1.false)
+          (sym (e.is.ensures ∙ ap (λ (x : List ℕ). same x star) w) ∙ e.if-is.false)
           (sym (ap (is_digest a.args.a) w) ∙ d),
     )
 
-returns-3 : tie.Need-returns-3
-returns-3 c =
+returns : tie.Need-returns
+returns c =
     let e = c.before.before in
     let a = e.before.before.before.before in
     let w = whole _ _ _ a.requires.1 a.requires.2 in (
       a.requires.0,
       manifest_alias _ a.args.a
-          (sym (e.before.is.ensures ∙ ap (λ (x : List ℕ). same x star) w) ∙ e.if1.false)
-          (sym (c.before.is-digest.ensures ∙ digest_counted a.args.a _ a.args.p a.requires.1.counts ∙ ap (is_digest a.args.a) w) ∙ c.if2.false),
+          (sym (e.is.ensures ∙ ap (λ (x : List ℕ). same x star) w) ∙ e.if-is.false)
+          (sym (c.is_digest.ensures ∙ digest_counted a.args.a _ a.args.p a.requires.1.counts ∙ ap (is_digest a.args.a) w) ∙ c.if-is_digest.false),
     )
 
-pub manifest-of-spec : {M : Type 1} → statement M
-manifest-of-spec =
-    tie.close (tie.spec (λ c. search rules) (λ c κs. search rules) returns (λ c κs. search rules) returns-2 returns-3)
+pub manifest_of_spec : {M : Type 1} → statement M
+manifest_of_spec =
+    tie.close (tie.spec (λ c κs. search rules) returns-then-is (λ c κs. search rules) returns-then-is_digest returns)

@@ -6,15 +6,15 @@ use borrow.Author.Rules.{rules}
 use Rattle.reference.proofs.rule.signer_of.Statement.{statement}
 use Rattle.reference.proofs.rule.signer_of.Tie as tie
 
-returns : tie.Need-returns
-returns c = (tt, signer_any _ (sym c.before.is.ensures ∙ c.if1.true))
+returns-then-is : tie.Need-returns-then-is
+returns-then-is c = (tt, signer_any _ (sym c.is.ensures ∙ c.if-is.true))
 
-returns-2 : tie.Need-returns-2
-returns-2 c =
+returns : tie.Need-returns
+returns c =
     let a = c.before.before.before.before in
-    let e = sym c.before.is.ensures ∙ c.if1.false in
+    let e = sym c.is.ensures ∙ c.if-is.false in
     (record { inside = a.requires.0; digest = signer_digest _ a.args.a a.requires.2 e }, signer_one _ e)
 
-pub signer-of-spec : {M : Type 1} → statement M
-signer-of-spec =
-    tie.close (tie.spec (λ c. search rules) (λ c κs. search rules) returns returns-2)
+pub signer_of_spec : {M : Type 1} → statement M
+signer_of_spec =
+    tie.close (tie.spec (λ c κs. search rules) returns-then-is returns)

@@ -9,37 +9,37 @@ use borrow.Author.Tests.{not-true, not-false}
 use Rattle.reference.proofs.rule.under.Statement.{statement}
 use Rattle.reference.proofs.rule.under.Tie as tie
 
-returns : tie.Need-returns
-returns c = rule_no_signer _ _ _ (sym c.before.is-signer.ensures ∙ not-true _ c.if1.true)
+returns-then-not-is_signer : tie.Need-returns-then-not-is_signer
+returns-then-not-is_signer c = rule_no_signer _ _ _ (sym c.is_signer.ensures ∙ not-true _ c.if-not-is_signer.true-raw)
 
-returns-2 : tie.Need-returns-2
-returns-2 c =
+returns-then-not-is_manifest : tie.Need-returns-then-not-is_manifest
+returns-then-not-is_manifest c =
     let e = c.before.before in
     let a = e.before.before.before in
     let w = whole _ _ _ a.requires.0.second a.requires.1 in
-    rule_no_manifest _ _ _ (sym e.before.is-signer.ensures ∙ not-false _ e.if1.false)
-    (sym (c.before.is-manifest.ensures ∙ ap (is_manifest a.args.a) w) ∙ not-true _ c.if2.true)
+    rule_no_manifest _ _ _ (sym e.is_signer.ensures ∙ not-false _ e.if-not-is_signer.false-raw)
+    (sym (c.is_manifest.ensures ∙ ap (is_manifest a.args.a) w) ∙ not-true _ c.if-not-is_manifest.true-raw)
 
-signer-of-requires : tie.Need-signer-of-requires
-signer-of-requires c κs =
+signer_of-requires : tie.Need-signer_of-requires
+signer_of-requires c κs =
     let e = c.before.before in
     let a = e.before.before.before in
-    (a.requires.0.here, a.requires.0.first, sym e.before.is-signer.ensures ∙ not-false _ e.if1.false)
+    (a.requires.0.here, a.requires.0.first, sym e.is_signer.ensures ∙ not-false _ e.if-not-is_signer.false-raw)
 
-returns-3 : tie.Need-returns-3
-returns-3 c =
+returns : tie.Need-returns
+returns c =
     let g = c.before in
     let f = g.before in
     let e = f.before.before in
     let a = e.before.before.before in
     let w = whole _ _ _ a.requires.0.second a.requires.1 in (
-      g.signer-of.ensures.0,
-      c.manifest-of.ensures.0,
-      rule_accepts _ _ _ (sym e.before.is-signer.ensures ∙ not-false _ e.if1.false)
-          (sym (f.before.is-manifest.ensures ∙ ap (is_manifest a.args.a) w) ∙ not-false _ f.if2.false)
-          ∙ rw (← g.signer-of.ensures.1, ← c.manifest-of.ensures.1),
+      g.signer_of.ensures.0,
+      c.manifest_of.ensures.0,
+      rule_accepts _ _ _ (sym e.is_signer.ensures ∙ not-false _ e.if-not-is_signer.false-raw)
+          (sym (f.is_manifest.ensures ∙ ap (is_manifest a.args.a) w) ∙ not-false _ f.if-not-is_manifest.false-raw)
+          ∙ rw (← g.signer_of.ensures.1, ← c.manifest_of.ensures.1),
     )
 
 pub under_spec : {M : Type 1} → statement M
 under_spec =
-    tie.close (tie.spec (λ c κs. search rules) returns (λ c κs. search rules) returns-2 signer-of-requires (λ c κs. search rules) returns-3)
+    tie.close (tie.spec (λ c κs. search rules) returns-then-not-is_signer (λ c κs. search rules) returns-then-not-is_manifest signer_of-requires (λ c κs. search rules) returns)
