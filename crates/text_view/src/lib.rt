@@ -10,7 +10,7 @@ ghost use Rattle.text_view.specs.Cursor.{SomeArray, SomeElements, ElementsLeft, 
 ghost use Rattle.text_view.specs.Cursor.{GivesHead, FirstMember, NextMember, SomeMemberEnd};
 
 // What a value is; a boolean is told apart already.
-#[derive(Drop)]
+#[derive(Clone, Copy)]
 pub enum Kind {
     Null,
     Boolean(bool),
@@ -21,7 +21,7 @@ pub enum Kind {
 }
 
 // A whole number: its sign and its distance from 0.
-#[derive(Drop)]
+#[derive(Clone, Copy)]
 pub struct Whole {
     pub negative: bool,
     pub magnitude: u32,
@@ -30,14 +30,14 @@ pub struct Whole {
 pub mod value;
 
 // The elements of an array that are left: they stand from `at` on, each nested at most `depth` deep.
-#[derive(Drop)]
+#[derive(Clone, Copy)]
 pub struct Elements {
     pub at: usize,
     pub depth: usize,
 }
 
 // The next element's position with what is left after it, or the end.
-#[derive(Drop)]
+#[derive(Clone, Copy)]
 pub enum Element {
     At(usize, Elements),
     End,
@@ -82,14 +82,14 @@ impl Elements {
 }
 
 // The members of an object that are left, likewise.
-#[derive(Drop)]
+#[derive(Clone, Copy)]
 pub struct Members {
     pub at: usize,
     pub depth: usize,
 }
 
 // The next member, by the position of its key's quotation mark and that of its value, with what is left after it; or the end.
-#[derive(Drop)]
+#[derive(Clone, Copy)]
 pub enum Member {
     At {
         key: usize,
@@ -100,7 +100,7 @@ pub enum Member {
 }
 
 // The next member without what is left after it, or the end.
-#[derive(Drop)]
+#[derive(Clone, Copy)]
 pub enum Head {
     At { key: usize, value: usize },
     End,

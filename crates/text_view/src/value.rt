@@ -61,7 +61,7 @@ pub fn whole(s: &[u8], at: usize) -> Whole
 
 // An item of an array or an object: where it starts, where its value stands, and where the next item or the end mark is looked
 // for. At the end: the position after the end mark.
-#[derive(Drop)]
+#[derive(Clone, Copy)]
 pub enum Item {
     At {
         first: usize,
@@ -72,7 +72,7 @@ pub enum Item {
 }
 
 // An item without what follows it.
-#[derive(Drop)]
+#[derive(Clone, Copy)]
 pub enum Peek {
     At { first: usize, value: usize },
     End,
