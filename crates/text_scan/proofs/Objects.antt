@@ -10,7 +10,7 @@ use lib.Seq.{take-suc-set}
 use borrow.Rule.Slice.PartMut.{mid_of, put_mid, same_len_mid, mid_len, take_put}
 use Rattle.text_json.specs.Syntax.{Syntax, Char, Members, no_members, object, members, Member}
 use Rattle.text_json.specs.Read.{Read, found, stuck, and_then, spaces, read_listed, read_pair, read_string, read_word, read}
-use Rattle.text_json.specs.Content.{refused_string, unescape, quoted}
+use Rattle.text_json.specs.Content.{refused_string, unescape}
 use Rattle.text_json.specs.Size.{string_size}
 use Rattle.text_json.specs.Scan.{At, ScansToken as TokenScans}
 use Rattle.text_json.specs.declared.Scan.TheVariants.{Token, NoToken}

@@ -1,5 +1,7 @@
 // Reads a whole JSON text in one pass: is it one, which strings, numbers and keys are faulty, how long is its canonical form,
 // and are the keys of its objects in rising order.
+#![tactic(auto)]
+
 ghost use Rattle.std.specs.Prelude.{◌+◌, ◌*◌, ◌<◌, length, drop};
 ghost use Rattle.text_json.specs.Read.{read, read_text};
 ghost use Rattle.text_tokens.specs.Scanned.{ScansValue};

@@ -130,51 +130,51 @@ value_calls t = (
   scalar-reads.Learnt,
 )
 
-abbrev array-Inv-loop : array-lts.invariant-loop
+abbrev array-Inv-loop : array-lts.invariant-loop-f
 array-Inv-loop s at depth keys₀ spare₀ i₀ sum₀ keys spare i sum =
     arrays.ArrayScanned s at depth i sum × (length keys ≡ length keys₀) × (length spare ≡ length spare₀)
 
-abbrev array-μ-loop : array-lts.decreases-loop
+abbrev array-μ-loop : array-lts.decreases-loop-f
 array-μ-loop s at depth keys₀ spare₀ i₀ sum₀ keys spare i sum = length s - i
 
 -- a need or a place of `array`, at the measure t
 abbrev In-array : ℕ → (array-lts.Claims → In 3 array-kinds.ps → Out 3 array-kinds.ps array-kinds.r
-    → array-lts.invariant-loop → array-lts.decreases-loop → Type 0) → Type 0
+    → array-lts.invariant-loop-f → array-lts.decreases-loop-f → Type 0) → Type 0
 In-array t F = F (array_calls t) (at_measure array-kinds.ps μ_array array.Pre t) array.Post array-Inv-loop array-μ-loop
 
-array-skip-spaces-requires : (t : ℕ) → In-array t array-lts.Need-skip-spaces-requires
-array-skip-spaces-requires t c κs = c.before.before.before.requires.1.within
+array-skip-spaces-requires : (t : ℕ) → In-array t array-lts.Need-skip_spaces-i-requires
+array-skip-spaces-requires t c κs = c.requires.1.within
 
-array-add-plain : (t : ℕ) → In-array t array-lts.Need-overflow-add-plain
-array-add-plain t c = omega (arith, (c.before.stands.ensures.0 c.if1.true).0)
+array-add-plain : (t : ℕ) → In-array t array-lts.Need-overflow_add-i
+array-add-plain t c = omega (arith, (c.stands.ensures.0 c.if-stands.true).0)
 
-array-returns : (t : ℕ) → In-array t array-lts.Need-returns
+array-returns : (t : ℕ) → In-array t array-lts.Need-returns-then-stands
 array-returns t c =
-    let a = c.before.before.before.before.before.before.before.args in
-    let h = c.before.before.stands.ensures.0 c.before.if1.true in
+    let a = c.args in
+    let h = c.stands.ensures.0 c.if-stands.true in
     subst (ScansValue a.s.now (read_array a.depth (drop a.at a.s.now))) (sym c.plain.ensures)
-    (arrays.empty a.s.now a.at a.depth _ c.before.before.before.skip-spaces.ensures h.0 h.1)
+    (arrays.empty a.s.now a.at a.depth _ c.skip_spaces-i.ensures h.0 h.1)
 
-array-loop-holds : (t : ℕ) → In-array t array-lts.Need-loop-init
+array-loop-holds : (t : ℕ) → In-array t array-lts.Need-loop-f-init
 array-loop-holds t c =
-    let a = c.before.before.before.before.before.before.args in
-    let h = c.before.stands.ensures.1 c.if1.false in
-    (arrays.start a.s.now a.at a.depth _ c.before.before.skip-spaces.ensures h, refl, refl)
+    let a = c.args in
+    let h = c.stands.ensures.1 c.if-stands.false in
+    (arrays.start a.s.now a.at a.depth _ c.skip_spaces-i.ensures h, refl, refl)
 
-abbrev array-entry : (t : ℕ) → In-array t array-lts.At-loop → In-array t array-lts.Start
+abbrev array-entry : (t : ℕ) → In-array t array-lts.At-loop-f → In-array t array-lts.Start
 array-entry t l = l.before.before.before.before.before.before.before
 
-abbrev value-loop : (t : ℕ) → In-array t array-lts.After-inner → In-array t array-lts.At-loop
+abbrev value-loop : (t : ℕ) → In-array t array-lts.After-inner → In-array t array-lts.At-loop-f
 value-loop t v = v.before.before.before
 
-abbrev told-loop : (t : ℕ) → In-array t array-lts.After-known-told → In-array t array-lts.At-loop
-told-loop t k = k.before.before.before.before.before.before.before.before.before.before
+abbrev told-loop : (t : ℕ) → In-array t array-lts.In-Value → In-array t array-lts.At-loop-f
+told-loop t k = k.before.before.before.before.before.before.before.before
 
 array-inner-requires : (t : ℕ) → In-array t array-lts.Need-inner-requires
 array-inner-requires t c κs =
     let l = c.before.before in
     let b = (array-entry t l).requires in
-    let p = l.loop.invariant in (
+    let p = l.loop-f.invariant in (
       omega (arith, b.0),
       record {
         within = p.0.within;
@@ -186,451 +186,452 @@ array-inner-requires t c κs =
 
 -- both arrays of keys are as long as they were
 array_kept : (t : ℕ) (v : In-array t array-lts.After-inner) → let a = (array-entry t (value-loop t v)).args in
-    (length v.inner.new.1.1.1.0 ≡ length a.keys.now) × (length v.inner.new.1.1.1.1.0 ≡ length a.spare.now)
+    (length v.inner.new.keys ≡ length a.keys.now) × (length v.inner.new.spare ≡ length a.spare.now)
 array_kept t v =
-    let p = (value-loop t v).loop.invariant in
-    (v.inner.auto.1.1.1.0 ∙ p.1, v.inner.auto.1.1.1.1.0 ∙ p.2)
+    let p = (value-loop t v).loop-f.invariant in
+    (v.inner.auto.keys ∙ p.1, v.inner.auto.spare ∙ p.2)
 
-array-same-length : (t : ℕ) → In-array t array-lts.Need-same-length
-array-same-length t c = (array_kept t c.before.before.before.before.before.before.before).0
+array-same-length : (t : ℕ) → In-array t array-lts.Need-shape_of-keys-in-Stuck
+array-same-length t c = (array_kept t c.before.before.before.before.before).0
 
-array-same-length-2 : (t : ℕ) → In-array t array-lts.Need-same-length-2
-array-same-length-2 t c = (array_kept t c.before.before.before.before.before.before.before).1
+array-same-length-2 : (t : ℕ) → In-array t array-lts.Need-shape_of-spare-in-Stuck
+array-same-length-2 t c = (array_kept t c.before.before.before.before.before).1
 
-array-returns-2 : (t : ℕ) → In-array t array-lts.Need-returns-2
+array-returns-2 : (t : ℕ) → In-array t array-lts.Need-returns-in-Stuck
 array-returns-2 t c =
-    let v = c.before.before.before.before.before.before.before in
-    arrays.stuck_element (value-loop t v).loop.invariant.0 _ (rw c.before.e.given.1 at v.inner.ensures)
+    let v = c.before.before.before.before.before in
+    arrays.stuck_element (value-loop t v).loop-f.invariant.0 _ (rw c.in-Stuck.is at v.inner.ensures)
 
 -- the element that was read
-element : (t : ℕ) (c : In-array t array-lts.After-known-told) → let l = told-loop t c in let a = (array-entry t l).args in
-    IsValue a.s.now (read a.depth (drop l.loop.i a.s.now)) c.before.f.given.0.0
+element : (t : ℕ) (c : In-array t array-lts.In-Value) → let l = told-loop t c in let a = (array-entry t l).args in
+    IsValue a.s.now (read a.depth (drop l.loop-f.i a.s.now)) c.in-Value.f
 element t c =
     let l = told-loop t c in
     let a = (array-entry t l).args in
-    scans_value a.s.now (read a.depth (drop l.loop.i a.s.now)) c.before.f.given.0.0
-    (rw c.before.f.given.1 at c.before.before.before.before.before.before.before.inner.ensures)
+    scans_value a.s.now (read a.depth (drop l.loop-f.i a.s.now)) c.in-Value.f
+    (rw c.in-Value.is at c.inner.ensures)
 
-array-added-requires : (t : ℕ) → In-array t array-lts.Need-added-requires
+array-added-requires : (t : ℕ) → In-array t array-lts.Need-added-sum-requires
 array-added-requires t c κs =
     let k = c.before in
     let l = told-loop t k in
-    omega (arith, arrays.fits l.loop.inv.0 (element t k), (element t k).within, (array-entry t l).pre.1.short)
+    omega (arith, arrays.fits l.loop-f.invariant.0 (element t k), (element t k).within, (array-entry t l).requires.1.short)
 
-array-after-item-requires : (t : ℕ) → In-array t array-lts.Need-after-item-requires
+array-after-item-requires : (t : ℕ) → In-array t array-lts.Need-after_item-requires
 array-after-item-requires t c κs = (element t c.before.before).within
 
-array-returns-3 : (t : ℕ) → In-array t array-lts.Need-returns-3
+array-returns-3 : (t : ℕ) → In-array t array-lts.Need-returns-in-End
 array-returns-3 t c =
-    let k = c.before.before.before.before.before.before in
+    let k = c.before.before.before.before in
     let l = told-loop t k in
     let a = (array-entry t l).args in
     let x = read_array a.depth (drop a.at a.s.now) in
-    let e = c.before.before.before.before.added.ensures in
-    subst (λ (y : Summary). ScansValue a.s.now x (Value (record { end = c.before.end.given.0.0; count = 0; sum = y }))) (sym e)
-    (arrays.ends l.loop.inv.0 (element t k) _ (rw c.before.end.given.1 at c.before.before.before.after-item.ensures))
+    let e = c.added-sum.ensures in
+    subst (λ (y : Summary). ScansValue a.s.now x (Value (record { end = c.in-End.end; count = 0; sum = y }))) (sym e)
+    (arrays.ends l.loop-f.invariant.0 (element t k) _ (rw c.in-End.is at c.after_item.ensures))
 
-array-loop-less : (t : ℕ) → In-array t array-lts.Need-loop-smaller
+array-loop-less : (t : ℕ) → In-array t array-lts.Need-loop-f-smaller
 array-loop-less t c =
-    let k = c.before.before.before.before.before.before in
-    let w = rw c.before.j.given.1 at c.before.before.before.after-item.ensures in
-    omega (arith, arrays.later (told-loop t k).loop.invariant.0 (element t k), w.0, w.1)
+    let k = c.before.before.before.before in
+    let w = rw c.in-More.is at c.after_item.ensures in
+    omega (arith, arrays.later (told-loop t k).loop-f.invariant.0 (element t k), w.0, w.1)
 
-array-loop-again : (t : ℕ) → In-array t array-lts.Need-loop-preserved
+array-loop-again : (t : ℕ) → In-array t array-lts.Need-loop-f-preserved
 array-loop-again t c =
-    let k = c.before.before.before.before.before.before in
+    let k = c.before.before.before.before in
     let l = told-loop t k in
     let a = (array-entry t l).args in
-    let w = rw c.before.j.given.1 at c.before.before.before.after-item.ensures in
-    let p = arrays.goes_on l.loop.inv.0 (element t k) _ w in
-    let m = array_kept t c.before.before.before.before.before.before.before.before.before.before.before.before.before in
-    (subst (arrays.ArrayScanned a.s.now a.at a.depth _) (sym c.before.before.before.before.added.ensures) p, m.0, m.1)
+    let w = rw c.in-More.is at c.after_item.ensures in
+    let p = arrays.goes_on l.loop-f.invariant.0 (element t k) _ w in
+    let m = array_kept t c.before.before.before.before.before.before.before.before.before in
+    (subst (arrays.ArrayScanned a.s.now a.at a.depth _) (sym c.added-sum.ensures) p, m.0, m.1)
 
-array-returns-4 : (t : ℕ) → In-array t array-lts.Need-returns-4
+array-returns-4 : (t : ℕ) → In-array t array-lts.Need-returns-in-Stuck-after_item
 array-returns-4 t c =
-    let k = c.before.before.before.before.before.before in
-    arrays.sticks (told-loop t k).loop.invariant.0 (element t k) _ (rw c.before.e2.given.1 at c.before.before.before.after-item.ensures)
+    let k = c.before.before.before.before in
+    arrays.sticks (told-loop t k).loop-f.invariant.0 (element t k) _ (rw c.in-Stuck-after_item.is at c.after_item.ensures)
 
-abbrev object-Inv-loop : object-lts.invariant-loop
+abbrev object-Inv-loop : object-lts.invariant-loop-end
 object-Inv-loop s at depth keys₀ spare₀ i₀ sum₀ n₀ keys spare i sum n =
     objects.ObjectScanned s at depth i (take n keys) sum × (n ≤ length keys) × (length keys ≡ length keys₀) × (length spare ≡ length spare₀)
 
-abbrev object-μ-loop : object-lts.decreases-loop
+abbrev object-μ-loop : object-lts.decreases-loop-end
 object-μ-loop s at depth keys₀ spare₀ i₀ sum₀ n₀ keys spare i sum n = length s - i
 
 -- a need or a place of `object`, at the measure t
 abbrev In-object : ℕ → (object-lts.Claims → In 3 object-kinds.ps → Out 3 object-kinds.ps object-kinds.r
-    → object-lts.invariant-loop → object-lts.decreases-loop → Type 0) → Type 0
+    → object-lts.invariant-loop-end → object-lts.decreases-loop-end → Type 0) → Type 0
 In-object t F = F (object_calls t) (at_measure object-kinds.ps μ_object object.Pre t) object.Post object-Inv-loop object-μ-loop
 
-object-skip-spaces-requires : (t : ℕ) → In-object t object-lts.Need-skip-spaces-requires
-object-skip-spaces-requires t c κs = c.before.before.before.requires.1.0.within
+object-skip-spaces-requires : (t : ℕ) → In-object t object-lts.Need-skip_spaces-i-requires
+object-skip-spaces-requires t c κs = c.requires.1.0.within
 
-object-add-plain : (t : ℕ) → In-object t object-lts.Need-overflow-add-plain
-object-add-plain t c = omega (arith, (c.before.stands.ensures.0 c.if1.true).0)
+object-add-plain : (t : ℕ) → In-object t object-lts.Need-overflow_add-i
+object-add-plain t c = omega (arith, (c.stands.ensures.0 c.if-stands.true).0)
 
-object-returns : (t : ℕ) → In-object t object-lts.Need-returns
+object-returns : (t : ℕ) → In-object t object-lts.Need-returns-then-stands
 object-returns t c =
-    let a = c.before.before.before.before.before.before.before.args in
-    let h = c.before.before.stands.ensures.0 c.before.if1.true in
+    let a = c.args in
+    let h = c.stands.ensures.0 c.if-stands.true in
     let x = read_object a.depth (drop a.at a.s.now) in
-    let i = c.before.before.before.skip-spaces.ensures in
+    let i = c.skip_spaces-i.ensures in
     subst (λ (z : Scanned). ScansValue a.s.now x z × LeavesKeys a.s.now x a.keys.now z) (sym c.plain.ensures) (
       objects.empty a.s.now a.at a.depth _ i h.0 h.1,
       objects.empty_keys a.s.now a.at a.depth _ i h.0 h.1 a.keys.now,
     )
 
-object-loop-holds : (t : ℕ) → In-object t object-lts.Need-loop-init
+object-loop-holds : (t : ℕ) → In-object t object-lts.Need-loop-end-init
 object-loop-holds t c =
-    let a = c.before.before.before.before.before.before.args in
-    let h = c.before.stands.ensures.1 c.if1.false in
-    (objects.start a.s.now a.at a.depth _ c.before.before.skip-spaces.ensures h, omega arith, refl, refl)
+    let a = c.args in
+    let h = c.stands.ensures.1 c.if-stands.false in
+    (objects.start a.s.now a.at a.depth _ c.skip_spaces-i.ensures h, omega arith, refl, refl)
 
 object-key-requires : (t : ℕ) → In-object t object-lts.Need-key-requires
-object-key-requires t c κs = c.loop.invariant.0.within
+object-key-requires t c κs = c.loop-end.invariant.0.within
 
 object-mark-requires : (t : ℕ) → In-object t object-lts.Need-mark-requires
-object-mark-requires t c κs = c.before.before.before.before.loop.invariant.0.within
+object-mark-requires t c κs = c.loop-end.invariant.0.within
 
-object-same-length : (t : ℕ) → In-object t object-lts.Need-same-length
-object-same-length t c = c.before.before.before.before.loop.invariant.2
+object-same-length : (t : ℕ) → In-object t object-lts.Need-shape_of-keys-in-NoToken
+object-same-length t c = c.loop-end.invariant.2
 
-object-same-length-2 : (t : ℕ) → In-object t object-lts.Need-same-length-2
-object-same-length-2 t c = c.before.before.before.before.loop.invariant.3
+object-same-length-2 : (t : ℕ) → In-object t object-lts.Need-shape_of-spare-in-NoToken
+object-same-length-2 t c = c.loop-end.invariant.3
 
-object-returns-2 : (t : ℕ) → In-object t object-lts.Need-returns-2
+object-returns-2 : (t : ℕ) → In-object t object-lts.Need-returns-in-NoToken
 object-returns-2 t c =
-    let k = rw c.before.e.given.1 at c.before.before.before.key.ensures in
-    (objects.stuck_key c.before.before.before.before.loop.invariant.0 _ k.1, tt)
+    let k = rw c.in-NoToken.is at c.key.ensures in
+    (objects.stuck_key c.loop-end.invariant.0 _ k.1, tt)
 
-abbrev object-entry : (t : ℕ) → In-object t object-lts.At-loop → In-object t object-lts.Start
+abbrev object-entry : (t : ℕ) → In-object t object-lts.At-loop-end → In-object t object-lts.Start
 object-entry t l = l.before.before.before.before.before.before.before
 
-abbrev name-loop : (t : ℕ) → In-object t object-lts.After-mark → In-object t object-lts.At-loop
-name-loop t m = m.before.before.before.before.before
+abbrev name-loop : (t : ℕ) → In-object t object-lts.After-mark → In-object t object-lts.At-loop-end
+name-loop t m = m.before.before.before
 
-abbrev stored-loop : (t : ℕ) → In-object t object-lts.After-inner → In-object t object-lts.At-loop
-stored-loop t v = v.before.before.before.before.before.before.before.before
+abbrev stored-loop : (t : ℕ) → In-object t object-lts.After-inner → In-object t object-lts.At-loop-end
+stored-loop t v = v.before.before.before.before.before.before
 
-abbrev part-mark : (t : ℕ) → In-object t object-lts.After-known-told3 → In-object t object-lts.After-mark
-part-mark t k = k.before.before.before.before.before.before.before.before.before.before
+abbrev part-mark : (t : ℕ) → In-object t object-lts.In-Value → In-object t object-lts.After-mark
+part-mark t k = k.before.before.before.before.before.before.before.before
 
 -- the keys so far are few: a member has four bytes at least
-few_keys : (t : ℕ) (l : In-object t object-lts.At-loop) → l.loop.n ≤ 4096
+few_keys : (t : ℕ) (l : In-object t object-lts.At-loop-end) → l.loop-end.n ≤ 4096
 few_keys t l =
-    let p = l.loop.invariant.0 in
-    omega (arith, length-take-le l.loop.n l.loop.keys l.loop.invariant.1, p.from, p.within, (object-entry t l).requires.1.0.short)
+    let p = l.loop-end.invariant.0 in
+    omega (arith, length-take-le l.loop-end.n l.loop-end.keys l.loop-end.invariant.1, p.from, p.within, (object-entry t l).requires.1.0.short)
 
 -- the array of keys is as long as at the start
-space_left : (t : ℕ) (l : In-object t object-lts.At-loop) → let a = (object-entry t l).args in
-    length a.s.now < a.at + 4 * length l.loop.keys
-space_left t l = omega (arith, (object-entry t l).requires.1.1, l.loop.invariant.2)
+space_left : (t : ℕ) (l : In-object t object-lts.At-loop-end) → let a = (object-entry t l).args in
+    length a.s.now < a.at + 4 * length l.loop-end.keys
+space_left t l = omega (arith, (object-entry t l).requires.1.1, l.loop-end.invariant.2)
 
 -- the key that was read
-name : (t : ℕ) (m : In-object t object-lts.After-mark) → let l = name-loop t m in let g = m.before.before.end.given.0 in
-    objects.IsName (object-entry t l).args.s.now l.loop.i g.0 m.mark.result g.1.1.0
+name : (t : ℕ) (m : In-object t object-lts.After-mark) → let l = name-loop t m in let g = m.in-Token in
+    objects.IsName (object-entry t l).args.s.now l.loop-end.i g.end m.mark.result g.size
 name t m =
     let l = name-loop t m in
-    let k = rw m.before.before.end.given.1 at m.before.before.before.before.key.ensures in
-    objects.token_name (object-entry t l).args.s.now l.loop.i _ _ _ _ k.0 k.1 m.mark.ensures
+    let k = rw m.in-Token.is at m.key.ensures in
+    objects.token_name (object-entry t l).args.s.now l.loop-end.i _ _ _ _ k.0 k.1 m.mark.ensures
 
 -- there is a place for it
-free : (t : ℕ) (m : In-object t object-lts.After-mark) → (name-loop t m).loop.n < length (name-loop t m).loop.keys
+free : (t : ℕ) (m : In-object t object-lts.After-mark) → (name-loop t m).loop-end.n < length (name-loop t m).loop-end.keys
 free t m =
     let l = name-loop t m in
-    let k = objects.key_space l.loop.inv.0 (name t m) (length l.loop.keys) (space_left t l) in
-    omega (arith, length-take-le l.loop.n l.loop.keys l.loop.inv.1, k)
+    let k = objects.key_space l.loop-end.invariant.0 (name t m) (length l.loop-end.keys) (space_left t l) in
+    omega (arith, length-take-le l.loop-end.n l.loop-end.keys l.loop-end.invariant.1, k)
 
-object-cast-keys : (t : ℕ) → In-object t object-lts.Need-overflow-cast-keys
+object-cast-keys : (t : ℕ) → In-object t object-lts.Need-overflow_cast-keys
 object-cast-keys t c =
     let l = name-loop t c in
-    omega (arith, l.loop.inv.0.within, (object-entry t l).pre.1.0.short)
+    omega (arith, l.loop-end.invariant.0.within, (object-entry t l).requires.1.0.short)
 
-object-mul-keys : (t : ℕ) → In-object t object-lts.Need-overflow-mul-keys
-object-mul-keys t c = omega (arith, few_keys t c.before.before.before.before.before)
+object-mul-keys : (t : ℕ) → In-object t object-lts.Need-offset_bounds-keys-n
+object-mul-keys t c = omega (arith, few_keys t c.before.before.before)
 
-object-slice-write-keys : (t : ℕ) → In-object t object-lts.Need-slice-write-keys
+object-slice-write-keys : (t : ℕ) → In-object t object-lts.Need-bounds-keys-n
 object-slice-write-keys t c = free t c
 
-object-add-n : (t : ℕ) → In-object t object-lts.Need-overflow-add-n
-object-add-n t c = omega (arith, few_keys t c.before.before.before.before.before)
+object-add-n : (t : ℕ) → In-object t object-lts.Need-overflow_add-n
+object-add-n t c = omega (arith, few_keys t c.before.before.before)
 
-object-mul-inner : (t : ℕ) → In-object t object-lts.Need-overflow-mul-inner
-object-mul-inner t c = omega (arith, few_keys t c.before.before.before.before.before)
+object-mul-inner : (t : ℕ) → In-object t object-lts.Need-offset_bounds-keys-n-in-loop-end
+object-mul-inner t c = omega (arith, few_keys t c.before.before.before)
 
-object-sub-inner : (t : ℕ) → In-object t object-lts.Need-overflow-sub-inner
+object-sub-inner : (t : ℕ) → In-object t object-lts.Need-slice_bounds-inner-count
 object-sub-inner t c = simp length-set (omega (arith, free t c))
 
-object-part-inner-start : (t : ℕ) → In-object t object-lts.Need-slice-bounds-inner-start
+object-part-inner-start : (t : ℕ) → In-object t object-lts.Need-slice_bounds-inner-start
 object-part-inner-start t c = simp length-set (omega (arith, free t c))
 
 object-inner-requires : (t : ℕ) → In-object t object-lts.Need-inner-requires
 object-inner-requires t c κs =
     let m = c.before.before in
     let l = name-loop t m in
-    let b = (object-entry t l).pre in
-    let n = length-take-le l.loop.n l.loop.keys l.loop.inv.1 in
-    let e = objects.lent_length l.loop.keys l.loop.n l.loop.i (free t m) in (
+    let b = (object-entry t l).requires in
+    let n = length-take-le l.loop-end.n l.loop-end.keys l.loop-end.invariant.1 in
+    let e = objects.lent_length l.loop-end.keys l.loop-end.n l.loop-end.i (free t m) in (
       omega (arith, b.0),
       record {
         within = (name t m).within;
         short = b.1.0.short;
-        enough = omega (arith, e, objects.value_space l.loop.inv.0 (name t m) (length l.loop.keys) (space_left t l), n);
-        sorting = omega (arith, e, b.1.0.sorting, l.loop.inv.2, l.loop.inv.3);
+        enough = omega (arith, e, objects.value_space l.loop-end.invariant.0 (name t m) (length l.loop-end.keys) (space_left t l), n);
+        sorting = omega (arith, e, b.1.0.sorting, l.loop-end.invariant.2, l.loop-end.invariant.3);
       },
     )
 
 -- the array of keys once the member's value was read
 abbrev keys-after : (t : ℕ) → In-object t object-lts.After-inner → List ℕ
-keys-after t v = let l = (stored-loop t v).loop in objects.with_key l.keys l.n l.i v.inner.last.1.1.1.0
+keys-after t v = let l = (stored-loop t v).loop-end in objects.with_key l.keys l.n l.i v.inner.new.keys
 
 -- both arrays of keys are as long as they were
-keys_kept : (t : ℕ) (v : In-object t object-lts.After-inner) → length (keys-after t v) ≡ length (stored-loop t v).loop.keys
+keys_kept : (t : ℕ) (v : In-object t object-lts.After-inner) → length (keys-after t v) ≡ length (stored-loop t v).loop-end.keys
 keys_kept t v =
-    let l = (stored-loop t v).loop in
-    objects.stored_length l.keys l.n l.i (free t v.before.before.before) v.inner.new.1.1.1.0 v.inner.auto.1.1.1.0
+    let l = (stored-loop t v).loop-end in
+    objects.stored_length l.keys l.n l.i (free t v.before.before.before) v.inner.new.keys v.inner.auto.keys
 
 object_kept : (t : ℕ) (v : In-object t object-lts.After-inner) → let a = (object-entry t (stored-loop t v)).args in
-    (length (keys-after t v) ≡ length a.keys.now) × (length v.inner.new.1.1.1.1.0 ≡ length a.spare.now)
+    (length (keys-after t v) ≡ length a.keys.now) × (length v.inner.new.spare ≡ length a.spare.now)
 object_kept t v =
-    let p = (stored-loop t v).loop.invariant in
-    (keys_kept t v ∙ p.2, v.inner.auto.1.1.1.1.0 ∙ p.3)
+    let p = (stored-loop t v).loop-end.invariant in
+    (keys_kept t v ∙ p.2, v.inner.auto.spare ∙ p.3)
 
 -- the keys so far are those before, and the member's
-keys_stored : (t : ℕ) (v : In-object t object-lts.After-inner) → let l = (stored-loop t v).loop in
+keys_stored : (t : ℕ) (v : In-object t object-lts.After-inner) → let l = (stored-loop t v).loop-end in
     take (l.n + 1) (keys-after t v) ≡ take l.n l.keys ++ (l.i ∷ [])
 keys_stored t v =
-    let l = (stored-loop t v).loop in
-    objects.stored_keys l.keys l.n l.i (free t v.before.before.before) v.inner.new.1.1.1.0 v.inner.auto.1.1.1.0
+    let l = (stored-loop t v).loop-end in
+    objects.stored_keys l.keys l.n l.i (free t v.before.before.before) v.inner.new.keys v.inner.auto.keys
 
 -- how many they are
-count_stored : (t : ℕ) (v : In-object t object-lts.After-inner) → let l = (stored-loop t v).loop in
+count_stored : (t : ℕ) (v : In-object t object-lts.After-inner) → let l = (stored-loop t v).loop-end in
     length (take (l.n + 1) (keys-after t v)) ≡ l.n + 1
 count_stored t v =
-    let l = (stored-loop t v).loop in
+    let l = (stored-loop t v).loop-end in
     length-take-le (l.n + 1) (keys-after t v) (omega (arith, keys_kept t v, free t v.before.before.before))
 
-object-same-length-3 : (t : ℕ) → In-object t object-lts.Need-same-length-3
-object-same-length-3 t c = (object_kept t c.before.before.before.before.before.before.before).0
+object-same-length-3 : (t : ℕ) → In-object t object-lts.Need-shape_of-keys-in-Stuck
+object-same-length-3 t c = (object_kept t c.before.before.before.before.before).0
 
-object-same-length-4 : (t : ℕ) → In-object t object-lts.Need-same-length-4
-object-same-length-4 t c = (object_kept t c.before.before.before.before.before.before.before).1
+object-same-length-4 : (t : ℕ) → In-object t object-lts.Need-shape_of-spare-in-Stuck
+object-same-length-4 t c = (object_kept t c.before.before.before.before.before).1
 
-object-returns-3 : (t : ℕ) → In-object t object-lts.Need-returns-3
+object-returns-3 : (t : ℕ) → In-object t object-lts.Need-returns-in-Stuck
 object-returns-3 t c =
-    let v = c.before.before.before.before.before.before.before in
-    (objects.stuck_value (stored-loop t v).loop.invariant.0 (name t v.before.before.before) _ (rw c.before.e2.given.1 at v.inner.ensures), tt)
+    let v = c.before.before.before.before.before in
+    (objects.stuck_value (stored-loop t v).loop-end.invariant.0 (name t v.before.before.before) _ (rw c.in-Stuck.is at v.inner.ensures), tt)
 
 -- the member's value that was read
-part : (t : ℕ) (c : In-object t object-lts.After-known-told3)
+part : (t : ℕ) (c : In-object t object-lts.In-Value)
     → let m = part-mark t c in let a = (object-entry t (name-loop t m)).args in
-    IsValue a.s.now (read a.depth (drop m.before.before.end.given.0.0 a.s.now)) c.before.f.given.0.0
+    IsValue a.s.now (read a.depth (drop m.in-Token.end a.s.now)) c.in-Value.f
 part t c =
     let m = part-mark t c in
     let a = (object-entry t (name-loop t m)).args in
-    scans_value a.s.now (read a.depth (drop m.before.before.end.given.0.0 a.s.now)) c.before.f.given.0.0
-    (rw c.before.f.given.1 at c.before.before.before.before.before.before.before.inner.ensures)
+    scans_value a.s.now (read a.depth (drop m.in-Token.end a.s.now)) c.in-Value.f
+    (rw c.in-Value.is at c.inner.ensures)
 
 object-member-requires : (t : ℕ) → In-object t object-lts.Need-member-requires
 object-member-requires t c κs =
-    let m = part-mark t c in
-    let l = name-loop t m in
-    omega (arith, objects.fits l.loop.inv.0 (name t m) (part t c), (part t c).within, (object-entry t l).pre.1.0.short)
-
-object-added-requires : (t : ℕ) → In-object t object-lts.Need-added-requires
-object-added-requires t c κs =
     let k = c.before in
     let m = part-mark t k in
     let l = name-loop t m in
+    omega (arith, objects.fits l.loop-end.invariant.0 (name t m) (part t k), (part t k).within, (object-entry t l).requires.1.0.short)
+
+object-added-requires : (t : ℕ) → In-object t object-lts.Need-added-sum-requires
+object-added-requires t c κs =
+    let k = c.before.before in
+    let m = part-mark t k in
+    let l = name-loop t m in
     let n = objects.member_size _ _ _ _ c.member.ensures in
-    omega (arith, n, objects.fits l.loop.inv.0 (name t m) (part t k), (part t k).within, (object-entry t l).pre.1.0.short)
+    omega (arith, n, objects.fits l.loop-end.invariant.0 (name t m) (part t k), (part t k).within, (object-entry t l).requires.1.0.short)
 
-object-after-item-requires : (t : ℕ) → In-object t object-lts.Need-after-item-requires
-object-after-item-requires t c κs = (part t c.before.before).within
+object-after-item-requires : (t : ℕ) → In-object t object-lts.Need-after_item-requires
+object-after-item-requires t c κs = (part t c.before.before.before).within
 
-object-slice-relend-prefix-closed : (t : ℕ) → In-object t object-lts.Need-slice-relend-prefix-closed
+object-slice-relend-prefix-closed : (t : ℕ) → In-object t object-lts.Need-slice_bounds-closed-end
 object-slice-relend-prefix-closed t c =
-    let v = c.before.before.before.before.before.before.before.before.before.before.before.before.before in
+    let v = c.before.before.before.before.before.before.before.before.before.before in
     omega (arith, free t v.before.before.before, keys_kept t v)
 
-object-slice-aggregate-closed : (t : ℕ) → In-object t object-lts.Need-slice-aggregate-closed
+object-slice-aggregate-closed : (t : ℕ) → In-object t object-lts.Need-slice_bounds-closed-end-in-End
 object-slice-aggregate-closed t c =
-    let k = c.before.before.before.before.before.before.before in
-    omega (arith, count_stored t k.before.before.before.before.before.before.before)
+    let k = c.before.before.before.before.before.before in
+    omega (arith, count_stored t k.before.before.before.before.before)
 
 object-closed-requires : (t : ℕ) → In-object t object-lts.Need-closed-requires
 object-closed-requires t c κs =
-    let v = c.before.before.before.before.before.before.before.before.before.before.before.before.before.before.before in
+    let v = c.before.before.before.before.before.before.before.before.before.before.before.before in
     let l = stored-loop t v in
     let b = object-entry t l in (
-      subst (KeysAt b.args.s.now) (sym (keys_stored t v)) (objects.keys_now l.loop.inv.0 (name t v.before.before.before)),
-      omega (arith, count_stored t v, free t v.before.before.before, (object_kept t v).1, l.loop.inv.2, b.pre.1.0.sorting),
+      subst (KeysAt b.args.s.now) (sym (keys_stored t v)) (objects.keys_now l.loop-end.invariant.0 (name t v.before.before.before)),
+      omega (arith, count_stored t v, free t v.before.before.before, (object_kept t v).1, l.loop-end.invariant.2, b.requires.1.0.sorting),
     )
 
-object-same-length-5 : (t : ℕ) → In-object t object-lts.Need-same-length-5
+object-same-length-5 : (t : ℕ) → In-object t object-lts.Need-shape_of-keys-in-End
 object-same-length-5 t c =
     let d = c.before.before.before.before in
-    let v = d.before.before.before.before.before.before.before.before.before.before.before.before.before.before.before.before in
-    length_front _ d.closed.new.1.1.1.0 ((stored-loop t v).loop.n + 1) d.closed.auto.1.1.1.0 ∙ (object_kept t v).0
+    let v = d.before.before.before.before.before.before.before.before.before.before.before.before.before in
+    length_front _ d.closed.new.keys ((stored-loop t v).loop-end.n + 1) d.closed.auto.keys ∙ (object_kept t v).0
 
-object-same-length-6 : (t : ℕ) → In-object t object-lts.Need-same-length-6
+object-same-length-6 : (t : ℕ) → In-object t object-lts.Need-shape_of-spare-in-End
 object-same-length-6 t c =
     let d = c.before.before.before.before in
-    let v = d.before.before.before.before.before.before.before.before.before.before.before.before.before.before.before.before in
-    d.closed.auto.1.1.1.1.0 ∙ (object_kept t v).1
+    let v = d.before.before.before.before.before.before.before.before.before.before.before.before.before in
+    d.closed.auto.spare ∙ (object_kept t v).1
 
-object-returns-4 : (t : ℕ) → In-object t object-lts.Need-returns-4
+object-returns-4 : (t : ℕ) → In-object t object-lts.Need-returns-in-End
 object-returns-4 t c =
-    let d = c.before.before.before.before.closed in
-    let k = c.before.before.before.before.before.before.before.before.before.before.before.before.before in
+    let d = c.closed in
+    let k = c.before.before.before.before.before.before.before.before.before.before.before.before in
     let m = part-mark t k in
     let l = name-loop t m in
     let a = (object-entry t l).args in
-    let p = l.loop.inv.0 in
+    let p = l.loop-end.invariant.0 in
     let x = read_object a.depth (drop a.at a.s.now) in
-    let e = keys_stored t k.before.before.before.before.before.before.before in
-    let n = c.before.before.before.before.before.before.before.before.before.before in
-    let w = rw c.before.before.before.before.before.before.before.before.end2.given.1 at n.after-item.ensures in (
-      objects.closed_same a.s.now x _ _ _ _ l.loop.sum _ _ d.result d.ensures.0 n.before.added.ensures
-          n.before.before.member.ensures e (objects.ends p (name t m) (part t k) _ w),
-      closed_keys a.s.now x _ _ _ _ d.new.1.1.1.0 _ d.result d.ensures.0 d.ensures.1 d.auto.1.1.1.0 e
+    let e = keys_stored t k.before.before.before.before.before in
+    let n = c.before.before.before.before.before.before.before.before in
+    let w = rw c.in-End.is at n.after_item.ensures in (
+      objects.closed_same a.s.now x _ _ _ _ l.loop-end.sum _ _ d.result d.ensures.0 n.added-sum.ensures
+          n.member.ensures e (objects.ends p (name t m) (part t k) _ w),
+      closed_keys a.s.now x _ _ _ _ d.new.keys _ d.result d.ensures.0 d.ensures.1 d.auto.keys e
           (objects.ends_keys p (name t m) (part t k) _ w),
     )
 
-object-loop-less : (t : ℕ) → In-object t object-lts.Need-loop-smaller
+object-loop-less : (t : ℕ) → In-object t object-lts.Need-loop-end-smaller
 object-loop-less t c =
-    let k = c.before.before.before.before.before.before in
+    let k = c.before.before.before.before.before in
     let m = part-mark t k in
-    let w = rw c.before.j.given.1 at c.before.before.before.after-item.ensures in
-    omega (arith, objects.later (name-loop t m).loop.inv.0 (name t m) (part t k), (name t m).later, w.0, w.1)
+    let w = rw c.in-More.is at c.after_item.ensures in
+    omega (arith, objects.later (name-loop t m).loop-end.invariant.0 (name t m) (part t k), (name t m).later, w.0, w.1)
 
-object-loop-again : (t : ℕ) → In-object t object-lts.Need-loop-preserved
+object-loop-again : (t : ℕ) → In-object t object-lts.Need-loop-end-preserved
 object-loop-again t c =
-    let k = c.before.before.before.before.before.before in
-    let v = k.before.before.before.before.before.before.before in
+    let k = c.before.before.before.before.before in
+    let v = k.before.before.before.before.before in
     let m = part-mark t k in
     let l = name-loop t m in
     let a = (object-entry t l).args in
-    let w = rw c.before.j.given.1 at c.before.before.before.after-item.ensures in
-    let sum = c.before.before.before.before.added.ensures ∙ ap (plus l.loop.sum) c.before.before.before.before.before.member.ensures in (
+    let w = rw c.in-More.is at c.after_item.ensures in
+    let sum = c.added-sum.ensures ∙ ap (plus l.loop-end.sum) c.member.ensures in (
       subst₂ (objects.ObjectScanned a.s.now a.at a.depth _) (sym (keys_stored t v)) (sym sum)
-          (objects.goes_on l.loop.inv.0 (name t m) (part t k) _ w),
+          (objects.goes_on l.loop-end.invariant.0 (name t m) (part t k) _ w),
       omega (arith, free t m, keys_kept t v),
       (object_kept t v).0,
       (object_kept t v).1,
     )
 
-object-returns-5 : (t : ℕ) → In-object t object-lts.Need-returns-5
+object-returns-5 : (t : ℕ) → In-object t object-lts.Need-returns-in-Stuck-after_item
 object-returns-5 t c =
-    let k = c.before.before.before.before.before.before in
+    let k = c.before.before.before.before.before in
     let m = part-mark t k in
-    let w = rw c.before.e3.given.1 at c.before.before.before.after-item.ensures in
-    (objects.sticks (name-loop t m).loop.inv.0 (name t m) (part t k) _ w, tt)
+    let w = rw c.in-Stuck-after_item.is at c.after_item.ensures in
+    (objects.sticks (name-loop t m).loop-end.invariant.0 (name t m) (part t k) _ w, tt)
 
 -- a need or a place of `inner`, at the measure t
 abbrev In-inner : ℕ → (inner-lts.Claims → In 3 inner-kinds.ps → Out 3 inner-kinds.ps inner-kinds.r → Type 0) → Type 0
 In-inner t F = F (inner_calls t) (at_measure inner-kinds.ps μ_inner inner.Pre t) inner.Post
 
-inner-returns : (t : ℕ) → In-inner t inner-lts.Need-returns
+inner-returns : (t : ℕ) → In-inner t inner-lts.Need-returns-then-stands
 inner-returns t c =
-    let a = c.before.before.before.before.before.before.args in
-    let h = c.before.before.stands.ensures.0 c.before.if1.true in
+    let a = c.args in
+    let h = c.stands.ensures.0 c.if-stands.true in
     let p = scalar_string a.s.now a.at h.0 c.string.result h.1 c.string.ensures in
     is_scalar a.s.now a.at a.depth c.string.result p h.0 (λ e. omega arith) (λ e. omega arith)
 
 inner-value-requires : (t : ℕ) → In-inner t inner-lts.Need-value-requires
 inner-value-requires t c κs =
-    let b = c.before.before.before.before.before.before.before.requires in
+    let b = c.requires in
     (omega (arith, b.0), b.1)
 
-inner-returns-2 : (t : ℕ) → In-inner t inner-lts.Need-returns-2
-inner-returns-2 t c = c.before.before.before.before.value.ensures
+inner-returns-2 : (t : ℕ) → In-inner t inner-lts.Need-returns
+inner-returns-2 t c = c.value.ensures
 
 -- a need or a place of `value`, at the measure t
 abbrev In-value : ℕ → (value-lts.Claims → In 3 value-kinds.ps → Out 3 value-kinds.ps value-kinds.r → Type 0) → Type 0
 In-value t F = F (value_calls t) (at_measure value-kinds.ps μ_value value.Pre t) value.Post
 
-value-shared-slice-read-b : (t : ℕ) → In-value t value-lts.Need-shared-slice-read-b
-value-shared-slice-read-b t c = c.before.before.if1.true
+value-shared-slice-read-b : (t : ℕ) → In-value t value-lts.Need-bounds-s-at
+value-shared-slice-read-b t c = c.if-at-s.true
 
-value-add-array : (t : ℕ) → In-value t value-lts.Need-overflow-add-array
-value-add-array t c = omega (arith, c.before.before.before.if1.true)
+value-add-array : (t : ℕ) → In-value t value-lts.Need-overflow_add-at
+value-add-array t c = omega (arith, c.if-at-s.true)
 
-value-sub-array : (t : ℕ) → In-value t value-lts.Need-overflow-sub-array
-value-sub-array t c = omega (arith, c.before.before.if2.true)
+value-sub-array : (t : ℕ) → In-value t value-lts.Need-overflow_sub-depth
+value-sub-array t c = omega (arith, c.if-depth-gt0.true)
 
 value-array-requires : (t : ℕ) → In-value t value-lts.Need-array-requires
 value-array-requires t c κs =
-    let b = c.before.before.before.before.before.before.before.before.before.requires in
-    let h = c.before.before.before.before.before.if1.true in (
-      omega (arith, b.0, c.before.before.before.before.if2.true),
+    let b = c.requires in
+    let h = c.if-at-s.true in (
+      omega (arith, b.0, c.if-depth-gt0.true),
       record { within = omega arith; short = b.1.short; enough = omega (arith, b.1.enough); sorting = b.1.sorting },
     )
 
-value-same-length : (t : ℕ) → In-value t value-lts.Need-same-length
-value-same-length t c = c.before.before.before.before.array.auto.1.1.1.0
+value-same-length : (t : ℕ) → In-value t value-lts.Need-shape_of-keys-then-b-eq91
+value-same-length t c = c.array.auto.keys
 
-value-same-length-2 : (t : ℕ) → In-value t value-lts.Need-same-length-2
-value-same-length-2 t c = c.before.before.before.before.array.auto.1.1.1.1.0
+value-same-length-2 : (t : ℕ) → In-value t value-lts.Need-shape_of-spare-then-b-eq91
+value-same-length-2 t c = c.array.auto.spare
 
-value-returns : (t : ℕ) → In-value t value-lts.Need-returns
+value-returns : (t : ℕ) → In-value t value-lts.Need-returns-then-b-eq91
 value-returns t c =
     let b = c.before.before.before.before.before.before.before in
-    is_an_array _ _ _ _ b.before.before.before.if1.true b.before.before.if2.true b.if3.true c.before.before.before.before.array.ensures
+    is_an_array _ _ _ _ b.if-at-s.true b.if-depth-gt0.true b.if-b-eq91.true c.array.ensures
 
-value-add-object : (t : ℕ) → In-value t value-lts.Need-overflow-add-object
-value-add-object t c = omega (arith, c.before.before.before.before.if1.true)
+value-add-object : (t : ℕ) → In-value t value-lts.Need-overflow_add-at-then-b-eq123
+value-add-object t c = omega (arith, c.if-at-s.true)
 
-value-sub-object : (t : ℕ) → In-value t value-lts.Need-overflow-sub-object
-value-sub-object t c = omega (arith, c.before.before.before.if2.true)
+value-sub-object : (t : ℕ) → In-value t value-lts.Need-overflow_sub-depth-then-b-eq123
+value-sub-object t c = omega (arith, c.if-depth-gt0.true)
 
 value-object-requires : (t : ℕ) → In-value t value-lts.Need-object-requires
 value-object-requires t c κs =
-    let b = c.before.before.before.before.before.before.before.before.before.before.requires in
-    let h = c.before.before.before.before.before.before.if1.true in (
-      omega (arith, b.0, c.before.before.before.before.before.if2.true),
+    let b = c.requires in
+    let h = c.if-at-s.true in (
+      omega (arith, b.0, c.if-depth-gt0.true),
       (
         record { within = omega arith; short = b.1.short; enough = omega (arith, b.1.enough); sorting = b.1.sorting },
         omega (arith, b.1.enough),
       ),
     )
 
-value-same-length-3 : (t : ℕ) → In-value t value-lts.Need-same-length-3
-value-same-length-3 t c = c.before.before.before.before.object.auto.1.1.1.0
+value-same-length-3 : (t : ℕ) → In-value t value-lts.Need-shape_of-keys-then-b-eq123
+value-same-length-3 t c = c.object.auto.keys
 
-value-same-length-4 : (t : ℕ) → In-value t value-lts.Need-same-length-4
-value-same-length-4 t c = c.before.before.before.before.object.auto.1.1.1.1.0
+value-same-length-4 : (t : ℕ) → In-value t value-lts.Need-shape_of-spare-then-b-eq123
+value-same-length-4 t c = c.object.auto.spare
 
-value-returns-2 : (t : ℕ) → In-value t value-lts.Need-returns-2
+value-returns-2 : (t : ℕ) → In-value t value-lts.Need-returns-then-b-eq123
 value-returns-2 t c =
     let b = c.before.before.before.before.before.before.before in
     let e = b.before.before.before in
-    is_an_object _ _ _ _ e.before.if1.true e.if2.true b.if4.true c.before.before.before.before.object.ensures.0
+    is_an_object _ _ _ _ e.if-at-s.true e.if-depth-gt0.true b.if-b-eq123.true c.object.ensures.0
 
 value-scalar-requires : (t : ℕ) → In-value t value-lts.Need-scalar-requires
-value-scalar-requires t c κs = c.before.before.before.before.requires.1.within
+value-scalar-requires t c κs = c.requires.1.within
 
-value-returns-3 : (t : ℕ) → In-value t value-lts.Need-returns-3
+value-returns-3 : (t : ℕ) → In-value t value-lts.Need-returns
 value-returns-3 t c =
-    let a = c.before.before.before.before.before.args in
+    let a = c.args in
     let r = c.scalar in
-    ⊎_elim (λ w. is_scalar a.s.now a.at a.depth r.result r.ensures w.0.taken w.3.left w.4.left)
+    ⊎_elim (λ w. is_scalar a.s.now a.at a.depth r.result r.ensures w.if-at-s.true w.if-b-eq91.false w.if-b-eq123.false)
     (⊎_elim
-    (λ w. at_bottom a.s.now a.at a.depth r.result r.ensures w.1.left)
-    (λ w. at_the_end a.s.now a.at a.depth r.result r.ensures w.left))
-    c.before.if1.branch
+    (λ w. at_bottom a.s.now a.at a.depth r.result r.ensures w.if-depth-gt0.false)
+    (λ w. at_the_end a.s.now a.at a.depth r.result r.ensures w.if-at-s.false))
+    c.if-at-s.branch-raw
 
-pub +array-inner-object-value-spec : {M : Type 1} → statement M
-+array-inner-object-value-spec =
+pub +array_inner_object_value_spec : {M : Type 1} → statement M
++array_inner_object_value_spec =
     close μ_array μ_inner μ_object μ_value (λ t. array-lts.spec (array_calls t) (at_measure array-kinds.ps μ_array array.Pre t) array.Post array-Inv-loop
     array-μ-loop (array-skip-spaces-requires t) (λ c κs. search rules) (array-add-plain t) (λ c κs. search rules) (array-returns t)
     (array-loop-holds t) (array-inner-requires t) (λ c. search rules) (λ c. search rules) (array-same-length t) (array-same-length-2 t)
     (array-returns-2 t) (array-added-requires t) (array-after-item-requires t) (λ c. search rules)
-    (λ c. (array_kept t c.before.before.before.before.before.before.before.before.before.before.before.before.before).0)
-    (λ c. (array_kept t c.before.before.before.before.before.before.before.before.before.before.before.before.before).1)
+    (λ c. (array_kept t c.before.before.before.before.before.before.before.before.before).0)
+    (λ c. (array_kept t c.before.before.before.before.before.before.before.before.before).1)
     (array-returns-3 t) (λ c. search rules) (array-loop-less t) (array-loop-again t) (λ c. search rules)
-    (λ c. (array_kept t c.before.before.before.before.before.before.before.before.before.before.before.before.before).0)
-    (λ c. (array_kept t c.before.before.before.before.before.before.before.before.before.before.before.before.before).1)
+    (λ c. (array_kept t c.before.before.before.before.before.before.before.before.before).0)
+    (λ c. (array_kept t c.before.before.before.before.before.before.before.before.before).1)
     (array-returns-4 t)) (λ t. inner-lts.spec (inner_calls t) (at_measure inner-kinds.ps μ_inner inner.Pre t) inner.Post (λ c κs. search rules)
     (λ c κs. search rules) (inner-returns t) (inner-value-requires t) (λ c. search rules) (λ c. search rules) (inner-returns-2 t))
     (λ t. object-lts.spec (object_calls t) (at_measure object-kinds.ps μ_object object.Pre t) object.Post object-Inv-loop
@@ -642,8 +643,8 @@ pub +array-inner-object-value-spec : {M : Type 1} → statement M
     (object-after-item-requires t) (λ c. search rules) (object-slice-relend-prefix-closed t) (object-slice-aggregate-closed t)
     (object-closed-requires t) (object-same-length-5 t) (object-same-length-6 t) (object-returns-4 t) (λ c. search rules) (object-loop-less t)
     (object-loop-again t) (λ c. search rules)
-    (λ c. (object_kept t c.before.before.before.before.before.before.before.before.before.before.before.before.before).0)
-    (λ c. (object_kept t c.before.before.before.before.before.before.before.before.before.before.before.before.before).1)
+    (λ c. (object_kept t c.before.before.before.before.before.before.before.before.before.before).0)
+    (λ c. (object_kept t c.before.before.before.before.before.before.before.before.before.before).1)
     (object-returns-5 t)) λ t. value-lts.spec (value_calls t) (at_measure value-kinds.ps μ_value value.Pre t) value.Post (value-shared-slice-read-b t)
     (value-add-array t) (value-sub-array t) (value-array-requires t) (value-same-length t) (value-same-length-2 t) (value-returns t)
     (value-add-object t) (value-sub-object t) (value-object-requires t) (value-same-length-3 t) (value-same-length-4 t) (value-returns-2 t)

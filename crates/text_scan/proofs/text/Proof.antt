@@ -11,48 +11,48 @@ use Rattle.text_scan.proofs.text.Tie as tie
 
 root-requires : tie.Need-root-requires
 root-requires c κs =
-    let p = c.before.before.before.before.before.before.requires in
-    record { within = c.before.before.skip-spaces.ensures.1.0; short = p.short; enough = omega (arith, p.enough); sorting = p.sorting }
+    let p = c.requires in
+    record { within = c.skip_spaces-at.ensures.1.0; short = p.short; enough = omega (arith, p.enough); sorting = p.sorting }
 
-returns : tie.Need-returns
-returns c = (
-  text_stuck _ _ c.before.before.before.before.before.before.before.before.before.before.skip-spaces.ensures.1 _
-      (rw c.before.e.given.1 at c.before.before.before.before.before.before.before.root.ensures).0,
+returns-in-Stuck : tie.Need-returns-in-Stuck
+returns-in-Stuck c = (
+  text_stuck _ _ c.skip_spaces-at.ensures.1 _
+      (rw c.in-Stuck.is at c.root.ensures).0,
   tt,
 )
 
 -- the value that was read
-abbrev answer : (c : tie.After-known-told) → Type 0
+abbrev answer : (c : tie.In-Value) → Type 0
 answer c =
-    let s = c.before.before.before.before.before.before.before.before.before.before.before.before.before.before.args.s.now in
-    let at = c.before.before.before.before.before.before.before.before.before.before.skip-spaces.result in
-    IsValue s (read 8 (drop at s)) c.before.f.given.0.0
+    let s = c.args.s.now in
+    let at = c.skip_spaces-at.result in
+    IsValue s (read 8 (drop at s)) c.in-Value.f
 
-val : (c : tie.After-known-told) → answer c
+val : (c : tie.In-Value) → answer c
 val c =
-    let s = c.before.before.before.before.before.before.before.before.before.before.before.before.before.before.args.s.now in
-    scans_value s (read 8 (drop c.before.before.before.before.before.before.before.before.before.before.skip-spaces.result s))
-    c.before.f.given.0.0 (rw c.before.f.given.1 at c.before.before.before.before.before.before.before.root.ensures).0
+    let s = c.args.s.now in
+    scans_value s (read 8 (drop c.skip_spaces-at.result s))
+    c.in-Value.f (rw c.in-Value.is at c.root.ensures).0
 
-skip-spaces-requires-2 : tie.Need-skip-spaces-requires-2
-skip-spaces-requires-2 c κs = (val c).within
+skip_spaces-end-requires : tie.Need-skip_spaces-end-requires
+skip_spaces-end-requires c κs = (val c).within
 
-returns-2 : tie.Need-returns-2
-returns-2 c = (
-  text_junk _ _ c.before.before.before.before.before.before.before.before.before.before.before.before.skip-spaces.ensures.1 _
-      (val c.before.before) _ c.before.skip-spaces2.ensures.1 c.if1.true,
+returns-then-end-s : tie.Need-returns-then-end-s
+returns-then-end-s c = (
+  text_junk _ _ c.skip_spaces-at.ensures.1 _
+      (val c.before.before) _ c.skip_spaces-end.ensures.1 c.if-end-s.true,
   tt,
 )
 
-returns-3 : tie.Need-returns-3
-returns-3 c =
-    let p = c.before.before.before.before.before.before.before.before.before.before.before.before.before.skip-spaces.ensures.1 in (
-      text_whole _ _ p _ (val c.before.before.before) _ c.before.before.skip-spaces2.ensures.1 c.before.if1.false,
-      text_keys _ _ _ _ p (rw c.before.before.before.before.f.given.1 at
-          c.before.before.before.before.before.before.before.before.before.before.root.ensures).1,
+returns : tie.Need-returns
+returns c =
+    let p = c.skip_spaces-at.ensures.1 in (
+      text_whole _ _ p _ (val c.before.before.before) _ c.skip_spaces-end.ensures.1 c.if-end-s.false,
+      text_keys _ _ _ _ p (rw c.in-Value.is at
+          c.root.ensures).1,
     )
 
-pub text-spec : {M : Type 1} → statement M
-text-spec =
-    tie.close (tie.spec (λ c κs. search rules) root-requires (λ c. search rules) (λ c. search rules) (λ c. search rules) (λ c. search rules) returns
-    skip-spaces-requires-2 (λ c. search rules) (λ c. search rules) returns-2 (λ c. search rules) (λ c. search rules) returns-3)
+pub text_spec : {M : Type 1} → statement M
+text_spec =
+    tie.close (tie.spec (λ c κs. search rules) root-requires (λ c. search rules) (λ c. search rules) (λ c. search rules) (λ c. search rules) returns-in-Stuck
+    skip_spaces-end-requires (λ c. search rules) (λ c. search rules) returns-then-end-s (λ c. search rules) (λ c. search rules) returns)
