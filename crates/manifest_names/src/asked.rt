@@ -12,7 +12,7 @@ ghost use Rattle.manifest_fields.specs.FieldTests.{found_members};
 ghost use Rattle.manifest_heads.specs.Contents.{Named, named_under, named_in, stands_elsewhere};
 ghost use Rattle.manifest_heads.specs.Heads.{HeadsOf};
 ghost use Rattle.manifest_heads.specs.Placed.{SortedContents, SomeContents};
-ghost use Rattle.manifest_names.specs.Asked.{Against, alias, passes as passesBy};
+ghost use Rattle.manifest_names.specs.Asked.{Against, alias, passes as passes_by};
 ghost use Rattle.manifest_names.specs.Groups.{Grouped, AliasGroup, AliasList};
 
 use manifest_fields::member::Found;
@@ -62,7 +62,7 @@ fn passes(
 ) -> bool
     requires { Against asked s.now keys.now names.now × HeadsOf s.now names.now heads.now × Inside t.now q × Inside t.now k }
     ensures { (i : Against asked s.now keys.now names.now)
-        → result ≡ passesBy asked _ _ _ i (alias t.now q k) }
+        → result ≡ passes_by asked _ _ _ i (alias t.now q k) }
 {
     match asked {
         Asked::Shared => has_headed(s, names, heads, t, q),
@@ -84,7 +84,7 @@ fn any_listed(
 ) -> bool
     requires { Against asked s.now keys.now names.now × HeadsOf s.now names.now heads.now × Inside t.now k × AliasList t.now at depth }
     ensures { (i : Against asked s.now keys.now names.now) (vs : Values) → ValueAt t.now at depth (array vs)
-        → result ≡ any_of (passesBy asked _ _ _ i) (named_under (content_from t.now k) (texts vs)) }
+        → result ≡ any_of (passes_by asked _ _ _ i) (named_under (content_from t.now k) (texts vs)) }
 {
     let mut left = Elements::new(t, at, depth);
     loop {
@@ -114,7 +114,7 @@ fn any_grouped(
     requires { Against asked s.now keys.now names.now × HeadsOf s.now names.now heads.now × AliasGroup t.now at depth }
     ensures { (i : Against asked s.now keys.now names.now) (fs : Fields)
         → ValueAt t.now at depth (object fs)
-        → result ≡ any_of (passesBy asked _ _ _ i) (named_in fs) }
+        → result ≡ any_of (passes_by asked _ _ _ i) (named_in fs) }
 {
     let mut left = Members::new(t, at, depth);
     loop {
@@ -142,7 +142,7 @@ pub fn any(
 ) -> bool
     requires { Against asked s.now keys.now names.now × HeadsOf s.now names.now heads.now × Grouped t.now 6 group }
     ensures { (i : Against asked s.now keys.now names.now) (o : Option Value) → Finds t.now 6 o group
-        → result ≡ any_of (passesBy asked _ _ _ i) (named_in (found_members o)) }
+        → result ≡ any_of (passes_by asked _ _ _ i) (named_in (found_members o)) }
 {
     match group {
         Found::Missing => false,

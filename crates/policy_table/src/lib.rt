@@ -3,7 +3,7 @@ ghost use Rattle.std.specs.Prelude.{◌≡◌, ◌+◌, ◌*◌, ◌^◌, ◌≤
 ghost use Rattle.policy_marks.specs.Words.{row_of, guards_in, rows_in};
 ghost use Rattle.store_record.specs.Reading.{images_in};
 ghost use Rattle.store_names.specs.Opened.{OpenedStore};
-ghost use Rattle.policy_rows.specs.Accepting.{guards as guardsOf, marks};
+ghost use Rattle.policy_rows.specs.Accepting.{guards as guards_of, marks};
 
 use manifest::Places;
 use policy_marks::Table;
@@ -13,7 +13,7 @@ use store_record::{MOST_IMAGES, Survey};
 // The guards, as a row of marks.
 fn guards(b: &[u8], v: Survey, places: [Places; MOST_IMAGES]) -> u64
     requires { OpenedStore b.now v places }
-    ensures result_value { row_of v.count result ≡ guardsOf (images_in b.now v) }
+    ensures result_value { row_of v.count result ≡ guards_of (images_in b.now v) }
     ensures upper_bound { result < 2 ^ v.count }
 {
     let mut word = 0;
@@ -42,7 +42,7 @@ pub fn table(
     own: &mut [u16],
 ) -> Table
     requires { OpenedStore b.now v places × (length at.old ≡ 4096) × (4096 ≤ length order.old) × (4096 ≤ length own.old) }
-    ensures { (result.count ≡ v.count) × (guards_in result ≡ guardsOf (images_in b.now v)) × (rows_in result ≡ marks (images_in b.now v)) }
+    ensures { (result.count ≡ v.count) × (guards_in result ≡ guards_of (images_in b.now v)) × (rows_in result ≡ marks (images_in b.now v)) }
 {
     let mut counts = [0u16; MOST_IMAGES];
     store_names::place_all(b, v, places, own, at, &mut counts);
