@@ -313,14 +313,14 @@ among_this : (k j : List ℕ) (js : List (List ℕ)) → k ≡ j → among k (j 
 unfolding among
 among_this k j js e = let f : same k j ≡ true = ap (same k) (sym e) ∙ same_refl k in rw (f, among)
 
-key_below_among : (earlier : List (List ℕ)) {p : List ℕ} {cs : List Char} {ms : Members} → KeyOf p cs ms → among (unescape cs) earlier ≡ true
+key_below_among : {p : List ℕ} {cs : List Char} (earlier : List (List ℕ)) {ms : Members} → KeyOf p cs ms → among (unescape cs) earlier ≡ true
     → length p ≤ repeated earlier ms
 unfolding repeated
-key_below_among earlier {p} {cs} this_key e = let f = mark_length (among (unescape cs) earlier) p e in omega arith
-key_below_among earlier {cs = cs} (later_key {ds = ds} k) e =
+key_below_among {p} {cs} earlier this_key e = let f = mark_length (among (unescape cs) earlier) p e in omega arith
+key_below_among {cs = cs} earlier (later_key {ds = ds} k) e =
     let h = key_below_among (unescape ds ∷ earlier) k (among_more (unescape cs) (unescape ds) earlier e) in omega arith
 
-repeats_below : (earlier : List (List ℕ)) {p : List ℕ} {ms : Members} → Repeats p ms → length p ≤ repeated earlier ms
+repeats_below : {p : List ℕ} (earlier : List (List ℕ)) {ms : Members} → Repeats p ms → length p ≤ repeated earlier ms
 unfolding repeated
 repeats_below earlier (equal_key {cs = cs} {ds} k e) =
     let h = key_below_among (unescape ds ∷ earlier) k (among_this (unescape cs) (unescape ds) earlier e) in omega arith

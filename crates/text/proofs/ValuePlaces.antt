@@ -36,6 +36,7 @@ module _ {Inner : List ℕ → Syntax → List ℕ → Type 0} (inner_ends : (s 
   element_places : {s r p : List ℕ} {ts : List Syntax} {u : Syntax} → Items Inner 0x5D s ts r → AmongElements u (elements ts) → Begins p u → Ends p s
   unfolding elements
   element_places (Items.last i q h) (this_element w) b = inner_places _ _ _ i _ _ w b
+  element_places (Items.last i q h) (later_element w) b = elim w [ ]
   element_places (Items.next i q h j k) (this_element w) b = inner_places _ _ _ i _ _ w b
   element_places (Items.next i q h j k) (later_element w) b =
       ends_trans (ends_trans (element_places k w b) (space_ends j)) (ends_trans (ends_trans (word_ends h) (space_ends q)) (inner_ends _ _ _ i))
@@ -51,6 +52,7 @@ module _ {Inner : List ℕ → Syntax → List ℕ → Type 0} (inner_ends : (s 
   members_places : {s r p : List ℕ} {ms : List Member} {u : Syntax} → Items (Pair Inner) 0x7D s ms r → AmongMembers u (members ms) → Begins p u → Ends p s
   unfolding members
   members_places (Items.last i q h) (this_member w) b = member_places i w b
+  members_places (Items.last i q h) (later_member w) b = elim w [ ]
   members_places (Items.next i q h j k) (this_member w) b = member_places i w b
   members_places (Items.next i q h j k) (later_member w) b =
       ends_trans (ends_trans (members_places k w b) (space_ends j)) (ends_trans (ends_trans (word_ends h) (space_ends q)) (pair_ends inner_ends _ _ _ i))
@@ -58,6 +60,7 @@ module _ {Inner : List ℕ → Syntax → List ℕ → Type 0} (inner_ends : (s 
   keys_places : {s r p : List ℕ} {ms : List Member} {cs : List Char} → Items (Pair Inner) 0x7D s ms r → KeyOf p cs (members ms) → Ends p s
   unfolding members
   keys_places (Items.last i q h) this_key = key_place i
+  keys_places (Items.last i q h) (later_key l) = elim l [ ]
   keys_places (Items.next i q h j k) this_key = key_place i
   keys_places (Items.next i q h j k) (later_key l) =
       ends_trans (ends_trans (keys_places k l) (space_ends j)) (ends_trans (ends_trans (word_ends h) (space_ends q)) (pair_ends inner_ends _ _ _ i))
@@ -65,14 +68,17 @@ module _ {Inner : List ℕ → Syntax → List ℕ → Type 0} (inner_ends : (s 
   listed_elements : {s r p : List ℕ} {ts : List Syntax} {u : Syntax} → Listed Inner 0x5D s ts r → AmongElements u (elements ts) → Begins p u → Ends p s
   unfolding elements
   listed_elements (Listed.items q k) w b = ends_trans (element_places k w b) (space_ends q)
+  listed_elements (Listed.empty _ _) w b = elim w [ ]
 
   listed_members : {s r p : List ℕ} {ms : List Member} {u : Syntax} → Listed (Pair Inner) 0x7D s ms r → AmongMembers u (members ms) → Begins p u → Ends p s
   unfolding members
   listed_members (Listed.items q k) w b = ends_trans (members_places k w b) (space_ends q)
+  listed_members (Listed.empty _ _) w b = elim w [ ]
 
   listed_keys : {s r p : List ℕ} {ms : List Member} {cs : List Char} → Listed (Pair Inner) 0x7D s ms r → KeyOf p cs (members ms) → Ends p s
   unfolding members
   listed_keys (Listed.items q k) l = ends_trans (keys_places k l) (space_ends q)
+  listed_keys (Listed.empty _ _) l = elim l [ ]
 
   nested_places : (s : List ℕ) (t : Syntax) (r : List ℕ) → Nested Inner s t r → (p : List ℕ) (u : Syntax) → Within u t → Begins p u → Ends p s
   nested_places s t r (Nested.is_scalar q) p u w b = scalar_places q w b
@@ -115,6 +121,7 @@ module _ {Inner : List ℕ → Syntax → List ℕ → Type 0}
       → Begins p u → Quoted p u
   unfolding elements
   elements_quoted p (Items.last i q h) (this_element w) b = inner_quoted _ _ _ i p _ w b
+  elements_quoted p (Items.last i q h) (later_element w) b = elim w [ ]
   elements_quoted p (Items.next i q h j k) (this_element w) b = inner_quoted _ _ _ i p _ w b
   elements_quoted p (Items.next i q h j k) (later_element w) b = elements_quoted p k w b
 
@@ -125,6 +132,7 @@ module _ {Inner : List ℕ → Syntax → List ℕ → Type 0}
       → Begins p u → Quoted p u
   unfolding members
   members_quoted p (Items.last i q h) (this_member w) b = member_quoted p i w b
+  members_quoted p (Items.last i q h) (later_member w) b = elim w [ ]
   members_quoted p (Items.next i q h j k) (this_member w) b = member_quoted p i w b
   members_quoted p (Items.next i q h j k) (later_member w) b = members_quoted p k w b
 
@@ -134,6 +142,7 @@ module _ {Inner : List ℕ → Syntax → List ℕ → Type 0}
   keys_quoted : {s r p : List ℕ} {ms : List Member} {cs : List Char} → Items (Pair Inner) 0x7D s ms r → KeyOf p cs (members ms) → starts (eqb 0x22) p ≡ true
   unfolding members
   keys_quoted (Items.last i q h) this_key = key_quoted i
+  keys_quoted (Items.last i q h) (later_key l) = elim l [ ]
   keys_quoted (Items.next i q h j k) this_key = key_quoted i
   keys_quoted (Items.next i q h j k) (later_key l) = keys_quoted k l
 
@@ -141,17 +150,20 @@ module _ {Inner : List ℕ → Syntax → List ℕ → Type 0}
       → Quoted p u
   unfolding elements
   listed_elements_quoted p (Listed.items q k) w b = elements_quoted p k w b
+  listed_elements_quoted p (Listed.empty _ _) w b = elim w [ ]
 
   listed_members_quoted : (p : List ℕ) {s r : List ℕ} {ms : List Member} {u : Syntax} → Listed (Pair Inner) 0x7D s ms r
       → AmongMembers u (members ms) → Begins p u
       → Quoted p u
   unfolding members
   listed_members_quoted p (Listed.items q k) w b = members_quoted p k w b
+  listed_members_quoted p (Listed.empty _ _) w b = elim w [ ]
 
   listed_keys_quoted : {s r p : List ℕ} {ms : List Member} {cs : List Char} → Listed (Pair Inner) 0x7D s ms r → KeyOf p cs (members ms)
       → starts (eqb 0x22) p ≡ true
   unfolding members
   listed_keys_quoted (Listed.items q k) l = keys_quoted k l
+  listed_keys_quoted (Listed.empty _ _) l = elim l [ ]
 
   nested_quoted : (s : List ℕ) (t : Syntax) (r : List ℕ) → Nested Inner s t r → (p : List ℕ) (u : Syntax) → Within u t → Begins p u → Quoted p u
   nested_quoted s t r (Nested.is_scalar q) p u w b = scalar_quoted p q w b

@@ -1,4 +1,6 @@
 // JSON texts as document 01 takes them: checked by questions 1 to 6, and written in canonical form.
+#![tactic(auto)]
+
 ghost use Rattle.std.specs.Prelude.{◌≡◌, ◌++◌, ◌-◌, ◌≤◌, length, drop};
 ghost use Rattle.text.specs.Keys.{KeySpace, RootKeys, FormReady, refused_text, with_count};
 ghost use Rattle.text.specs.Answer.{fault_number, fault_place, checked, by_tree, by_faults, is_form, form, canonical_number, canonical_length, canonical_bytes};

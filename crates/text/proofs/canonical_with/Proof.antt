@@ -8,61 +8,60 @@ use Rattle.text.proofs.Places.{refused_place, accepted_place}
 use Rattle.text.proofs.canonical_with.Statement.{statement}
 use Rattle.text.proofs.canonical_with.Tie as tie
 
-abbrev start : tie.After-check-with → tie.Start
+abbrev start : tie.After-check_with-known → tie.Start
 start k = k.before.before.before.before.before.before.before
 
-returns : tie.Need-returns
-returns c =
-    let k = c.before.before.before.before.before.before.before.before.before.before.before.before in
+returns-then-out-length : tie.Need-returns-then-out-length
+returns-then-out-length c =
+    let k = c.before.before.before.before.before.before.before.before.before.before in
     let s = (start k).args.text.now in
     let out = (start k).args.out.now in
-    let e = sym k.check-with.ensures.0 ∙ c.before.before.before.before.before.before.answer2.given.1 in
-    let r = c.before.before.refused-at2.ensures in
-    let n = too_small s out _ _ e c.before.before.before.before.if1.true in
+    let e = sym k.check_with-known.ensures.0 ∙ c.in-Accepted.is in
+    let r = c.refused_at-then-out-length.ensures in
+    let n = too_small s out _ _ e c.if-out-length.true in
     (r.0.0 ∙ n, (r.0.1 ∙ refused_length s out 20 (omega arith) n, (r.1 ∙ refused_bytes s out 20 (omega arith) n, r.0.2 ∙ accepted_place s _ _ e)))
 
-write-form-requires : tie.Need-write-form-requires
-write-form-requires c κs =
-    let k = c.before.before.before.before.before.before.before.before.before.before.before in
+write_form-requires : tie.Need-write_form-requires
+write_form-requires c κs =
+    let k = c.before.before.before.before.before.before.before.before.before in
     let s = (start k).args.text.now in
     let out = (start k).args.out.now in
-    let g = c.before.before.before.before.before.answer2.given.1 in
-    let e = sym k.check-with.ensures.0 ∙ g in
-    let l = k.check-with.auto.1 in
+    let g = c.in-Accepted.is in
+    let e = sym k.check_with-known.ensures.0 ∙ g in
+    let l = k.check_with-known.auto in
     let space = (start k).requires in
     record {
       taken = accepted_number s out _ _ e;
-      fits = omega (arith, accepted_length s _ _ e, c.before.before.before.if1.false);
-      space = record { enough = omega (arith, l.0, space.enough); sorting = omega (arith, l.0, l.1.0, space.sorting) };
-      sorted = (rw g at k.check-with.ensures.1).1;
+      fits = omega (arith, accepted_length s _ _ e, c.if-out-length.false);
+      space = record { enough = omega (arith, l.keys, space.enough); sorting = omega (arith, l.keys, l.spare, space.sorting) };
+      sorted = (rw g at k.check_with-known.ensures.1).1;
     }
 
-returns-2 : tie.Need-returns-2
-returns-2 c =
-    let k = c.before.before.before.before.before.before.before.before.before.before.before.before.before in
+returns-in-Refused : tie.Need-returns-in-Refused
+returns-in-Refused c =
+    let k = c.before.before.before.before.before.before.before.before.before.before.before in
     let s = (start k).args.text.now in
     let out = (start k).args.out.now in
-    let g = c.before.before.before.before.before.before.before.answer.given in
-    let e = sym k.check-with.ensures.0 ∙ g.1 in
-    let r = c.before.before.refused-at.ensures in
-    let n = c.before.before.before.before.number.ensures ∙ refused_number s out g.0.0 e in
-    let h = refused_positive g.0.0 _ c.before.before.before.before.number.ensures in
-    let p = c.before.before.before.place.ensures ∙ refused_place s g.0.0 e in
+    let e = sym k.check_with-known.ensures.0 ∙ c.in-Refused.is in
+    let r = c.refused_at.ensures in
+    let n = c.number.ensures ∙ refused_number s out c.in-Refused.fault e in
+    let h = refused_positive c.in-Refused.fault _ c.number.ensures in
+    let p = c.place.ensures ∙ refused_place s c.in-Refused.fault e in
     (r.0.0 ∙ n, (r.0.1 ∙ refused_length s out _ h n, (r.1 ∙ refused_bytes s out _ h n, r.0.2 ∙ p)))
 
-returns-3 : tie.Need-returns-3
-returns-3 c =
-    let k = c.before.before.before.before.before.before.before.before.before.before.before.before.before.before.before.before.before.before in
+returns-else-out-length : tie.Need-returns-else-out-length
+returns-else-out-length c =
+    let k = c.before.before.before.before.before.before.before.before.before.before.before.before.before.before.before.before in
     let s = (start k).args.text.now in
     let out = (start k).args.out.now in
     let f = c.before.before.before.before.before.before.before.before.before.before in
-    let e = sym k.check-with.ensures.0 ∙ f.before.before.answer2.given.1 in
-    let h = f.if1.false in
-    let r = c.before.before.before.before.before.before.write-form.ensures in
+    let e = sym k.check_with-known.ensures.0 ∙ f.in-Accepted.is in
+    let h = f.if-out-length.false in
+    let r = c.write_form.ensures in
     (r.0.0 ∙ done_number s out _ _ e h, (r.0.1 ∙ done_length s out _ _ e h, (r.1 ∙ done_bytes s out _ _ e h, r.0.2 ∙ accepted_place s _ _ e)))
 
-pub canonical-with-spec : {M : Type 1} → statement M
-canonical-with-spec =
+pub canonical_with_spec : {M : Type 1} → statement M
+canonical_with_spec =
     tie.close (tie.spec (λ c κs. search rules) (λ c. search rules) (λ c κs. search rules) (λ c κs. search rules) (λ c κs. search rules) (λ c. search rules)
-    (λ c κs. search rules) (λ c. search rules) (λ c. search rules) (λ c. search rules) returns write-form-requires (λ c. search rules)
-    (λ c. search rules) (λ c. search rules) returns-2 (λ c. search rules) (λ c. search rules) (λ c. search rules) returns-3)
+    (λ c κs. search rules) (λ c. search rules) (λ c. search rules) (λ c. search rules) returns-then-out-length write_form-requires (λ c. search rules)
+    (λ c. search rules) (λ c. search rules) returns-in-Refused (λ c. search rules) (λ c. search rules) (λ c. search rules) returns-else-out-length)

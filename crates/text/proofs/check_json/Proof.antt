@@ -14,28 +14,27 @@ use Rattle.text.proofs.check_json.Tie as tie
 
 text-requires : tie.Need-text-requires
 text-requires c κs =
-    let b = c.before.before.before.before.before.requires in
+    let b = c.requires in
     record { within = omega arith; short = b.0; enough = omega (arith, b.0, b.1.enough); sorting = b.1.sorting }
+
+returns-in-Stuck : tie.Need-returns-in-Stuck
+returns-in-Stuck c =
+    let s = c.args.text.now in
+    let r = rw c.in-Stuck.is at c.text.ensures in
+    refused_keys s _ _ _ _ c.refusal.ensures (stuck_at s (read_text 8 s) _ (scans_stuck s (read_text 8 s) _ r.0))
 
 returns : tie.Need-returns
 returns c =
-    let s = c.before.before.before.before.before.before.before.before.before.before.before.before.before.before.args.text.now in
-    let r = rw c.before.before.at.given.1 at c.before.before.before.before.before.before.before.before.text.ensures in
-    refused_keys s _ _ _ _ c.refusal.ensures (stuck_at s (read_text 8 s) _ (scans_stuck s (read_text 8 s) _ r.0))
-
-returns-2 : tie.Need-returns-2
-returns-2 c =
-    let s = c.before.before.before.before.before.before.before.before.before.before.before.before.before.before.before.before.before.args.text.now in
-    let g = c.before.before.before.before.before.f.given in
-    let f = g.0.0 in
-    let r = rw g.1 at c.before.before.before.before.before.before.before.before.before.before.before.text.ensures in
+    let s = c.args.text.now in
+    let f = c.in-Value.f in
+    let r = rw c.in-Value.is at c.text.ensures in
     let v = scans_value s (read_text 8 s) f r.0 in
-    let flag = c.before.before.is-form.ensures v.tree v.sum in
-    let e = c.before.by-faults.ensures v.tree v.sum ∙ ap (λ (b : Bool). by_faults (length s) b v.tree) flag ∙ told_by_tree s f v in
-    let k = root_keys s _ c.before.by-faults.result f.count _ c.with-count.ensures (own_keys s f v) r.1 in
+    let flag = c.is_form-canonical.ensures v.tree v.sum in
+    let e = c.by_faults-answer.ensures v.tree v.sum ∙ ap (λ (b : Bool). by_faults (length s) b v.tree) flag ∙ told_by_tree s f v in
+    let k = root_keys s _ c.by_faults-answer.result f.count _ c.with_count.ensures (own_keys s f v) r.1 in
     (k.0 ∙ e, k.1)
 
-pub check-json-spec : {M : Type 1} → statement M
-check-json-spec =
-    tie.close (tie.spec text-requires (λ c. search rules) (λ c. search rules) (λ c κs. search rules) (λ c. search rules) (λ c. search rules) returns
-    (λ c κs. search rules) (λ c κs. search rules) (λ c κs. search rules) (λ c. search rules) (λ c. search rules) returns-2)
+pub check_json_spec : {M : Type 1} → statement M
+check_json_spec =
+    tie.close (tie.spec text-requires (λ c. search rules) (λ c. search rules) (λ c κs. search rules) (λ c. search rules) (λ c. search rules) returns-in-Stuck
+    (λ c κs. search rules) (λ c κs. search rules) (λ c κs. search rules) (λ c. search rules) (λ c. search rules) returns)

@@ -5,12 +5,12 @@ use Rattle.text.proofs.Outcome.{accepted_flag, refused_flag}
 use Rattle.text.proofs.is_canonical.Statement.{statement}
 use Rattle.text.proofs.is_canonical.Tie as tie
 
-returns : tie.Need-returns
-returns c = accepted_flag _ _ _ (sym c.before.before.before.check.ensures ∙ c.before.canonical.given.1)
+returns-in-Accepted : tie.Need-returns-in-Accepted
+returns-in-Accepted c = accepted_flag _ _ _ (sym c.check.ensures ∙ c.in-Accepted.is)
 
-returns-2 : tie.Need-returns-2
-returns-2 c = sym (refused_flag _ _ (sym c.before.before.check.ensures ∙ c.enum_told.given.1))
+returns-in-Refused : tie.Need-returns-in-Refused
+returns-in-Refused c = sym (refused_flag _ _ (sym c.check.ensures ∙ c.in-Refused.is))
 
-pub is-canonical-spec : {M : Type 1} → statement M
-is-canonical-spec =
-    tie.close (tie.spec (λ c κs. search rules) (λ c. search rules) (λ c. search rules) returns returns-2)
+pub is_canonical_spec : {M : Type 1} → statement M
+is_canonical_spec =
+    tie.close (tie.spec (λ c κs. search rules) (λ c. search rules) (λ c. search rules) returns-in-Accepted returns-in-Refused)
