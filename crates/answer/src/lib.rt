@@ -1,4 +1,6 @@
 // What a call answers, and a refusal, which changes no byte of what it was lent.
+#![tactic(auto)]
+
 ghost use Rattle.std.specs.Prelude.{◌≡◌};
 
 // The number of document 01's table, 0 where the call is done; and the call's first value, as the length of its output.

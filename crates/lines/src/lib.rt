@@ -1,4 +1,6 @@
 // Where a line or a word of some bytes ends.
+#![tactic(auto)]
+
 ghost use Rattle.std.specs.Prelude.{◌≤◌, length};
 ghost use Rattle.lines.specs.First.{FirstFrom};
 

@@ -1,4 +1,6 @@
 // The answer of judge for a table: how many pairs there are, and the report.
+#![tactic(auto)]
+
 ghost use Rattle.std.specs.Prelude.{◌*◌, ◌≤◌, ◌<◌, length};
 ghost use Rattle.policy_marks.specs.Marks.{closed};
 ghost use Rattle.policy_marks.specs.Pairs.{pairs_of};

@@ -1,4 +1,6 @@
 // Who accepts whom, in words of 64 bits: the closure of such a table, and the report that is read off it.
+#![tactic(auto)]
+
 ghost use Rattle.std.specs.Prelude.{◌≡◌, ◌≤◌, ◌<◌};
 ghost use Rattle.policy_marks.specs.Marks.{closed_at, closed};
 ghost use Rattle.policy_marks.specs.Words.{bit_at, rows_of};

@@ -7,7 +7,7 @@ use native.Mathlib.Omega.{arith}
 use mir.Val.{Val}
 use denote.Laws.{Is}
 use denote.Struct.Declared.{row}
-use lib.ListN.{length, get_or, length-map}
+use lib.ListN.{length, get_or}
 use borrow.Author.Tests.{eq-eqb, ne_eqb}
 use Rattle.policy_marks.specs.Pairs.{Pair, pairs_with, pairs_from, pairs_where, pairs_in, is_reported}
 use Rattle.policy_marks.specs.Words.{bit_at, row_of, rows_of, guards_in, rows_in}
@@ -17,7 +17,7 @@ use Rattle.policy_marks.proofs.Words.{row_length, row_bit, mark_bit}
 
 -- A table of at most 64 images has a row for each: what owning it, as a parameter `t`, tells.
 pub rows_fit : (t : Table) {vs : List Val} → Is (row the_type) t vs → t.count ≤ 64 → t.count ≤ length t.rows
-rows_fit t g h = let e : length t.rows ≡ 64 = sym (length-map t.rows _) ∙ g.1.1.1.1.0.1.0.1 in omega arith
+rows_fit t g h = let e : length t.rows ≡ 64 = g.1.1.1.1.0.1.0.1 in omega arith
 
 -- a pair of a table is reported
 abbrev pub reported : Table → ℕ → ℕ → Bool

@@ -1,4 +1,6 @@
 // The pairs of a table: counted, and written as a report.
+#![tactic(auto)]
+
 ghost use Rattle.std.specs.Prelude.{◌≡◌, ◌++◌, ℕ, ◌*◌, ◌≤◌, ◌<◌, length, drop};
 ghost use Rattle.policy_marks.specs.Pairs.{pairs_with, pairs_in, is_reported, report_of};
 ghost use Rattle.policy_marks.specs.Words.{guards_in, rows_in, row_of, rows_of};

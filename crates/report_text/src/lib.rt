@@ -1,4 +1,6 @@
 // The lines of a report as bytes: those of its input, taken from the parts in which the input comes, and those that are printed.
+#![tactic(auto)]
+
 pub mod print;
 
 ghost use Rattle.std.specs.Prelude.{◌+◌, ◌≤◌, min, ◌≡◌, length, drop};

@@ -74,7 +74,7 @@ fn feed(part: &[u8], kept: &mut [u8], store: &mut [u8], out: &mut [u8], t: State
     t
 }
 
-// Reads standard input to its end, in the parts in which it comes.
+// Reads standard input to its end, in parts.
 fn read_all(part: &mut [u8], kept: &mut [u8], store: &mut [u8], out: &mut [u8]) -> State
     requires { 64 ≤ length out.old }
     ensures { Within (length kept.old) (length out.old) result }
@@ -88,12 +88,12 @@ fn read_all(part: &mut [u8], kept: &mut [u8], store: &mut [u8], out: &mut [u8]) 
     // a loop has to end, and nothing says that an input does: no run uses up so many turns
     let mut turns = u64::MAX;
     while 0 < turns {
-        let got = libc::read(0, part);
-        let n = io::count(got, part);
-        if n == 0 {
+        // the part is full, but where a read has told the end of the input
+        let n = io::read_full(0, part);
+        t = feed(&part[..n], kept, store, out, t);
+        if n < part.len() {
             return t;
         }
-        t = feed(&part[..n], kept, store, out, t);
         turns -= 1;
     }
     t

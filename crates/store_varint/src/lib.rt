@@ -1,4 +1,6 @@
 // Numbers in groups of seven bits: their length, writing and reading them.
+#![tactic(auto)]
+
 ghost use Rattle.std.specs.Prelude.{◌≡◌, ◌++◌, ◌≤◌, length, drop};
 ghost use Rattle.store_varint.specs.Varint.{varint};
 ghost use Rattle.store_varint.specs.Reading.{Reads};

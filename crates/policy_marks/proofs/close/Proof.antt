@@ -10,28 +10,28 @@ use Rattle.policy_marks.proofs.Words.{rows_length}
 use Rattle.policy_marks.proofs.close.Statement.{statement}
 use Rattle.policy_marks.proofs.close.Tie as tie
 
-abbrev invariant-loop : tie.invariant-loop
+abbrev invariant-loop : tie.invariant-loop-k
 invariant-loop count closed₀ k₀ closed k = (k ≤ count) × (rows_of count closed ≡ closed_below k (rows_of count closed₀))
 
-abbrev decreases-loop : tie.decreases-loop
+abbrev decreases-loop : tie.decreases-loop-k
 decreases-loop count closed₀ k₀ closed k = count - k
 
-loop-holds : tie.Need-loop-init invariant-loop decreases-loop
+loop-k-init : tie.Need-loop-k-init invariant-loop decreases-loop
 unfolding closed_below
-loop-holds c = (omega arith, refl)
+loop-k-init c = (omega arith, refl)
 
-loop-again : tie.Need-loop-preserved invariant-loop decreases-loop
-loop-again c =
+loop-k-preserved : tie.Need-loop-k-preserved invariant-loop decreases-loop
+loop-k-preserved c =
     let l = c.before.before in
-    (omega arith, c.close_at.ensures ∙ below_next l.loop.k (rows_of l.before.args.count l.before.args.rows) l.loop.invariant.1)
+    (omega arith, c.close_at-next.ensures ∙ below_next l.loop-k.k (rows_of l.args.count l.args.rows) l.loop-k.invariant.1)
 
 returns : tie.Need-returns invariant-loop decreases-loop
 returns c =
     let l = c.before in
     let a = l.before in
-    l.loop.invariant.1 ∙ all_closed l.loop.k (rows_of a.args.count a.args.rows)
-    (omega (arith, rows_length a.args.count a.args.rows (omega (arith, a.well-formed.1.0.1.0.1))))
+    l.loop-k.invariant.1 ∙ all_closed l.loop-k.k (rows_of a.args.count a.args.rows)
+    (omega (arith, rows_length a.args.count a.args.rows (omega (arith, a.well_formed.1.0.1.0.1))))
 
 pub close_spec : {M : Type 1} → statement M
 close_spec =
-    tie.close (tie.spec invariant-loop decreases-loop loop-holds (λ c κs. omega arith) (λ c. search rules) (λ c. search rules) loop-again returns)
+    tie.close (tie.spec invariant-loop decreases-loop loop-k-init (λ c κs. omega arith) (λ c. search rules) (λ c. search rules) loop-k-preserved returns)

@@ -10,39 +10,39 @@ use Rattle.policy_pairs.proofs.Reported.{reported, row_pairs, table_pairs, all_p
 use Rattle.policy_pairs.proofs.count_pairs.Statement.{statement}
 use Rattle.policy_pairs.proofs.count_pairs.Tie as tie
 
-abbrev invariant-loop : tie.invariant-loop
+abbrev invariant-loop : tie.invariant-loop-g
 invariant-loop t n₀ g₀ n g = (g ≤ t.count) × (n ≡ length (table_pairs t g))
 
-abbrev decreases-loop : tie.decreases-loop
+abbrev decreases-loop : tie.decreases-loop-g
 decreases-loop t n₀ g₀ n g = t.count - g
 
-loop-holds : tie.Need-loop-init invariant-loop decreases-loop
+loop-g-init : tie.Need-loop-g-init invariant-loop decreases-loop
 unfolding pairs_from
-loop-holds c = (omega arith, refl)
+loop-g-init c = (omega arith, refl)
 
-add-n : tie.Need-overflow-add-n invariant-loop decreases-loop
-add-n c =
+overflow_add-n : tie.Need-overflow_add-n invariant-loop decreases-loop
+overflow_add-n c =
     let l = c.before.before.before in
-    let t = l.before.args.t in
+    let t = l.args.t in
     omega (
       arith,
-      l.before.requires,
-      l.loop.invariant,
-      c.count-row.ensures,
-      from_few (reported t) t.count l.before.requires 0 l.loop.g,
-      with_few (reported t) l.loop.g 0 t.count,
+      l.requires,
+      l.loop-g.invariant,
+      c.count_row-n.ensures,
+      from_few (reported t) t.count l.requires 0 l.loop-g.g,
+      with_few (reported t) l.loop-g.g 0 t.count,
     )
 
-loop-again : tie.Need-loop-preserved invariant-loop decreases-loop
-loop-again c =
+loop-g-preserved : tie.Need-loop-g-preserved invariant-loop decreases-loop
+loop-g-preserved c =
     let l = c.before.before.before in
-    let t = l.before.args.t in
-    let g = l.loop.g in (
+    let t = l.args.t in
+    let g = l.loop-g.g in (
       omega arith,
       omega (
         arith,
-        l.loop.invariant.1,
-        c.count-row.ensures,
+        l.loop-g.invariant.1,
+        c.count_row-n.ensures,
         ap length (from_next (reported t) t.count g),
         length-append (table_pairs t g) (row_pairs t g t.count),
       ),
@@ -51,9 +51,9 @@ loop-again c =
 returns : tie.Need-returns invariant-loop decreases-loop
 returns c =
     let l = c.before.before in
-    let t = l.before.args.t in
-    l.loop.invariant.1 ∙ ap length (all_pairs t l.loop.g (omega arith))
+    let t = l.args.t in
+    l.loop-g.invariant.1 ∙ ap length (all_pairs t l.loop-g.g (omega arith))
 
-pub count-pairs-spec : {M : Type 1} → statement M
-count-pairs-spec =
-    tie.close (tie.spec invariant-loop decreases-loop loop-holds (λ c κs. omega arith) add-n (λ c. search rules) (λ c. search rules) loop-again returns)
+pub count_pairs_spec : {M : Type 1} → statement M
+count_pairs_spec =
+    tie.close (tie.spec invariant-loop decreases-loop loop-g-init (λ c κs. omega arith) overflow_add-n (λ c. search rules) (λ c. search rules) loop-g-preserved returns)

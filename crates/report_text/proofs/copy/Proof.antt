@@ -11,36 +11,36 @@ use borrow.Author.Rules.{rules}
 use Rattle.report_text.proofs.copy.Statement.{statement}
 use Rattle.report_text.proofs.copy.Tie as tie
 
-abbrev invariant-loop : tie.invariant-loop
+abbrev invariant-loop : tie.invariant-loop-i
 invariant-loop s from d₀ to n i₀ d i = (i ≤ n) × ((length d ≡ length d₀) × (d ≡ paste d₀ to (drop from s) i))
 
-abbrev decreases-loop : tie.decreases-loop
+abbrev decreases-loop : tie.decreases-loop-i
 decreases-loop s from d₀ to n i₀ d i = n - i
 
-loop-holds : tie.Need-loop-init invariant-loop decreases-loop
-loop-holds c = let a = c.args in (omega arith, (refl, paste-zero a.d.now a.to (drop a.from a.s.now)))
+loop-i-init : tie.Need-loop-i-init invariant-loop decreases-loop
+loop-i-init c = let a = c.args in (omega arith, (refl, paste-zero a.d.now a.to (drop a.from a.s.now)))
 
-loop-again : tie.Need-loop-preserved invariant-loop decreases-loop
-loop-again c =
+loop-i-preserved : tie.Need-loop-i-preserved invariant-loop decreases-loop
+loop-i-preserved c =
     let t = c.before.before in
-    let a = t.before.args in
+    let a = t.args in
     let rest = drop a.from a.s.now in
-    let h : t.loop.i < a.n = c.before.loop-test.true in
-    let in_d : a.to + t.loop.i < length a.d.now = omega arith in
-    let in_s : t.loop.i < length rest = omega (arith, length-drop a.from a.s.now) in
+    let h : t.loop-i.i < a.n = c.loop-i-test.true in
+    let in_d : a.to + t.loop-i.i < length a.d.now = omega arith in
+    let in_s : t.loop-i.i < length rest = omega (arith, length-drop a.from a.s.now) in
     let copied =
-    ap (λ (l : List ℕ). set l (a.to + t.loop.i) (get_or rest t.loop.i 0)) t.loop.invariant.1.1
-    ∙ paste-suc a.d.now a.to rest t.loop.i 0 in_d in_s in
-    (omega arith, (simp length-set t.loop.invariant.1.0, rw (add-one t.loop.i, ← get_or-drop a.from a.s.now t.loop.i 0) copied))
+    ap (λ (l : List ℕ). set l (a.to + t.loop-i.i) (get_or rest t.loop-i.i 0)) t.loop-i.invariant.1.1
+    ∙ paste-suc a.d.now a.to rest t.loop-i.i 0 in_d in_s in
+    (omega arith, (simp length-set t.loop-i.invariant.1.0, rw (add-one t.loop-i.i, ← get_or-drop a.from a.s.now t.loop-i.i 0) copied))
 
 returns : tie.Need-returns invariant-loop decreases-loop
 returns c =
     let t = c.before in
-    let a = t.before.args in
-    let e : t.loop.i ≡ a.n = omega arith in
-    t.loop.invariant.1.1 ∙ ap (paste a.d.now a.to (drop a.from a.s.now)) e
+    let a = t.args in
+    let e : t.loop-i.i ≡ a.n = omega arith in
+    t.loop-i.invariant.1.1 ∙ ap (paste a.d.now a.to (drop a.from a.s.now)) e
 
 pub copy_spec : {M : Type 1} → statement M
 copy_spec =
-    tie.close (tie.spec invariant-loop decreases-loop loop-holds (λ c. search rules) (λ c. search rules) (λ c. search rules) (λ c. search rules) (λ c. search rules)
-    (λ c. search rules) loop-again (λ c. search rules) returns)
+    tie.close (tie.spec invariant-loop decreases-loop loop-i-init (λ c. search rules) (λ c. search rules) (λ c. search rules) (λ c. search rules) (λ c. search rules)
+    (λ c. search rules) loop-i-preserved (λ c. search rules) returns)

@@ -8,9 +8,9 @@ use Rattle.report_text.proofs.divide.Tie as tie
 
 returns : tie.Need-returns
 returns c =
-    let line = c.before.before.before.args.line.now in
-    let f = c.before.find in
-    let p = c.past in
+    let line = c.args.line.now in
+    let f = c.find-end in
+    let p = c.past-start in
     record {
       end_within = f.ensures.within;
       start_within = omega (arith, p.ensures);
@@ -18,6 +18,6 @@ returns c =
       manifest = manifest_left line f.result (first_before f.ensures) p.result p.ensures;
     }
 
-pub divide-spec : {M : Type 1} → statement M
-divide-spec =
+pub divide_spec : {M : Type 1} → statement M
+divide_spec =
     tie.close (tie.spec (λ c κs. search rules) (λ c κs. search rules) returns)

@@ -8,13 +8,13 @@ use Rattle.report_text.proofs.take_part.Tie as tie
 returns : tie.Need-returns
 returns c =
     let s = c.before.before.before.before.before.before.before.before.before in
-    let f = c.before.before.before.before.before.before.find in
-    let p = c.before.before.before.before.before.past in
-    let l = c.before.before.before.before.least in
+    let f = c.find-end in
+    let p = c.past-next in
+    let l = c.least-n in
     takes_copy s.args.kept.now s.args.size s.args.part.now s.args.at s.requires.0 s.requires.1
-    f.result l.result p.result _ (first_before f.ensures) l.ensures p.ensures c.before.before.copy.ensures
+    f.result l.result p.result _ (first_before f.ensures) l.ensures p.ensures c.copy.ensures
 
-pub take-part-spec : {M : Type 1} → statement M
-take-part-spec =
+pub take_part_spec : {M : Type 1} → statement M
+take_part_spec =
     tie.close (tie.spec (λ c κs. search rules) (λ c κs. search rules) (λ c. search rules) (λ c. search rules) (λ c κs. search rules)
     (λ c κs. search rules) (λ c. search rules) (λ c. search rules) returns)

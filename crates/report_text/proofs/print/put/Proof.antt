@@ -7,8 +7,8 @@ use Rattle.report_text.proofs.print.put.Tie as tie
 
 returns : tie.Need-returns
 returns c =
-    let a = c.before.before.before.before.before.before.args in
-    record { place = refl; all = c.before.before.copy.ensures ∙ pasted a.out.now a.bytes.now a.at }
+    let a = c.args in
+    record { place = refl; all = c.copy.ensures ∙ pasted a.out.now a.bytes.now a.at }
 
 pub put_spec : {M : Type 1} → statement M
 put_spec =
