@@ -1,4 +1,6 @@
 // Looking a name up among sorted ones that have their heads beside them: a step compares two numbers, and only where these are equal the names.
+#![tactic(auto)]
+
 ghost use Rattle.std.specs.Prelude.{◌≡◌, List, ℕ, ◌≤◌, length};
 ghost use Rattle.text_strings.specs.InString.{Inside, content_from};
 ghost use Rattle.reference.specs.Matches.{is_one_of};

@@ -8,54 +8,54 @@ use Rattle.manifest_heads.proofs.Heading.{FirstHeads, name_inside, one_more}
 use Rattle.manifest_heads.proofs.fill_heads.Statement.{statement}
 use Rattle.manifest_heads.proofs.fill_heads.Tie as tie
 
-abbrev invariant-loop : tie.invariant-loop
+abbrev invariant-loop : tie.invariant-loop-k
 invariant-loop s names heads₀ k₀ heads k = (k ≤ length names) × (length heads ≡ length heads₀) × FirstHeads s names heads k
 
-abbrev decreases-loop : tie.decreases-loop
+abbrev decreases-loop : tie.decreases-loop-k
 decreases-loop s names heads₀ k₀ heads k = length names - k
 
-loop-holds : tie.Need-loop-init invariant-loop decreases-loop
-loop-holds c = (omega arith, refl, λ i l. absurd (omega arith))
+loop-k-init : tie.Need-loop-k-init invariant-loop decreases-loop
+loop-k-init c = (omega arith, refl, λ i l. absurd (omega arith))
 
-cast-p : tie.Need-overflow-cast-p invariant-loop decreases-loop
-cast-p c = omega (arith, c.shared-slice-known3.given c.before.before.loop.k)
+overflow_cast-p : tie.Need-overflow_cast-p invariant-loop decreases-loop
+overflow_cast-p c = omega (arith, c.shared_slice_known-in-loop-k-1.given c.loop-k.k)
 
-add-head : tie.Need-overflow-add-head invariant-loop decreases-loop
-add-head c = omega (arith, c.shared-slice-known3.given c.before.before.loop.k)
+overflow_add-p : tie.Need-overflow_add-p invariant-loop decreases-loop
+overflow_add-p c = omega (arith, c.shared_slice_known-in-loop-k-1.given c.loop-k.k)
 
 head-requires : tie.Need-head-requires invariant-loop decreases-loop
-head-requires c κs = name_inside c.before.before.before.before.before.before.requires.0 _ c.before.loop-test.true
+head-requires c κs = name_inside c.requires.0 _ c.loop-k-test.true
 
-mul-heads : tie.Need-overflow-mul-heads invariant-loop decreases-loop
-mul-heads c = let a = c.before.before.before.before.before.before.before in omega (arith, a.requires.1)
+offset_bounds-heads-k : tie.Need-offset_bounds-heads-k invariant-loop decreases-loop
+offset_bounds-heads-k c = let a = c.before.before.before.before.before.before.before in omega (arith, a.requires.1)
 
-slice-write-heads : tie.Need-slice-write-heads invariant-loop decreases-loop
-slice-write-heads c =
+bounds-heads-k : tie.Need-bounds-heads-k invariant-loop decreases-loop
+bounds-heads-k c =
     let t = c.before.before in
     let a = c.before.before.before.before.before.before.before in
-    omega (arith, a.requires.1, t.loop-test.true, t.before.loop.invariant.1)
+    omega (arith, a.requires.1, t.loop-k-test.true, t.loop-k.invariant.1)
 
-loop-again : tie.Need-loop-preserved invariant-loop decreases-loop
-loop-again c =
+loop-k-preserved : tie.Need-loop-k-preserved invariant-loop decreases-loop
+loop-k-preserved c =
     let t = c.before.before in
-    let l = t.before.loop in
+    let l = t.loop-k in
     let a = c.before.before.before.before.before.before.before in (
-      omega (arith, t.loop-test.true),
+      omega (arith, t.loop-k-test.true),
       simp length-set l.invariant.1,
-      one_more a.args.s.now a.args.names.now l.heads l.k c.head.result (omega (arith, a.requires.1, t.loop-test.true, l.invariant.1))
+      one_more a.args.s.now a.args.names.now l.heads l.k c.head.result (omega (arith, a.requires.1, t.loop-k-test.true, l.invariant.1))
           c.head.ensures l.invariant.2,
     )
 
-same_length : tie.Need-same-length invariant-loop decreases-loop
-same_length c = c.before.loop.invariant.1
+shape_of-heads : tie.Need-shape_of-heads invariant-loop decreases-loop
+shape_of-heads c = c.loop-k.invariant.1
 
 returns : tie.Need-returns invariant-loop decreases-loop
 returns c =
-    let l = c.before.loop in
+    let l = c.loop-k in
     let a = c.before.before.before.before.before in
-    record { long = omega (arith, a.requires.1, l.invariant.1); each = λ i h. l.invariant.2 i (omega (arith, c.loop-test.false)) }
+    record { long = omega (arith, a.requires.1, l.invariant.1); each = λ i h. l.invariant.2 i (omega (arith, c.loop-k-test.false)) }
 
-pub fill-heads-spec : {M : Type 1} → statement M
-fill-heads-spec =
-    tie.close (tie.spec invariant-loop decreases-loop loop-holds (λ c. omega arith) (λ c. omega arith) cast-p add-head head-requires mul-heads slice-write-heads
-    (λ c. omega arith) (λ c. omega arith) loop-again same_length returns)
+pub fill_heads_spec : {M : Type 1} → statement M
+fill_heads_spec =
+    tie.close (tie.spec invariant-loop decreases-loop loop-k-init (λ c. omega arith) (λ c. omega arith) overflow_cast-p overflow_add-p head-requires
+    offset_bounds-heads-k bounds-heads-k (λ c. omega arith) (λ c. omega arith) loop-k-preserved shape_of-heads returns)
