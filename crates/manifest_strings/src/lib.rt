@@ -1,4 +1,6 @@
 // The strings of an array, or the keys of an object, by the positions where they begin: an item of either begins with a string.
+#![tactic(auto)]
+
 ghost use Rattle.std.specs.Prelude.{◌≡◌, ◌≤◌, length};
 ghost use Rattle.std.proofs.Math.Option.{Option};
 ghost use Rattle.text_content.specs.Value.{Value};

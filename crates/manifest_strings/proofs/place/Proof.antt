@@ -6,18 +6,19 @@ use Rattle.manifest_strings.proofs.Founds.{placeable, found_placed, none_placed}
 use Rattle.manifest_strings.proofs.place.Statement.{statement}
 use Rattle.manifest_strings.proofs.place.Tie as tie
 
-place-items-requires : tie.Need-place-items-requires
-place-items-requires c κs = let g = c.before.before in placeable g.before.before.before.before.requires _ g.found.given.1
+place_items-requires : tie.Need-place_items-requires
+place_items-requires c κs = let g = c.before in placeable g.requires _ g.in-At.is
 
-returns : tie.Need-returns
-returns c = (omega arith, refl, none_placed c.before.before.before.before.requires c.enum_told.given.1)
+returns-in-Missing : tie.Need-returns-in-Missing
+returns-in-Missing c = (omega arith, refl, none_placed c.requires c.in-Missing.is)
 
-returns-2 : tie.Need-returns-2
-returns-2 c =
+returns-in-At : tie.Need-returns-in-At
+returns-in-At c =
     let f = c.before.before in
-    let g = f.before.before.before in
-    let e = f.place-items.ensures in
-    (e.0, e.1, found_placed g.before.before.before.before.requires _ g.found.given.1 e.2)
+    let g = f.before.before in
+    let e = f.place_items.ensures in
+    (e.0, e.1, found_placed g.requires _ g.in-At.is e.2)
 
-pub place-spec : {M : Type 1} → statement M
-place-spec = tie.close (tie.spec (λ c. search rules) (λ c. search rules) place-items-requires returns (λ c. search rules) returns-2)
+pub place_spec : {M : Type 1} → statement M
+place_spec =
+    tie.close (tie.spec (λ c. search rules) (λ c. search rules) place_items-requires returns-in-Missing (λ c. search rules) returns-in-At)

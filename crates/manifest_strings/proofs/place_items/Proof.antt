@@ -11,61 +11,60 @@ use Rattle.manifest_strings.proofs.Placing.{StringsPlaced, items, started, some_
 use Rattle.manifest_strings.proofs.place_items.Statement.{statement}
 use Rattle.manifest_strings.proofs.place_items.Tie as tie
 
-abbrev invariant-loop : tie.invariant-loop
+abbrev invariant-loop : tie.invariant-loop-first
 invariant-loop s start at depth object positions₀ inner left₀ n₀ positions left n = StringsPlaced s start at depth object positions₀ positions left n
 
-abbrev decreases-loop : tie.decreases-loop
+abbrev decreases-loop : tie.decreases-loop-first
 decreases-loop s start at depth object positions₀ inner left₀ n₀ positions left n = length s - left
 
-loop-holds : tie.Need-loop-init invariant-loop decreases-loop
-loop-holds c = started c.before.before.requires
+loop-first-init : tie.Need-loop-first-init invariant-loop decreases-loop
+loop-first-init c = started c.requires
 
-same_length : tie.Need-same-length invariant-loop decreases-loop
-same_length c = c.before.before.before.loop.invariant.length_kept
+shape_of-positions-in-End : tie.Need-shape_of-positions-in-End invariant-loop decreases-loop
+shape_of-positions-in-End c = c.loop-first.invariant.length_kept
 
-returns : tie.Need-returns invariant-loop decreases-loop
-returns c =
-    let d = c.before.before in
-    let p = d.before.loop.invariant in (
+returns-in-End : tie.Need-returns-in-End invariant-loop decreases-loop
+returns-in-End c =
+    let d = c.before in
+    let p = d.loop-first.invariant in (
       omega (arith, p.few),
       p.length_kept,
-      finished p _ (rw c.enum_told.given.1 at (d.read-item.ensures p.others p.rest p.here)),
+      finished p _ (rw c.in-End.is at (d.read_item.ensures p.others p.rest p.here)),
     )
 
 -- what `read_item` gave: an item
-abbrev inv : (c : tie.After-known-told invariant-loop decreases-loop) → let b = c.before.before.before.before in let a = b.before.before.before.args in
-    StringsPlaced a.s.now a.start a.at a.depth a.object a.positions.now b.loop.positions b.loop.left b.loop.n
-inv c = c.before.before.before.before.loop.invariant
+abbrev inv : (c : tie.In-At invariant-loop decreases-loop) → let b = c.before.before in let a = b.args in
+    StringsPlaced a.s.now a.start a.at a.depth a.object a.positions.now b.loop-first.positions b.loop-first.left b.loop-first.n
+inv c = c.loop-first.invariant
 
-given : (c : tie.After-known-told invariant-loop decreases-loop) → let b = c.before.before.before.before in let a = b.before.before.before.args in
-    let g = c.before.first.given.0 in let p = b.loop.invariant in
-    NextString a.s.now b.loop.left (a.depth - 1) a.object p.others p.rest g.0 g.1.1.0
+given : (c : tie.In-At invariant-loop decreases-loop) → let b = c.before.before in let a = b.args in let p = b.loop-first.invariant in
+    NextString a.s.now b.loop-first.left (a.depth - 1) a.object p.others p.rest c.in-At.first c.in-At.next
 given c =
-    let d = c.before.before.before in
-    let p = d.before.loop.invariant in
-    next_string _ _ _ _ _ _ p.first p.strings _ _ _ (rw c.before.first.given.1 at (d.read-item.ensures p.others p.rest p.here))
+    let d = c.before in
+    let p = d.loop-first.invariant in
+    next_string _ _ _ _ _ _ p.first p.strings _ _ _ (rw c.in-At.is at (d.read_item.ensures p.others p.rest p.here))
 
-add-positions : tie.Need-overflow-add-positions invariant-loop decreases-loop
-add-positions c = omega (arith, string_within (inv c) (given c), (inv c).short)
+overflow_add-positions : tie.Need-overflow_add-positions invariant-loop decreases-loop
+overflow_add-positions c = omega (arith, string_within (inv c) (given c), (inv c).short)
 
-add-positions-2 : tie.Need-overflow-add-positions-2 invariant-loop decreases-loop
-add-positions-2 c = omega (arith, string_within (inv c) (given c), (inv c).short)
+overflow_add-positions-in-At : tie.Need-overflow_add-positions-in-At invariant-loop decreases-loop
+overflow_add-positions-in-At c = omega (arith, string_within (inv c) (given c), (inv c).short)
 
-mul-positions : tie.Need-overflow-mul-positions invariant-loop decreases-loop
-mul-positions c = omega (arith, string_fits (inv c) (given c), (inv c).length_kept)
+offset_bounds-positions-n : tie.Need-offset_bounds-positions-n invariant-loop decreases-loop
+offset_bounds-positions-n c = omega (arith, string_fits (inv c) (given c), (inv c).length_kept)
 
-add-n : tie.Need-overflow-add-n invariant-loop decreases-loop
-add-n c = omega (arith, string_fits (inv c) (given c), (inv c).few)
+overflow_add-n : tie.Need-overflow_add-n invariant-loop decreases-loop
+overflow_add-n c = omega (arith, string_fits (inv c) (given c), (inv c).few)
 
-loop-less : tie.Need-loop-smaller invariant-loop decreases-loop
-loop-less c = let x = given c in omega (arith, x.later, x.within)
+loop-first-smaller : tie.Need-loop-first-smaller invariant-loop decreases-loop
+loop-first-smaller c = let x = given c in omega (arith, x.later, x.within)
 
-loop-again : tie.Need-loop-preserved invariant-loop decreases-loop
-loop-again c = goes_on (inv c) (given c)
+loop-first-preserved : tie.Need-loop-first-preserved invariant-loop decreases-loop
+loop-first-preserved c = goes_on (inv c) (given c)
 
-pub place-items-spec : {M : Type 1} → statement M
-place-items-spec =
+pub place_items_spec : {M : Type 1} → statement M
+place_items_spec =
     tie.close
     (tie.spec invariant-loop decreases-loop (λ c. omega (arith, (items c.before.before.requires).some))
-    (λ c. omega (arith, within _ _ _ _ c.before.before.requires.here)) loop-holds (λ c κs. some_list c.loop.invariant) (λ c. search rules) same_length returns
-    (λ c. search rules) add-positions add-positions-2 mul-positions (λ c. string_fits (inv c) (given c)) add-n loop-less loop-again)
+    (λ c. omega (arith, within _ _ _ _ c.before.before.requires.here)) loop-first-init (λ c κs. some_list c.loop-first.invariant) (λ c. search rules) shape_of-positions-in-End returns-in-End
+    (λ c. search rules) overflow_add-positions overflow_add-positions-in-At offset_bounds-positions-n (λ c. string_fits (inv c) (given c)) overflow_add-n loop-first-smaller loop-first-preserved)
