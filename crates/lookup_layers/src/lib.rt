@@ -1,4 +1,6 @@
 // The layer list that resolve is lent: a run of entries, each the byte of an algorithm and a digest.
+#![tactic(auto)]
+
 ghost use Rattle.std.specs.Prelude.{◌≡◌, List, ◌<◌, length};
 ghost use Rattle.std.proofs.Math.Option.{some};
 ghost use Rattle.lookup_layers.specs.Layers.{LayerDigest, is_list, is_listed, layers_in};
