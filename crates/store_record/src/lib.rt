@@ -1,4 +1,6 @@
 // The records of a store: one record read, and the survey of all records.
+#![tactic(auto)]
+
 ghost use Rattle.std.specs.Prelude.{◌≡◌, false, ◌&&◌, eqb, ◌≤◌, length};
 ghost use Rattle.laws.specs.Order.{same};
 ghost use Rattle.reference_digests.specs.Algorithms.{byte_of};

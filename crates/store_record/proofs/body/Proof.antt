@@ -10,42 +10,43 @@ use Rattle.store_record.proofs.body.Statement.{statement}
 use Rattle.store_record.proofs.body.Tie as tie
 
 -- what the algorithm was read from, and the byte that it has
-abbrev read-from : tie.After-digest-bytes → tie.After-from-byte
-read-from n = n.before.before.before.before
+abbrev read-from : tie.After-digest_bytes-n → tie.After-from_byte
+read-from n = n.before.before
 
-abbrev entry : tie.After-digest-bytes → tie.Start
+abbrev entry : tie.After-digest_bytes-n → tie.Start
 entry n = (read-from n).before.before.before.before
 
-known : (n : tie.After-digest-bytes) → numbered (get_or (entry n).args.s.now (entry n).args.i 0) ≡ Is n.before.before.algorithm.given.0.0
-known n = sym (read-from n).from_byte.ensures ∙ n.before.before.algorithm.given.1
+known : (n : tie.After-digest_bytes-n) → numbered (get_or (entry n).args.s.now (entry n).args.i 0) ≡ Is n.in-Is.algorithm
+known n = sym (read-from n).from_byte.ensures ∙ n.in-Is.is
 
-returns : tie.Need-returns
-returns c =
-    let a = c.before.before in no_body a.args.s.now a.args.i a.args.end a.requires.0 a.requires.1 c.if1.true
+returns-then-i-end : tie.Need-returns-then-i-end
+returns-then-i-end c =
+    let a = c.before.before in no_body a.args.s.now a.args.i a.args.end a.requires.0 a.requires.1 c.if-i-end.true
 
-returns-2 : tie.Need-returns-2
-returns-2 c =
+returns-then-end-signer : tie.Need-returns-then-end-signer
+returns-then-end-signer c =
     let n = c.before in
     let a = entry n in
-    cut_body a.args.s.now a.args.i a.args.end a.pre.0 a.pre.1 (read-from n).before.before.if1.false _ (known n) _
-    n.digest-bytes.ensures.0 (omega (arith, c.if2.true))
+    cut_body a.args.s.now a.args.i a.args.end a.requires.0 a.requires.1 (read-from n).if-i-end.false _ (known n) _
+    n.digest_bytes-n.ensures.0 (omega (arith, c.if-end-signer.true))
 
-returns-3 : tie.Need-returns-3
-returns-3 c =
-    let f = c.before.before in
+returns-in-Unknown : tie.Need-returns-in-Unknown
+returns-in-Unknown c =
+    let f = c.before in
     let e = f.before.before in
     let a = e.before.before in
-    unknown_body a.args.s.now a.args.i a.args.end a.requires.0 a.requires.1 e.if1.false
-    (sym f.from_byte.ensures ∙ c.enum_told.given.1)
+    unknown_body a.args.s.now a.args.i a.args.end a.requires.0 a.requires.1 e.if-i-end.false
+    (sym f.from_byte.ensures ∙ c.in-Unknown.is)
 
-returns-4 : tie.Need-returns-4
-returns-4 c =
+returns-else-end-signer : tie.Need-returns-else-end-signer
+returns-else-end-signer c =
     let n = c.before in
     let a = entry n in
-    whole_body a.args.s.now a.args.i a.args.end a.pre.0 a.pre.1 (read-from n).before.before.if1.false _ (known n) _
-    n.digest-bytes.ensures.0 (omega (arith, c.if2.false))
+    whole_body a.args.s.now a.args.i a.args.end a.requires.0 a.requires.1 (read-from n).if-i-end.false _ (known n) _
+    n.digest_bytes-n.ensures.0 (omega (arith, c.if-end-signer.false))
 
-pub body-spec : {M : Type 1} → statement M
-body-spec =
-    tie.close (tie.spec returns (λ c. search rules) (λ c κs. search rules) (λ c. search rules) (λ c. search rules) (λ c κs. search rules)
-    (λ c. search rules) (λ c. search rules) (λ c. search rules) returns-2 (λ c. search rules) (λ c. search rules) returns-3 returns-4)
+pub body_spec : {M : Type 1} → statement M
+body_spec =
+    tie.close (tie.spec returns-then-i-end (λ c. search rules) (λ c κs. search rules) (λ c. search rules) (λ c. search rules) (λ c κs. search rules)
+    (λ c. search rules) (λ c. search rules) (λ c. search rules) returns-then-end-signer (λ c. search rules) (λ c. search rules) returns-in-Unknown
+    returns-else-end-signer)

@@ -7,20 +7,21 @@ use Rattle.store_record.proofs.Ids.{not_signed, signed}
 use Rattle.store_record.proofs.Record.has_id.Statement.{statement}
 use Rattle.store_record.proofs.Record.has_id.Tie as tie
 
+returns-then-not-is_signed_by : tie.Need-returns-then-not-is_signed_by
+returns-then-not-is_signed_by c =
+    let b = c.is_signed_by in
+    let a = c.args in
+    not_signed a.s.now a.self a.a a.signer.now a.manifest.now b.result b.ensures (not-true _ c.if-not-is_signed_by.true-raw)
+
 returns : tie.Need-returns
-returns c =
-    let b = c.before.is-signed-by in
-    let a = c.before.before.before.before.before.args in
-    not_signed a.s.now a.self a.a a.signer.now a.manifest.now b.result b.ensures (not-true _ c.if1.true)
-
-returns-2 : tie.Need-returns-2
 unfolding between
-returns-2 c =
+returns c =
     let e = c.before.before in
-    let b = e.before.is-signed-by in
-    let a = e.before.before.before.before.before.args in
-    c.equal.ensures ∙ signed a.s.now a.self a.a a.signer.now a.manifest.now b.result b.ensures (not-false _ e.if1.false)
+    let b = e.is_signed_by in
+    let a = e.args in
+    c.equal.ensures ∙ signed a.s.now a.self a.a a.signer.now a.manifest.now b.result b.ensures (not-false _ e.if-not-is_signed_by.false-raw)
 
-pub has-id-spec : {M : Type 1} → statement M
-has-id-spec =
-    tie.close (tie.spec (λ c κs. search rules) returns (λ c. search rules) (λ c. search rules) (λ c. search rules) (λ c κs. search rules) returns-2)
+pub has_id_spec : {M : Type 1} → statement M
+has_id_spec =
+    tie.close (tie.spec (λ c κs. search rules) returns-then-not-is_signed_by (λ c. search rules) (λ c. search rules) (λ c. search rules)
+    (λ c κs. search rules) returns)

@@ -9,66 +9,67 @@ use Rattle.store_record.proofs.Surveying.{Surveyed, nothing_read, not_filled, al
 use Rattle.store_record.proofs.Survey.of.Statement.{statement}
 use Rattle.store_record.proofs.Survey.of.Tie as tie
 
-abbrev invariant-loop : tie.invariant-loop
+abbrev invariant-loop : tie.invariant-loop-i
 invariant-loop s records₀ count₀ i₀ records count i = Surveyed s records count i
 
-abbrev decreases-loop : tie.decreases-loop
+abbrev decreases-loop : tie.decreases-loop-i
 decreases-loop s records₀ count₀ i₀ records count i = length s - i
 
-loop-holds : tie.Need-loop-init invariant-loop decreases-loop
-loop-holds c = nothing_read _ _ refl
+loop-i-init : tie.Need-loop-i-init invariant-loop decreases-loop
+loop-i-init c = nothing_read _ _ refl
 
-returns : tie.Need-returns invariant-loop decreases-loop
-returns c =
+returns-then-count-eq-MOST_IMAGES : tie.Need-returns-then-count-eq-MOST_IMAGES invariant-loop decreases-loop
+returns-then-count-eq-MOST_IMAGES c =
     let t = c.before in
-    let l = t.before.before.loop in
-    not_filled _ _ c.broken.ensures (too_many _ _ _ _ l.invariant t.before.loop-test.true (omega (arith, t.if1.true, l.invariant.few)))
+    let l = t.loop-i in
+    not_filled _ _ c.broken.ensures (too_many _ _ _ _ l.invariant t.loop-i-test.true (omega (arith, t.if-count-eq-MOST_IMAGES.true, l.invariant.few)))
 
-returns-2 : tie.Need-returns-2 invariant-loop decreases-loop
-returns-2 c =
-    let r = c.before.before.before in
+returns-in-Missing : tie.Need-returns-in-Missing invariant-loop decreases-loop
+returns-in-Missing c =
+    let r = c.before.before in
     let e = r.before in
-    let l = e.before.before.loop in
-    not_filled _ _ c.broken2.ensures
-    (no_more _ _ _ _ l.invariant e.before.loop-test.true (omega (arith, e.if1.false, l.invariant.few))
-    (rw c.before.enum_told.given.1 at r.read.ensures))
+    let l = e.loop-i in
+    not_filled _ _ c.broken-in-Missing.ensures
+    (no_more _ _ _ _ l.invariant e.loop-i-test.true (omega (arith, e.if-count-eq-MOST_IMAGES.false, l.invariant.few))
+    (rw c.in-Missing.is at r.read.ensures))
 
 -- the record, once it is read
-record_here : (c : tie.After-r invariant-loop decreases-loop)
-    → let l = c.before.before.before.before.before in
-    RecordAt l.before.before.before.args.s.now l.loop.i c.r.given.0.0
-record_here c = rw c.r.given.1 at c.before.before.read.ensures
+record_here : (c : tie.In-At invariant-loop decreases-loop)
+    → let l = c.before.before.before.before in
+    RecordAt l.args.s.now l.loop-i.i c.in-At.r
+record_here c = rw c.in-At.is at c.read.ensures
 
 -- a place is free for it
-free : (c : tie.After-known-told invariant-loop decreases-loop) → c.before.before.before.before.before.before.loop.count < 64
+free : (c : tie.In-At invariant-loop decreases-loop) → c.loop-i.count < 64
 free c =
-    let e = c.before.before.before.before in
-    omega (arith, e.if1.false, e.before.before.loop.invariant.few)
+    let e = c.before.before in
+    omega (arith, e.if-count-eq-MOST_IMAGES.false, e.loop-i.invariant.few)
 
-mul-records : tie.Need-overflow-mul-records invariant-loop decreases-loop
-mul-records c = omega (arith, free c)
+offset_bounds-records-count : tie.Need-offset_bounds-records-count invariant-loop decreases-loop
+offset_bounds-records-count c = omega (arith, free c)
 
-array-set-from-records : tie.Need-array-set-from-records invariant-loop decreases-loop
-array-set-from-records c = free c
+bounds-records-count : tie.Need-bounds-records-count invariant-loop decreases-loop
+bounds-records-count c = free c
 
-add-count : tie.Need-overflow-add-count invariant-loop decreases-loop
-add-count c = omega (arith, free c)
+overflow_add-count : tie.Need-overflow_add-count invariant-loop decreases-loop
+overflow_add-count c = omega (arith, free c)
 
-loop-less : tie.Need-loop-smaller invariant-loop decreases-loop
-loop-less c =
-    let e = c.before.before.before.before in
-    omega (arith, (record_here c.before).later, e.before.loop-test.true)
+loop-i-smaller : tie.Need-loop-i-smaller invariant-loop decreases-loop
+loop-i-smaller c =
+    let e = c.before.before in
+    omega (arith, (record_here c).later, e.loop-i-test.true)
 
-loop-again : tie.Need-loop-preserved invariant-loop decreases-loop
-loop-again c =
-    let e = c.before.before.before.before in
+loop-i-preserved : tie.Need-loop-i-preserved invariant-loop decreases-loop
+loop-i-preserved c =
+    let e = c.before.before in
     let l = e.before.before in
-    one_more _ _ _ _ l.loop.invariant e.before.loop-test.true (free c) _ (record_here c.before)
+    one_more _ _ _ _ l.loop-i.invariant e.loop-i-test.true (free c) _ (record_here c)
 
-returns-3 : tie.Need-returns-3 invariant-loop decreases-loop
-returns-3 c = let l = c.before in all_read _ _ _ _ l.loop.invariant c.loop-test.false
+returns : tie.Need-returns invariant-loop decreases-loop
+returns c = let l = c.before in all_read _ _ _ _ l.loop-i.invariant c.loop-i-test.false
 
 pub of_spec : {M : Type 1} → statement M
 of_spec =
-    tie.close (tie.spec invariant-loop decreases-loop (λ c κs. search rules) loop-holds (λ c κs. search rules) returns (λ c κs. search rules) (λ c. search rules)
-    (λ c κs. search rules) returns-2 (λ c. search rules) mul-records array-set-from-records add-count loop-less loop-again returns-3)
+    tie.close (tie.spec invariant-loop decreases-loop (λ c κs. search rules) loop-i-init (λ c κs. search rules) returns-then-count-eq-MOST_IMAGES
+    (λ c κs. search rules) (λ c. search rules) (λ c κs. search rules) returns-in-Missing (λ c. search rules) offset_bounds-records-count
+    bounds-records-count overflow_add-count loop-i-smaller loop-i-preserved returns)
