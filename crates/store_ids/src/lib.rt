@@ -1,4 +1,6 @@
 // Whether a store holds an ID, and whether one stands in it twice.
+#![tactic(auto)]
+
 ghost use Rattle.std.specs.Prelude.{◌≡◌, false, drop};
 ghost use Rattle.laws.specs.Any.{any_of};
 ghost use Rattle.reference.specs.References.{image_id};

@@ -12,91 +12,92 @@ use Rattle.store_record.proofs.Walks.{records_size, pair_image_end, pair_here, p
 use Rattle.store_ids.proofs.id_twice.Statement.{statement}
 use Rattle.store_ids.proofs.id_twice.Tie as tie
 
-abbrev invariant-loop : tie.invariant-loop
+abbrev invariant-loop : tie.invariant-loop-i
 invariant-loop s v i₀ i = any_pair share_id (drop i (images_in s v)) ≡ id_twice (images_in s v)
 
-abbrev decreases-loop : tie.decreases-loop
+abbrev decreases-loop : tie.decreases-loop-i
 decreases-loop s v i₀ i = v.count - i
 
-fits : (a : tie.Start invariant-loop decreases-loop) → a.args.t2.count ≤ length a.args.t2.records
-fits a = omega (arith, records_size a.args.t2 a.well-formed.1.0, a.requires.few)
+fits : (a : tie.Start invariant-loop decreases-loop) → a.args.v.count ≤ length a.args.v.records
+fits a = omega (arith, records_size a.args.v a.well_formed.1.0, a.requires.few)
 
 -- the record at the index lies inside the store
-is_in : (c : tie.After-r invariant-loop decreases-loop)
-    → let a = c.before.before.before.before in RecordIn a.args.s.now (get_or a.args.t2.records c.before.before.loop.i no_record)
-is_in c = c.before.before.before.before.requires.each c.before.before.loop.i c.before.loop-test.true
+is_in : (c : tie.After-r-1 invariant-loop decreases-loop)
+    → let a = c.before.before.before.before in RecordIn a.args.s.now (get_or a.args.v.records c.loop-i.i no_record)
+is_in c = c.requires.each c.loop-i.i c.loop-i-test.true
 
-loop-holds : tie.Need-loop-init invariant-loop decreases-loop
+loop-i-init : tie.Need-loop-i-init invariant-loop decreases-loop
 unfolding id_twice
-loop-holds c = refl
+loop-i-init c = refl
 
-mul-r : tie.Need-overflow-mul-r invariant-loop decreases-loop
-mul-r c = omega (arith, c.before.before.before.requires.few, c.loop-test.true)
+offset_bounds-v-i : tie.Need-offset_bounds-v-i invariant-loop decreases-loop
+offset_bounds-v-i c = omega (arith, c.requires.few, c.loop-i-test.true)
 
-element-copy-out-r : tie.Need-element-copy-out-r invariant-loop decreases-loop
-element-copy-out-r c = omega (arith, c.before.before.before.requires.few, c.loop-test.true)
+bounds-v-i : tie.Need-bounds-v-i invariant-loop decreases-loop
+bounds-v-i c = omega (arith, c.requires.few, c.loop-i-test.true)
 
-sub-is-held : tie.Need-overflow-sub-is-held invariant-loop decreases-loop
-sub-is-held c = omega (arith, (is_in c).signer)
+slice_bounds-is_held-count : tie.Need-slice_bounds-is_held-count invariant-loop decreases-loop
+slice_bounds-is_held-count c = omega (arith, (is_in c).signer)
 
-part-is-held-start : tie.Need-slice-bounds-is-held-start invariant-loop decreases-loop
-part-is-held-start c = omega (arith, (is_in c).signer)
+slice_bounds-is_held-start : tie.Need-slice_bounds-is_held-start invariant-loop decreases-loop
+slice_bounds-is_held-start c = omega (arith, (is_in c).signer)
 
-part-is-held-end : tie.Need-slice-bounds-is-held-end invariant-loop decreases-loop
-part-is-held-end c = let r = is_in c in omega (arith, r.manifest, r.text, r.within)
+slice_bounds-is_held-end : tie.Need-slice_bounds-is_held-end invariant-loop decreases-loop
+slice_bounds-is_held-end c = let r = is_in c in omega (arith, r.manifest, r.text, r.within)
 
-sub-is-held-2 : tie.Need-overflow-sub-is-held-2 invariant-loop decreases-loop
-sub-is-held-2 c = omega (arith, (is_in c.before).manifest)
+slice_bounds-is_held-count-in-loop-i : tie.Need-slice_bounds-is_held-count-in-loop-i invariant-loop decreases-loop
+slice_bounds-is_held-count-in-loop-i c = omega (arith, (is_in c.before).manifest)
 
-part-is-held-start-2 : tie.Need-slice-bounds-is-held-start-2 invariant-loop decreases-loop
-part-is-held-start-2 c = omega (arith, (is_in c.before).manifest)
+slice_bounds-is_held-start-in-loop-i : tie.Need-slice_bounds-is_held-start-in-loop-i invariant-loop decreases-loop
+slice_bounds-is_held-start-in-loop-i c = omega (arith, (is_in c.before).manifest)
 
-part-is-held-end-2 : tie.Need-slice-bounds-is-held-end-2 invariant-loop decreases-loop
-part-is-held-end-2 c = let r = is_in c.before in omega (arith, r.text, r.within)
+slice_bounds-is_held-end-in-loop-i : tie.Need-slice_bounds-is_held-end-in-loop-i invariant-loop decreases-loop
+slice_bounds-is_held-end-in-loop-i c = let r = is_in c.before in omega (arith, r.text, r.within)
 
-add-t24 : tie.Need-overflow-add-t24 invariant-loop decreases-loop
-add-t24 c =
+overflow_add-i : tie.Need-overflow_add-i invariant-loop decreases-loop
+overflow_add-i c =
     let t = c.before.before.before in
-    omega (arith, t.loop-test.true, t.before.before.before.requires.few)
+    omega (arith, t.loop-i-test.true, t.requires.few)
 
-is-held-requires : tie.Need-is-held-requires invariant-loop decreases-loop
-is-held-requires c κs = c.before.before.before.before.before.before.requires
+is_held-requires : tie.Need-is_held-requires invariant-loop decreases-loop
+is_held-requires c κs = c.requires
+
+returns-then-is_held : tie.Need-returns-then-is_held invariant-loop decreases-loop
+unfolding between
+returns-then-is_held c =
+    let t = c.before.before.before.before.before in
+    let l = t.before in
+    let a = l.before.before in
+    let s = a.args.s.now in
+    sym (pair_here s a.args.v (fits a) l.loop-i.i t.loop-i-test.true share_id
+    (shares_some s _ _ ∙ sym c.is_held.ensures ∙ c.if-is_held.true)) ∙ l.loop-i.invariant
+
+overflow_add-i-in-loop-i : tie.Need-overflow_add-i-in-loop-i invariant-loop decreases-loop
+overflow_add-i-in-loop-i c =
+    let t = c.before.before.before.before.before in
+    omega (arith, t.loop-i-test.true, t.requires.few)
+
+loop-i-smaller : tie.Need-loop-i-smaller invariant-loop decreases-loop
+loop-i-smaller c = omega (arith, c.loop-i-test.true)
+
+loop-i-preserved : tie.Need-loop-i-preserved invariant-loop decreases-loop
+unfolding between
+loop-i-preserved c =
+    let t = c.before.before.before.before.before in
+    let l = t.before in
+    let a = l.before.before in
+    let s = a.args.s.now in
+    sym (pair_next s a.args.v (fits a) l.loop-i.i t.loop-i-test.true share_id
+    (shares_some s _ _ ∙ sym c.is_held.ensures ∙ c.if-is_held.false)) ∙ l.loop-i.invariant
 
 returns : tie.Need-returns invariant-loop decreases-loop
-unfolding between
 returns c =
-    let t = c.before.before.before.before.before in
-    let l = t.before in
-    let a = l.before.before in
-    let s = a.args.s.now in
-    sym (pair_here s a.args.t2 (fits a) l.loop.i t.loop-test.true share_id
-    (shares_some s _ _ ∙ sym c.before.is_held_lem.ensures ∙ c.if1.true)) ∙ l.loop.invariant
-
-add-i : tie.Need-overflow-add-i invariant-loop decreases-loop
-add-i c =
-    let t = c.before.before.before.before.before in
-    omega (arith, t.loop-test.true, t.before.before.before.requires.few)
-
-loop-less : tie.Need-loop-smaller invariant-loop decreases-loop
-loop-less c = omega (arith, c.before.before.before.before.before.loop-test.true)
-
-loop-again : tie.Need-loop-preserved invariant-loop decreases-loop
-unfolding between
-loop-again c =
-    let t = c.before.before.before.before.before in
-    let l = t.before in
-    let a = l.before.before in
-    let s = a.args.s.now in
-    sym (pair_next s a.args.t2 (fits a) l.loop.i t.loop-test.true share_id
-    (shares_some s _ _ ∙ sym c.before.is_held_lem.ensures ∙ c.if1.false)) ∙ l.loop.invariant
-
-returns-2 : tie.Need-returns-2 invariant-loop decreases-loop
-returns-2 c =
     let l = c.before in
     let a = l.before.before in
-    sym (pair_image_end a.args.s.now a.args.t2 (fits a) l.loop.i share_id c.loop-test.false) ∙ l.loop.invariant
+    sym (pair_image_end a.args.s.now a.args.v (fits a) l.loop-i.i share_id c.loop-i-test.false) ∙ l.loop-i.invariant
 
-pub id-twice-spec : {M : Type 1} → statement M
-id-twice-spec =
-    tie.close (tie.spec invariant-loop decreases-loop loop-holds mul-r element-copy-out-r sub-is-held part-is-held-start part-is-held-end sub-is-held-2
-    part-is-held-start-2 part-is-held-end-2 add-t24 is-held-requires returns add-i loop-less loop-again returns-2)
+pub id_twice_spec : {M : Type 1} → statement M
+id_twice_spec =
+    tie.close (tie.spec invariant-loop decreases-loop loop-i-init offset_bounds-v-i bounds-v-i slice_bounds-is_held-count slice_bounds-is_held-start
+    slice_bounds-is_held-end slice_bounds-is_held-count-in-loop-i slice_bounds-is_held-start-in-loop-i slice_bounds-is_held-end-in-loop-i
+    overflow_add-i is_held-requires returns-then-is_held overflow_add-i-in-loop-i loop-i-smaller loop-i-preserved returns)

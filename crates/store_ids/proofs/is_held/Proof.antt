@@ -12,57 +12,58 @@ use Rattle.store_record.proofs.Walks.{records_size, any_image_end, any_here, any
 use Rattle.store_ids.proofs.is_held.Statement.{statement}
 use Rattle.store_ids.proofs.is_held.Tie as tie
 
-abbrev invariant-loop : tie.invariant-loop
+abbrev invariant-loop : tie.invariant-loop-j
 invariant-loop s a signer manifest v j₀ j =
     any_of (has_id (image_id a signer manifest)) (drop j (images_in s v)) ≡ any_of (has_id (image_id a signer manifest)) (drop j₀ (images_in s v))
 
-abbrev decreases-loop : tie.decreases-loop
+abbrev decreases-loop : tie.decreases-loop-j
 decreases-loop s a signer manifest v j₀ j = v.count - j
 
-fits : (a : tie.Start invariant-loop decreases-loop) → a.args.t2.count ≤ length a.args.t2.records
-fits a = omega (arith, records_size a.args.t2 a.well-formed.1.0, a.requires.few)
+fits : (a : tie.Start invariant-loop decreases-loop) → a.args.v.count ≤ length a.args.v.records
+fits a = omega (arith, records_size a.args.v a.well_formed.1.0, a.requires.few)
 
-mul-r : tie.Need-overflow-mul-r invariant-loop decreases-loop
-mul-r c = omega (arith, c.before.before.before.before.before.requires.few, c.loop-test.true)
+offset_bounds-v-j : tie.Need-offset_bounds-v-j invariant-loop decreases-loop
+offset_bounds-v-j c = omega (arith, c.requires.few, c.loop-j-test.true)
 
-element-copy-out-r : tie.Need-element-copy-out-r invariant-loop decreases-loop
-element-copy-out-r c = omega (arith, c.before.before.before.before.before.requires.few, c.loop-test.true)
+bounds-v-j : tie.Need-bounds-v-j invariant-loop decreases-loop
+bounds-v-j c = omega (arith, c.requires.few, c.loop-j-test.true)
 
-has-id-requires : tie.Need-has-id-requires invariant-loop decreases-loop
-has-id-requires c κs =
+has_id-requires : tie.Need-has_id-requires invariant-loop decreases-loop
+has_id-requires c κs =
     let t = c.before in
-    t.before.before.before.before.before.requires.each t.before.loop.j t.loop-test.true
+    t.requires.each t.loop-j.j t.loop-j-test.true
+
+returns-then-has_id : tie.Need-returns-then-has_id invariant-loop decreases-loop
+returns-then-has_id c =
+    let t = c.before.before.before in
+    let l = t.before in
+    let a = l.before.before.before.before in
+    sym (any_here a.args.s.now a.args.v (fits a) l.loop-j.j t.loop-j-test.true _
+    (sym c.has_id.ensures ∙ c.if-has_id.true)) ∙ l.loop-j.invariant
+
+overflow_add-j : tie.Need-overflow_add-j invariant-loop decreases-loop
+overflow_add-j c =
+    let t = c.before.before.before in
+    omega (arith, t.loop-j-test.true, t.requires.few)
+
+loop-j-smaller : tie.Need-loop-j-smaller invariant-loop decreases-loop
+loop-j-smaller c = omega (arith, c.loop-j-test.true)
+
+loop-j-preserved : tie.Need-loop-j-preserved invariant-loop decreases-loop
+loop-j-preserved c =
+    let t = c.before.before.before in
+    let l = t.before in
+    let a = l.before.before.before.before in
+    sym (any_next a.args.s.now a.args.v (fits a) l.loop-j.j t.loop-j-test.true _
+    (sym c.has_id.ensures ∙ c.if-has_id.false)) ∙ l.loop-j.invariant
 
 returns : tie.Need-returns invariant-loop decreases-loop
 returns c =
-    let t = c.before.before.before in
-    let l = t.before in
-    let a = l.before.before.before.before in
-    sym (any_here a.args.s.now a.args.t2 (fits a) l.loop.j t.loop-test.true _
-    (sym c.before.has-id.ensures ∙ c.if1.true)) ∙ l.loop.invariant
-
-add-j : tie.Need-overflow-add-j invariant-loop decreases-loop
-add-j c =
-    let t = c.before.before.before in
-    omega (arith, t.loop-test.true, t.before.before.before.before.before.requires.few)
-
-loop-less : tie.Need-loop-smaller invariant-loop decreases-loop
-loop-less c = omega (arith, c.before.before.before.loop-test.true)
-
-loop-again : tie.Need-loop-preserved invariant-loop decreases-loop
-loop-again c =
-    let t = c.before.before.before in
-    let l = t.before in
-    let a = l.before.before.before.before in
-    sym (any_next a.args.s.now a.args.t2 (fits a) l.loop.j t.loop-test.true _
-    (sym c.before.has-id.ensures ∙ c.if1.false)) ∙ l.loop.invariant
-
-returns-2 : tie.Need-returns-2 invariant-loop decreases-loop
-returns-2 c =
     let l = c.before in
     let a = l.before.before.before.before in
-    sym (any_image_end a.args.s.now a.args.t2 (fits a) l.loop.j _ c.loop-test.false) ∙ l.loop.invariant
+    sym (any_image_end a.args.s.now a.args.v (fits a) l.loop-j.j _ c.loop-j-test.false) ∙ l.loop-j.invariant
 
-pub is-held-spec : {M : Type 1} → statement M
-is-held-spec =
-    tie.close (tie.spec invariant-loop decreases-loop (λ c. refl) mul-r element-copy-out-r has-id-requires returns add-j loop-less loop-again returns-2)
+pub is_held_spec : {M : Type 1} → statement M
+is_held_spec =
+    tie.close (tie.spec invariant-loop decreases-loop (λ c. refl) offset_bounds-v-j bounds-v-j has_id-requires returns-then-has_id overflow_add-j
+    loop-j-smaller loop-j-preserved returns)
