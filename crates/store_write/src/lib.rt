@@ -1,4 +1,6 @@
 // A record written: its size, its start, and the bytes of its manifest.
+#![tactic(auto)]
+
 ghost use Rattle.std.specs.Prelude.{◌≡◌, ◌++◌, ◌≤◌, length, drop};
 ghost use Rattle.reference_digests.specs.Algorithms.{digest_bytes};
 ghost use Rattle.reference.specs.References.{image_id};

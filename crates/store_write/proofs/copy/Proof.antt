@@ -10,33 +10,33 @@ use Rattle.laws.proofs.Writing.{nothing_written, copied_byte}
 use Rattle.store_write.proofs.copy.Statement.{statement}
 use Rattle.store_write.proofs.copy.Tie as tie
 
-abbrev invariant-loop : tie.invariant-loop
+abbrev invariant-loop : tie.invariant-loop-i
 invariant-loop from out₀ i₀ out i = (i ≤ length from) × Writes out₀ out (take i from)
 
-abbrev decreases-loop : tie.decreases-loop
+abbrev decreases-loop : tie.decreases-loop-i
 decreases-loop from out₀ i₀ out i = length from - i
 
-loop-holds : tie.Need-loop-init invariant-loop decreases-loop
-loop-holds c = (omega arith, nothing_written _)
+loop-i-init : tie.Need-loop-i-init invariant-loop decreases-loop
+loop-i-init c = (omega arith, nothing_written _)
 
-slice-write-out : tie.Need-slice-write-out invariant-loop decreases-loop
-slice-write-out c = omega (arith, Writing.same_length c.before.before.loop.invariant.1)
+bounds-out-i : tie.Need-bounds-out-i invariant-loop decreases-loop
+bounds-out-i c = omega (arith, Writing.same_length c.loop-i.invariant.1)
 
-loop-again : tie.Need-loop-preserved invariant-loop decreases-loop
-loop-again c =
+loop-i-preserved : tie.Need-loop-i-preserved invariant-loop decreases-loop
+loop-i-preserved c =
     let l = c.before.before in
-    (omega arith, rw zero-add at (copied_byte l.before.args.from.now 0 l.loop.i (omega arith) (omega arith) l.loop.invariant.1))
+    (omega arith, rw zero-add at (copied_byte l.args.from.now 0 l.loop-i.i (omega arith) (omega arith) l.loop-i.invariant.1))
 
-same_length : tie.Need-same-length invariant-loop decreases-loop
-same_length c = Writing.same_length c.before.loop.invariant.1
+shape_of-out : tie.Need-shape_of-out invariant-loop decreases-loop
+shape_of-out c = Writing.same_length c.loop-i.invariant.1
 
 returns : tie.Need-returns invariant-loop decreases-loop
 returns c =
     let l = c.before in
-    let w = rw (take_all l.loop.i l.before.args.from.now (omega arith)) at l.loop.invariant.1 in
+    let w = rw (take_all l.loop-i.i l.args.from.now (omega arith)) at l.loop-i.invariant.1 in
     w.all
 
 pub copy_spec : {M : Type 1} → statement M
 copy_spec =
-    tie.close (tie.spec invariant-loop decreases-loop loop-holds (λ c. omega arith) slice-write-out (λ c. omega arith) (λ c. omega arith) loop-again same_length
-    returns)
+    tie.close (tie.spec invariant-loop decreases-loop loop-i-init (λ c. omega arith) bounds-out-i (λ c. omega arith) (λ c. omega arith)
+    loop-i-preserved shape_of-out returns)
