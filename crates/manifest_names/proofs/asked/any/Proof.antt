@@ -6,20 +6,20 @@ use Rattle.manifest_names.proofs.Founds.{group_here, its_object, none_tried}
 use Rattle.manifest_names.proofs.asked.any.Statement.{statement}
 use Rattle.manifest_names.proofs.asked.any.Tie as tie
 
-any-grouped-requires : tie.Need-any-grouped-requires
-any-grouped-requires c κs =
-    let a = c.before.before.before.before.before.before.before.before in
-    (a.requires.0, a.requires.1, group_here _ _ _ a.requires.2 _ c.before.group.given.1)
+any_grouped-requires : tie.Need-any_grouped-requires
+any_grouped-requires c κs =
+    let a = c.before.before.before.before.before.before in
+    (a.requires.0, a.requires.1, group_here _ _ _ a.requires.2 _ c.in-At.is)
 
-returns : tie.Need-returns
-returns c = λ i o f. none_tried _ _ (missing_members _ _ _ o f c.enum_told.given.1)
+returns-in-Missing : tie.Need-returns-in-Missing
+returns-in-Missing c = λ i o f. none_tried _ _ (missing_members _ _ _ o f c.in-Missing.is)
 
-returns-2 : tie.Need-returns-2
-returns-2 c =
+returns-in-At : tie.Need-returns-in-At
+returns-in-At c =
     let d = c.before in
-    let a = d.before.before.before.before.before.before.before.before in
-    λ i o f. c.any-grouped.ensures i _ (its_object _ _ _ a.requires.2 _ d.before.group.given.1 o f)
+    let a = d.before.before.before.before.before.before in
+    λ i o f. c.any_grouped.ensures i _ (its_object _ _ _ a.requires.2 _ d.in-At.is o f)
 
 pub any_spec : {M : Type 1} → statement M
 any_spec =
-    tie.close (tie.spec (λ c. search rules) (λ c. search rules) any-grouped-requires returns returns-2)
+    tie.close (tie.spec (λ c. search rules) (λ c. search rules) any_grouped-requires returns-in-Missing returns-in-At)

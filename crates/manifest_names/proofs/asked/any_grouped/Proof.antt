@@ -11,62 +11,61 @@ use Rattle.manifest_names.proofs.Walking.{InNamed, named_started, some_members, 
 use Rattle.manifest_names.proofs.asked.any_grouped.Statement.{statement}
 use Rattle.manifest_names.proofs.asked.any_grouped.Tie as tie
 
-abbrev invariant-loop : tie.invariant-loop
+abbrev invariant-loop : tie.invariant-loop-key
 invariant-loop s names heads keys asked t at depth left₀ left = InNamed (passes asked s keys names) t at depth left
 
-abbrev decreases-loop : tie.decreases-loop
+abbrev decreases-loop : tie.decreases-loop-key
 decreases-loop s names heads keys asked t at depth left₀ left = length t - left.at
 
-new-requires : tie.Need-new-requires invariant-loop decreases-loop
-new-requires c κs = let o = c.before.before.before.before.before.requires.2 in record { fields = o.fields; here = o.here }
+new-left-requires : tie.Need-new-left-requires invariant-loop decreases-loop
+new-left-requires c κs = let o = c.requires.2 in record { fields = o.fields; here = o.here }
 
-loop-holds : tie.Need-loop-init invariant-loop decreases-loop
-loop-holds c = named_started _ _ _ _ c.before.before.before.before.before.before.requires.2 _ c.new.ensures.0
+loop-key-init : tie.Need-loop-key-init invariant-loop decreases-loop
+loop-key-init c = named_started _ _ _ _ c.requires.2 _ c.new-left.ensures.0
 
 next-requires : tie.Need-next-requires invariant-loop decreases-loop
-next-requires c κs = some_members _ _ _ _ _ c.loop.invariant
+next-requires c κs = some_members _ _ _ _ _ c.loop-key.invariant
 
-returns : tie.Need-returns invariant-loop decreases-loop
-returns c =
-    let d = c.before.before in
-    let p = d.before.loop.invariant in
-    not_in_named _ _ _ _ _ p (rw c.enum_told.given.1 at (d.next.ensures p.others p.here))
+returns-in-End : tie.Need-returns-in-End invariant-loop decreases-loop
+returns-in-End c =
+    let d = c.before in
+    let p = d.loop-key.invariant in
+    not_in_named _ _ _ _ _ p (rw c.in-End.is at (d.next.ensures p.others p.here))
 
 -- what `next` gave: a member
-abbrev inv : (c : tie.After-known-told invariant-loop decreases-loop) → let b = c.before.before.before.before in
-    let a = b.before.before.before.before.before.before.before.args in
-    InNamed (passes a.asked a.s.now a.keys.now a.names.now) a.t.now a.at a.depth b.loop.left
-inv c = c.before.before.before.before.loop.invariant
+abbrev inv : (c : tie.In-At invariant-loop decreases-loop) → let b = c.before.before in
+    let a = b.args in
+    InNamed (passes a.asked a.s.now a.keys.now a.names.now) a.t.now a.at a.depth b.loop-key.left
+inv c = c.loop-key.invariant
 
-given : (c : tie.After-known-told invariant-loop decreases-loop) → let b = c.before.before.before.before in
-    let a = b.before.before.before.before.before.before.before.args in
-    let g = c.before.key.given.0 in NextMember a.t.now b.loop.left b.loop.invariant.others g.0 g.1.0 g.1.1.0
-given c = let d = c.before.before.before in let p = d.before.loop.invariant in rw c.before.key.given.1 at (d.next.ensures p.others p.here)
+given : (c : tie.In-At invariant-loop decreases-loop) → let b = c.before.before in
+    let a = b.args in NextMember a.t.now b.loop-key.left b.loop-key.invariant.others c.in-At.key c.in-At.value c.in-At.rest
+given c = let d = c.before in let p = d.loop-key.invariant in rw c.in-At.is at (d.next.ensures p.others p.here)
 
-add-any-listed : tie.Need-overflow-add-any-listed invariant-loop decreases-loop
-add-any-listed c = omega (arith, inside_within _ _ (key_inside _ _ _ _ _ (inv c) _ _ _ (given c)))
+overflow_add-key : tie.Need-overflow_add-key invariant-loop decreases-loop
+overflow_add-key c = omega (arith, inside_within _ _ (key_inside _ _ _ _ _ (inv c) _ _ _ (given c)))
 
-any-listed-requires : tie.Need-any-listed-requires invariant-loop decreases-loop
-any-listed-requires c κs =
-    let a = c.before.before.before.before.before.before.before.before.before.before.before in
+any_listed-requires : tie.Need-any_listed-requires invariant-loop decreases-loop
+any_listed-requires c κs =
+    let a = c.before.before.before.before.before.before.before.before.before in
     (a.requires.0, a.requires.1, key_inside _ _ _ _ _ (inv c) _ _ _ (given c), alias_list _ _ _ _ _ (inv c) _ _ _ (given c))
 
-returns-2 : tie.Need-returns-2 invariant-loop decreases-loop
-returns-2 c =
+returns-then-any_listed : tie.Need-returns-then-any_listed invariant-loop decreases-loop
+returns-then-any_listed c =
     let n = c.before in
     let k = n.before in
-    in_named _ _ _ _ _ (inv k) _ _ _ (given k) _ n.any-listed.ensures c.if1.true
+    in_named _ _ _ _ _ (inv k) _ _ _ (given k) _ n.any_listed.ensures c.if-any_listed.true
 
-loop-less : tie.Need-loop-smaller invariant-loop decreases-loop
-loop-less c = let x = given c.before.before in omega (arith, x.later, x.within)
+loop-key-smaller : tie.Need-loop-key-smaller invariant-loop decreases-loop
+loop-key-smaller c = let x = given c.before.before in omega (arith, x.later, x.within)
 
-loop-again : tie.Need-loop-preserved invariant-loop decreases-loop
-loop-again c =
+loop-key-preserved : tie.Need-loop-key-preserved invariant-loop decreases-loop
+loop-key-preserved c =
     let n = c.before in
     let k = n.before in
-    named_goes_on _ _ _ _ _ (inv k) _ _ _ (given k) _ n.any-listed.ensures c.if1.false
+    named_goes_on _ _ _ _ _ (inv k) _ _ _ (given k) _ n.any_listed.ensures c.if-any_listed.false
 
-pub any-grouped-spec : {M : Type 1} → statement M
-any-grouped-spec =
-    tie.close (tie.spec invariant-loop decreases-loop new-requires loop-holds next-requires (λ c. search rules) returns (λ c. search rules) add-any-listed
-    any-listed-requires returns-2 loop-less loop-again)
+pub any_grouped_spec : {M : Type 1} → statement M
+any_grouped_spec =
+    tie.close (tie.spec invariant-loop decreases-loop new-left-requires loop-key-init next-requires (λ c. search rules) returns-in-End
+    (λ c. search rules) overflow_add-key any_listed-requires returns-then-any_listed loop-key-smaller loop-key-preserved)

@@ -6,12 +6,12 @@ use Rattle.manifest_names.proofs.conflict.conflicts.Statement.{statement}
 use Rattle.manifest_names.proofs.conflict.conflicts.Tie as tie
 
 any-requires : tie.Need-any-requires
-any-requires c κs = let o = c.before.before.before.before.before.requires in ((o.0.aliases, o.0.sorted), o.1, o.2)
+any-requires c κs = let o = c.requires in ((o.0.aliases, o.0.sorted), o.1, o.2)
 
 returns : tie.Need-returns
 unfolding passes conflict
 returns c = λ xs o m f. c.any.ensures (xs, m) o f
 
-pub conflicts-spec : {M : Type 1} → statement M
-conflicts-spec =
+pub conflicts_spec : {M : Type 1} → statement M
+conflicts_spec =
     tie.close (tie.spec any-requires returns)

@@ -9,54 +9,53 @@ use Rattle.manifest_names.proofs.Keying.{WithKeys, keyable_object, with_started,
 use Rattle.manifest_names.proofs.keyed.collect_contents.Statement.{statement}
 use Rattle.manifest_names.proofs.keyed.collect_contents.Tie as tie
 
-abbrev invariant-loop : tie.invariant-loop
+abbrev invariant-loop : tie.invariant-loop-key
 invariant-loop s at depth names₀ keys₀ left₀ n₀ names keys left n = WithKeys s at depth names₀ keys₀ names keys left n
 
-abbrev decreases-loop : tie.decreases-loop
+abbrev decreases-loop : tie.decreases-loop-key
 decreases-loop s at depth names₀ keys₀ left₀ n₀ names keys left n = length s - left.at
 
-new-requires : tie.Need-new-requires invariant-loop decreases-loop
-new-requires c κs = keyable_object _ _ _ _ _ c.before.before.before.requires
+new-left-requires : tie.Need-new-left-requires invariant-loop decreases-loop
+new-left-requires c κs = keyable_object _ _ _ _ _ c.requires
 
-loop-holds : tie.Need-loop-init invariant-loop decreases-loop
-loop-holds c =
-    let o = c.before.before.before.before.requires in
-    with_started _ _ _ _ _ o _ (c.new.ensures.0 o.group.fields o.group.here)
+loop-key-init : tie.Need-loop-key-init invariant-loop decreases-loop
+loop-key-init c =
+    let o = c.requires in
+    with_started _ _ _ _ _ o _ (c.new-left.ensures.0 o.group.fields o.group.here)
 
 next-requires : tie.Need-next-requires invariant-loop decreases-loop
-next-requires c κs = with_left _ _ _ _ _ _ _ _ _ c.loop.invariant
+next-requires c κs = with_left _ _ _ _ _ _ _ _ _ c.loop-key.invariant
 
-returns : tie.Need-returns invariant-loop decreases-loop
-returns c =
-    let d = c.before.before in
-    let p = d.before.loop.invariant in
-    (with_within _ _ _ _ _ _ _ _ _ p, with_finished _ _ _ _ _ _ _ _ _ p (rw c.enum_told.given.1 at (d.next.ensures p.others p.here)))
+returns-in-End : tie.Need-returns-in-End invariant-loop decreases-loop
+returns-in-End c =
+    let d = c.before in
+    let p = d.loop-key.invariant in
+    (with_within _ _ _ _ _ _ _ _ _ p, with_finished _ _ _ _ _ _ _ _ _ p (rw c.in-End.is at (d.next.ensures p.others p.here)))
 
 -- what `next` gave: a member
-abbrev inv : (c : tie.After-known-told invariant-loop decreases-loop) → let b = c.before.before.before.before in
-    let a = b.before.before.before.before.before.args in
-    WithKeys a.s.now a.at a.depth a.names.now a.keys.now b.loop.names b.loop.keys b.loop.left b.loop.n
-inv c = c.before.before.before.before.loop.invariant
+abbrev inv : (c : tie.In-At invariant-loop decreases-loop) → let b = c.before.before in
+    let a = b.args in
+    WithKeys a.s.now a.at a.depth a.names.now a.keys.now b.loop-key.names b.loop-key.keys b.loop-key.left b.loop-key.n
+inv c = c.loop-key.invariant
 
-given : (c : tie.After-known-told invariant-loop decreases-loop) → let b = c.before.before.before.before in let a = b.before.before.before.before.before.args in
-    let g = c.before.key.given.0 in NextMember a.s.now b.loop.left b.loop.invariant.others g.0 g.1.0 g.1.1.0
-given c = let d = c.before.before.before in let p = d.before.loop.invariant in rw c.before.key.given.1 at (d.next.ensures p.others p.here)
+given : (c : tie.In-At invariant-loop decreases-loop) → let b = c.before.before in let a = b.args in NextMember a.s.now b.loop-key.left b.loop-key.invariant.others c.in-At.key c.in-At.value c.in-At.rest
+given c = let d = c.before in let p = d.loop-key.invariant in rw c.in-At.is at (d.next.ensures p.others p.here)
 
-collect-under-requires : tie.Need-collect-under-requires invariant-loop decreases-loop
-collect-under-requires c κs = let d = c.before.before in keyable _ _ _ _ _ _ _ _ _ (inv d) _ _ _ (given d)
+collect_under-n-requires : tie.Need-collect_under-n-requires invariant-loop decreases-loop
+collect_under-n-requires c κs = let d = c.before.before in keyable _ _ _ _ _ _ _ _ _ (inv d) _ _ _ (given d)
 
-loop-less : tie.Need-loop-smaller invariant-loop decreases-loop
-loop-less c = let x = given c.before.before.before.before.before.before.before in omega (arith, x.later, x.within)
+loop-key-smaller : tie.Need-loop-key-smaller invariant-loop decreases-loop
+loop-key-smaller c = let x = given c.before.before.before.before.before.before.before in omega (arith, x.later, x.within)
 
-loop-again : tie.Need-loop-preserved invariant-loop decreases-loop
-loop-again c =
+loop-key-preserved : tie.Need-loop-key-preserved invariant-loop decreases-loop
+loop-key-preserved c =
     let f = c.before.before.before.before in
     let d = f.before.before.before in
-    let k = f.collect-under.auto.1.1.1.1 in
-    with_goes_on _ _ _ _ _ _ _ _ _ (inv d) _ _ _ (given d) _ _ _ k.0 k.1.1.0 f.collect-under.ensures
+    let k = f.collect_under-n.auto in
+    with_goes_on _ _ _ _ _ _ _ _ _ (inv d) _ _ _ (given d) _ _ _ k.names k.keys f.collect_under-n.ensures
 
-pub collect-contents-spec : {M : Type 1} → statement M
-collect-contents-spec =
-    tie.close (tie.spec invariant-loop decreases-loop new-requires loop-holds next-requires (λ c. search rules)
-    (λ c. c.before.before.before.loop.invariant.size) (λ c. c.before.before.before.loop.invariant.key_size) returns
-    (λ c. search rules) collect-under-requires loop-less loop-again)
+pub collect_contents_spec : {M : Type 1} → statement M
+collect_contents_spec =
+    tie.close (tie.spec invariant-loop decreases-loop new-left-requires loop-key-init next-requires (λ c. search rules)
+    (λ c. c.loop-key.invariant.size) (λ c. c.loop-key.invariant.key_size) returns-in-End (λ c. search rules) collect_under-n-requires loop-key-smaller
+    loop-key-preserved)

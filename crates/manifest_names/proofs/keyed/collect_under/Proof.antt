@@ -10,72 +10,71 @@ use Rattle.manifest_names.proofs.Keying.{place_fits, under_goes_on}
 use Rattle.manifest_names.proofs.keyed.collect_under.Statement.{statement}
 use Rattle.manifest_names.proofs.keyed.collect_under.Tie as tie
 
-abbrev invariant-loop : tie.invariant-loop
+abbrev invariant-loop : tie.invariant-loop-p
 invariant-loop s at depth key names₀ n keys₀ left₀ i₀ names keys left i = UnderKey s at depth key names₀ n keys₀ names keys left i
 
-abbrev decreases-loop : tie.decreases-loop
+abbrev decreases-loop : tie.decreases-loop-p
 decreases-loop s at depth key names₀ n keys₀ left₀ i₀ names keys left i = length s - left.at
 
-new-requires : tie.Need-new-requires invariant-loop decreases-loop
-new-requires c κs = under_array _ _ _ _ _ _ _ c.before.before.before.requires
+new-left-requires : tie.Need-new-left-requires invariant-loop decreases-loop
+new-left-requires c κs = under_array _ _ _ _ _ _ _ c.requires
 
-loop-holds : tie.Need-loop-init invariant-loop decreases-loop
-loop-holds c =
-    let o = c.before.before.before.before.requires in
-    under_started _ _ _ _ _ _ _ o _ (c.new.ensures.0 o.list.values o.list.here)
+loop-p-init : tie.Need-loop-p-init invariant-loop decreases-loop
+loop-p-init c =
+    let o = c.requires in
+    under_started _ _ _ _ _ _ _ o _ (c.new-left.ensures.0 o.list.values o.list.here)
 
 next-requires : tie.Need-next-requires invariant-loop decreases-loop
-next-requires c κs = under_left _ _ _ _ _ _ _ _ _ _ _ c.loop.invariant
+next-requires c κs = under_left _ _ _ _ _ _ _ _ _ _ _ c.loop-p.invariant
 
-returns : tie.Need-returns invariant-loop decreases-loop
-returns c =
-    let d = c.before.before in
-    let p = d.before.loop.invariant in
-    under_finished _ _ _ _ _ _ _ _ _ _ _ p (rw c.enum_told.given.1 at (d.next.ensures p.others p.here))
+returns-in-End : tie.Need-returns-in-End invariant-loop decreases-loop
+returns-in-End c =
+    let d = c.before in
+    let p = d.loop-p.invariant in
+    under_finished _ _ _ _ _ _ _ _ _ _ _ p (rw c.in-End.is at (d.next.ensures p.others p.here))
 
 -- what `next` gave: an element
-abbrev inv : (c : tie.After-known-told invariant-loop decreases-loop) → let b = c.before.before.before.before in
-    let a = b.before.before.before.before.before.args in
-    UnderKey a.s.now a.at a.depth a.key a.names.now a.n a.keys.now b.loop.names b.loop.keys b.loop.left b.loop.i
-inv c = c.before.before.before.before.loop.invariant
+abbrev inv : (c : tie.In-At invariant-loop decreases-loop) → let b = c.before.before in
+    let a = b.args in
+    UnderKey a.s.now a.at a.depth a.key a.names.now a.n a.keys.now b.loop-p.names b.loop-p.keys b.loop-p.left b.loop-p.i
+inv c = c.loop-p.invariant
 
-given : (c : tie.After-known-told invariant-loop decreases-loop) → let b = c.before.before.before.before in let a = b.before.before.before.before.before.args in
-    let g = c.before.p.given.0 in NextElement a.s.now b.loop.left b.loop.invariant.others g.0 g.1.0
-given c = let d = c.before.before.before in let p = d.before.loop.invariant in rw c.before.p.given.1 at (d.next.ensures p.others p.here)
+given : (c : tie.In-At invariant-loop decreases-loop) → let b = c.before.before in let a = b.args in NextElement a.s.now b.loop-p.left b.loop-p.invariant.others c.in-At.p c.in-At.rest
+given c = let d = c.before in let p = d.loop-p.invariant in rw c.in-At.is at (d.next.ensures p.others p.here)
 
-cast-names : tie.Need-overflow-cast-names invariant-loop decreases-loop
-cast-names c =
-    let a = c.before.before.before.before.before.before.before.before.before in
+overflow_cast-names : tie.Need-overflow_cast-names invariant-loop decreases-loop
+overflow_cast-names c =
+    let a = c.before.before.before.before.before.before.before in
     omega (arith, place_within _ _ _ _ _ _ _ _ _ _ _ (inv c) _ _ (given c), a.requires.list.short)
 
-mul-names : tie.Need-overflow-mul-names invariant-loop decreases-loop
-mul-names c = omega (arith, place_fits _ _ _ _ _ _ _ _ _ _ _ (inv c) _ _ (given c), (inv c).size)
+offset_bounds-names-i : tie.Need-offset_bounds-names-i invariant-loop decreases-loop
+offset_bounds-names-i c = omega (arith, place_fits _ _ _ _ _ _ _ _ _ _ _ (inv c) _ _ (given c), (inv c).size)
 
-slice-write-names : tie.Need-slice-write-names invariant-loop decreases-loop
-slice-write-names c = place_fits _ _ _ _ _ _ _ _ _ _ _ (inv c) _ _ (given c)
+bounds-names-i : tie.Need-bounds-names-i invariant-loop decreases-loop
+bounds-names-i c = place_fits _ _ _ _ _ _ _ _ _ _ _ (inv c) _ _ (given c)
 
-cast-keys : tie.Need-overflow-cast-keys invariant-loop decreases-loop
-cast-keys c =
-    let a = c.before.before.before.before.before.before.before.before.before in
+overflow_cast-keys : tie.Need-overflow_cast-keys invariant-loop decreases-loop
+overflow_cast-keys c =
+    let a = c.before.before.before.before.before.before.before in
     omega (arith, key_within _ _ _ _ _ _ _ _ _ _ _ (inv c) _ _ (given c), a.requires.list.short)
 
-mul-keys : tie.Need-overflow-mul-keys invariant-loop decreases-loop
-mul-keys c = omega (arith, place_space _ _ _ _ _ _ _ _ _ _ _ (inv c) _ _ (given c), (inv c).key_size)
+offset_bounds-keys-p : tie.Need-offset_bounds-keys-p invariant-loop decreases-loop
+offset_bounds-keys-p c = omega (arith, place_space _ _ _ _ _ _ _ _ _ _ _ (inv c) _ _ (given c), (inv c).key_size)
 
-slice-write-keys : tie.Need-slice-write-keys invariant-loop decreases-loop
-slice-write-keys c = place_space _ _ _ _ _ _ _ _ _ _ _ (inv c) _ _ (given c)
+bounds-keys-p : tie.Need-bounds-keys-p invariant-loop decreases-loop
+bounds-keys-p c = place_space _ _ _ _ _ _ _ _ _ _ _ (inv c) _ _ (given c)
 
-add-i : tie.Need-overflow-add-i invariant-loop decreases-loop
-add-i c = omega (arith, place_fits _ _ _ _ _ _ _ _ _ _ _ (inv c) _ _ (given c), (inv c).size)
+overflow_add-i : tie.Need-overflow_add-i invariant-loop decreases-loop
+overflow_add-i c = omega (arith, place_fits _ _ _ _ _ _ _ _ _ _ _ (inv c) _ _ (given c), (inv c).size)
 
-loop-less : tie.Need-loop-smaller invariant-loop decreases-loop
-loop-less c = let x = given c in omega (arith, x.later, x.within)
+loop-p-smaller : tie.Need-loop-p-smaller invariant-loop decreases-loop
+loop-p-smaller c = let x = given c in omega (arith, x.later, x.within)
 
-loop-again : tie.Need-loop-preserved invariant-loop decreases-loop
-loop-again c = under_goes_on _ _ _ _ _ _ _ _ _ _ _ (inv c) _ _ (given c)
+loop-p-preserved : tie.Need-loop-p-preserved invariant-loop decreases-loop
+loop-p-preserved c = under_goes_on _ _ _ _ _ _ _ _ _ _ _ (inv c) _ _ (given c)
 
-pub collect-under-spec : {M : Type 1} → statement M
-collect-under-spec =
-    tie.close (tie.spec invariant-loop decreases-loop new-requires loop-holds next-requires (λ c. search rules)
-    (λ c. c.before.before.before.loop.invariant.size) (λ c. c.before.before.before.loop.invariant.key_size) returns
-    (λ c. search rules) cast-names mul-names slice-write-names cast-keys mul-keys slice-write-keys add-i loop-less loop-again)
+pub collect_under_spec : {M : Type 1} → statement M
+collect_under_spec =
+    tie.close (tie.spec invariant-loop decreases-loop new-left-requires loop-p-init next-requires (λ c. search rules) (λ c. c.loop-p.invariant.size)
+    (λ c. c.loop-p.invariant.key_size) returns-in-End (λ c. search rules) overflow_cast-names offset_bounds-names-i bounds-names-i overflow_cast-keys
+    offset_bounds-keys-p bounds-keys-p overflow_add-i loop-p-smaller loop-p-preserved)

@@ -11,12 +11,12 @@ use Rattle.manifest_names.proofs.shared.shares.Statement.{statement}
 use Rattle.manifest_names.proofs.shared.shares.Tie as tie
 
 any-requires : tie.Need-any-requires
-any-requires c κs = let o = c.before.before.before.before.requires in ((o.0.names, o.0.sorted), o.1, o.2)
+any-requires c κs = let o = c.requires in ((o.0.names, o.0.sorted), o.1, o.2)
 
 returns : tie.Need-returns
 unfolding passes share_name
 returns c = λ cs o m f. c.any.ensures (cs, m) o f ∙ any_name (λ (n : List ℕ). is_one_of n cs) _
 
-pub shares-spec : {M : Type 1} → statement M
-shares-spec =
+pub shares_spec : {M : Type 1} → statement M
+shares_spec =
     tie.close (tie.spec any-requires returns)
