@@ -1,5 +1,7 @@
 // The rules of a launch policy one by one: their strings are found in one walk, each is read once, and then matched with images. Which of them have an
 // alias that it asks for is looked up before, in an index of all their own aliases.
+#![tactic(auto)]
+
 ghost use Rattle.std.specs.Prelude.{◌≡◌, List, ℕ, ◌≤◌, length, take};
 ghost use Rattle.laws.specs.Any.{any_of};
 ghost use Rattle.reference.specs.Matches.{manifest_matches, matches as matches_by};

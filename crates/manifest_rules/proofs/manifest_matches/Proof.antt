@@ -10,21 +10,21 @@ use Rattle.manifest_rules.proofs.manifest_matches.Tie as tie
 
 is-requires : tie.Need-is-requires
 is-requires c κs =
-    let a = c.before.before.before.before.before in
-    subst (ManifestAt a.args.s.now a.args.a) c.before.manifest.given.1 a.requires
+    let a = c.before.before.before in
+    subst (ManifestAt a.args.s.now a.args.a) c.in-Digest.is a.requires
 
-returns : tie.Need-returns
+returns-in-Any : tie.Need-returns-in-Any
 unfolding manifest_matches
-returns c = λ g names e. rw c.enum_told.given.1
+returns-in-Any c = λ g names e. rw c.in-Any.is
 
-returns-2 : tie.Need-returns-2
+returns-in-Digest : tie.Need-returns-in-Digest
 unfolding manifest_matches
-returns-2 c = λ g names e. c.is.ensures ∙ rw c.before.before.manifest.given.1
+returns-in-Digest c = λ g names e. c.is.ensures ∙ rw c.in-Digest.is
 
-returns-3 : tie.Need-returns-3
+returns-in-Alias : tie.Need-returns-in-Alias
 unfolding manifest_matches
-returns-3 c = λ g names e. rw c.enum-told2.given.1 ((rw c.enum-told2.given.1 at e) ∙ alias_named _ g _ names)
+returns-in-Alias c = λ g names e. rw c.in-Alias.is ((rw c.in-Alias.is at e) ∙ alias_named _ g _ names)
 
-pub manifest-matches-spec : {M : Type 1} → statement M
-manifest-matches-spec =
-    tie.close (tie.spec (λ c. search rules) (λ c. search rules) is-requires (λ c. search rules) returns returns-2 returns-3)
+pub manifest_matches_spec : {M : Type 1} → statement M
+manifest_matches_spec =
+    tie.close (tie.spec (λ c. search rules) (λ c. search rules) is-requires (λ c. search rules) returns-in-Any returns-in-Digest returns-in-Alias)

@@ -16,5 +16,6 @@ returns c =
     let x = rules_placed _ _ a.requires.0 e.2 in
     (placed_count _ _ _ _ x (omega (arith, e.0, e.1, a.requires.1)), e.0, e.1, x)
 
-pub place-spec : {M : Type 1} → statement M
-place-spec = tie.close (tie.spec place-requires (λ c. search rules) returns)
+pub place_spec : {M : Type 1} → statement M
+place_spec =
+    tie.close (tie.spec place-requires (λ c. search rules) returns)

@@ -3,7 +3,7 @@ use Rattle.manifest_rules.proofs.read.Statement.{statement}
 use Rattle.manifest_rules.proofs.read.Tie as tie
 
 read-requires : tie.Need-read-requires
-read-requires c κs = c.before.requires.here.inside
+read-requires c κs = c.requires.here.inside
 
 returns : tie.Need-returns
 returns c = λ y h. record { at = _; reads = c.read.ensures; is = h.is }
