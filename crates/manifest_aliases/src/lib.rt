@@ -1,5 +1,7 @@
 // The names of two manifests compared, and the object of an alias. The positions of a manifest's names are sorted once, into arrays that the caller
 // lends, with their heads in another; the names of other manifests are looked up among them.
+#![tactic(auto)]
+
 ghost use Rattle.std.specs.Prelude.{◌≡◌, List, ℕ, ◌≤◌, length, take};
 ghost use Rattle.text_strings.specs.InString.{Inside, content_from};
 ghost use Rattle.reference_digests.specs.declared.algorithm.Algorithm.{Algorithm};

@@ -17,6 +17,6 @@ returns c =
     let a = c.before.before.before.before.before.before in
     c.conflicts.ensures (named_in (contents_of (manifest_of _))) (contents_field (manifest_of _)) a.requires.0.sorted a.requires.2.contents ∙ conflict_keys _ _
 
-pub conflicts-spec : {M : Type 1} → statement M
-conflicts-spec =
+pub conflicts_spec : {M : Type 1} → statement M
+conflicts_spec =
     tie.close (tie.spec conflicts-requires returns)

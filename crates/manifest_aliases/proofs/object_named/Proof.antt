@@ -12,36 +12,37 @@ use Rattle.manifest_aliases.proofs.Objects.{no_object, key_inside, object_at}
 use Rattle.manifest_aliases.proofs.object_named.Statement.{statement}
 use Rattle.manifest_aliases.proofs.object_named.Tie as tie
 
-object-of-requires : tie.Need-object-of-requires
-object-of-requires c κs = let a = c.before.before in (contents_grouped _ _ a.requires.0, a.requires.1)
+object_of-requires : tie.Need-object_of-requires
+object_of-requires c κs = let a = c.before.before in (contents_grouped _ _ a.requires.0, a.requires.1)
 
 -- the key under which the name stands
-found : (c : tie.After-known-told) → let a = c.before.before.before.before.before.before.args in let g = c.before.index.given.0 in
-    KeyFound a.s.now (contents_of (manifest_of a.s.now)) (content_from a.t.now a.q) g.0 g.1.0
+found : (c : tie.In-At) → let a = c.args in
+    KeyFound a.s.now (contents_of (manifest_of a.s.now)) (content_from a.t.now a.q) c.in-At.index c.in-At.key
 unfolding contents_of
 found c =
-    let o = c.before.before.before in
+    let o = c.before in
     let a = o.before.before.before in
     let m = manifest_of a.args.s.now in
-    subst (FindsKey a.args.s.now (contents_of m) (content_from a.args.t.now a.args.q)) c.before.index.given.1
+    subst (FindsKey a.args.s.now (contents_of m) (content_from a.args.t.now a.args.q)) c.in-At.is
     (o.object_of.ensures (contents_field m) a.requires.0.contents)
 
-add_read : tie.Need-overflow-add-read
-add_read c = omega (arith, inside_within _ _ (key_inside _ _ _ _ (found c)))
+overflow_add-key : tie.Need-overflow_add-key
+overflow_add-key c = omega (arith, inside_within _ _ (key_inside _ _ _ _ (found c)))
 
-read-requires : tie.Need-read-requires
-read-requires c κs = key_inside _ _ _ _ (found c)
+read-object-requires : tie.Need-read-object-requires
+read-object-requires c κs = key_inside _ _ _ _ (found c)
 
-returns : tie.Need-returns
+returns-in-Missing : tie.Need-returns-in-Missing
 unfolding contents_of
-returns c =
-    let o = c.before.before in
+returns-in-Missing c =
+    let o = c.before in
     let a = o.before.before.before in
-    no_object _ _ (rw c.enum_told.given.1 at (o.object_of.ensures (contents_field (manifest_of _)) a.requires.0.contents))
+    no_object _ _ (rw c.in-Missing.is at (o.object_of.ensures (contents_field (manifest_of _)) a.requires.0.contents))
 
-returns-2 : tie.Need-returns-2
-returns-2 c = object_at _ _ _ _ (found c.before) _ c.read.ensures
+returns-in-At : tie.Need-returns-in-At
+returns-in-At c = object_at _ _ _ _ (found c.before) _ c.read-object.ensures
 
-pub object-named-spec : {M : Type 1} → statement M
-object-named-spec =
-    tie.close (tie.spec object-of-requires (λ c. search rules) (λ c. search rules) add_read read-requires returns returns-2)
+pub object_named_spec : {M : Type 1} → statement M
+object_named_spec =
+    tie.close (tie.spec object_of-requires (λ c. search rules) (λ c. search rules) overflow_add-key read-object-requires returns-in-Missing
+    returns-in-At)

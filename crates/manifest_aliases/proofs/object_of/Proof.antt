@@ -8,23 +8,24 @@ use Rattle.manifest_aliases.proofs.Objects.{no_digest, not_bad, alias_inside, al
 use Rattle.manifest_aliases.proofs.object_of.Statement.{statement}
 use Rattle.manifest_aliases.proofs.object_of.Tie as tie
 
-object-named-requires : tie.Need-object-named-requires
-object-named-requires c κs =
-    let a = c.before.before.before.before.before in
-    (a.requires.0, alias_inside _ _ _ _ _ _ _ _ c.before.x.given.1 a.requires.1.denotes)
+object_named-requires : tie.Need-object_named-requires
+object_named-requires c κs =
+    let a = c.before.before.before in
+    (a.requires.0, alias_inside _ _ _ _ _ _ _ _ c.in-Alias.is a.requires.1.denotes)
 
-returns : tie.Need-returns
-returns c = λ a d n h. no_digest _ a d n _ _ _ c.enum_told.given.1 h
+returns-in-Digest : tie.Need-returns-in-Digest
+returns-in-Digest c = λ a d n h. no_digest _ a d n _ _ _ c.in-Digest.is h
 
-returns-2 : tie.Need-returns-2
-returns-2 c = λ a d n h.
-    let g = c.before.before in
-    let s = g.before.before.before.before.args.s in
-    subst (λ (m : List ℕ). FindsObject s.now m c.object-named.result) (alias_name _ a d n _ _ _ _ g.x.given.1 h) c.object-named.ensures
+returns-in-Alias : tie.Need-returns-in-Alias
+returns-in-Alias c = λ a d n h.
+    let g = c.before in
+    let s = g.args.s in
+    subst (λ (m : List ℕ). FindsObject s.now m c.object_named.result) (alias_name _ a d n _ _ _ _ g.in-Alias.is h) c.object_named.ensures
 
-returns-3 : tie.Need-returns-3
-returns-3 c = λ a d n h. not_bad _ a d n _ c.enum-told2.given.1 h
+returns-in-Bad : tie.Need-returns-in-Bad
+returns-in-Bad c = λ a d n h. not_bad _ a d n _ c.in-Bad.is h
 
-pub object-of-spec : {M : Type 1} → statement M
-object-of-spec =
-    tie.close (tie.spec (λ c. search rules) (λ c. search rules) object-named-requires (λ c. search rules) returns returns-2 returns-3)
+pub object_of_spec : {M : Type 1} → statement M
+object_of_spec =
+    tie.close (tie.spec (λ c. search rules) (λ c. search rules) object_named-requires (λ c. search rules) returns-in-Digest returns-in-Alias
+    returns-in-Bad)

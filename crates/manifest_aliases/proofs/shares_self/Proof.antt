@@ -13,6 +13,6 @@ unfolding self_names self_of
 returns c = let a = c.before.before.before.before.before in
     c.shares.ensures (self_names _) (self_field (manifest_of _)) a.requires.0.sorted a.requires.2.own
 
-pub shares-self-spec : {M : Type 1} → statement M
-shares-self-spec =
+pub shares_self_spec : {M : Type 1} → statement M
+shares_self_spec =
     tie.close (tie.spec shares-requires returns)

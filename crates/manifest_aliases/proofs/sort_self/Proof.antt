@@ -7,17 +7,17 @@ use Rattle.manifest.proofs.Limits.{self_sorted_length}
 use Rattle.manifest_aliases.proofs.sort_self.Statement.{statement}
 use Rattle.manifest_aliases.proofs.sort_self.Tie as tie
 
-sort-names-requires : tie.Need-sort-names-requires
-sort-names-requires c κs = let a = c.before.before.before.before.before in self_space _ _ a.requires.0 _ _ a.requires.1
+sort_names-requires : tie.Need-sort_names-requires
+sort_names-requires c κs = let a = c.before.before.before.before.before in self_space _ _ a.requires.0 _ _ a.requires.1
 
 returns : tie.Need-returns
 returns c =
     let f = c.before.before.before.before in
     let a = f.before.before.before.before.before.before in
-    let n = f.sort-names.ensures in
+    let n = f.sort_names.ensures in
     let m = self_sorted _ _ a.requires.0 _ n.1 in
     (n.0, m, sym (length-take-le _ _ n.0) ∙ self_sorted_length m)
 
-pub sort-self-spec : {M : Type 1} → statement M
-sort-self-spec =
-    tie.close (tie.spec sort-names-requires (λ c. search rules) (λ c. search rules) returns)
+pub sort_self_spec : {M : Type 1} → statement M
+sort_self_spec =
+    tie.close (tie.spec sort_names-requires (λ c. search rules) (λ c. search rules) returns)
