@@ -1,4 +1,6 @@
 // Whether an image's record can be appended to a store, and appending it.
+#![tactic(auto)]
+
 ghost use Rattle.std.specs.Prelude.{◌+◌, ◌≤◌};
 ghost use Rattle.store_record.specs.Record.{head_size};
 ghost use Rattle.store_append.specs.Append.{NumberLeft, Storable, PutsRecord};

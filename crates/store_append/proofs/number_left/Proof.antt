@@ -6,9 +6,9 @@ use Rattle.laws.proofs.Order.{false_true}
 use Rattle.store_append.proofs.number_left.Statement.{statement}
 use Rattle.store_append.proofs.number_left.Tie as tie
 
-returns : tie.Need-returns
-returns c =
-    let t = c.if1.true in
+returns-then-clashing : tie.Need-returns-then-clashing
+returns-then-clashing c =
+    let t = c.if-clashing.true in
     record {
       clashes = λ e. refl;
       too_many = λ f e. false_true (sym f ∙ t);
@@ -16,33 +16,34 @@ returns c =
       none = λ f n l. false_true (sym f ∙ t);
     }
 
-returns-2 : tie.Need-returns-2
-returns-2 c =
-    let t = c.before.if1.false in
-    record { clashes = λ e. false_true (sym t ∙ e); too_many = λ f e. refl; too_long = λ f l. refl; none = λ f n l. absurd (n c.if2.true) }
+returns-then-count-eq-MOST_IMAGES : tie.Need-returns-then-count-eq-MOST_IMAGES
+returns-then-count-eq-MOST_IMAGES c =
+    let t = c.if-clashing.false in
+    record { clashes = λ e. false_true (sym t ∙ e); too_many = λ f e. refl; too_long = λ f l. refl; none = λ f n l. absurd (n c.if-count-eq-MOST_IMAGES.true) }
 
-returns-3 : tie.Need-returns-3
-returns-3 c =
+returns-then-left-head_size : tie.Need-returns-then-left-head_size
+returns-then-left-head_size c =
     let k = c.before in
-    let t = k.before.before.if1.false in
+    let t = k.if-clashing.false in
     record {
       clashes = λ e. false_true (sym t ∙ e);
       too_many = λ f e. refl;
       too_long = λ f l. refl;
-      none = λ f n l. absurd (omega (arith, c.if3.true, k.head-size.ensures));
+      none = λ f n l. absurd (omega (arith, c.if-left-head_size.true, k.head_size.ensures));
     }
 
-returns-4 : tie.Need-returns-4
-returns-4 c =
+returns : tie.Need-returns
+returns c =
     let k = c.before in
-    let t = k.before.before.if1.false in
+    let t = k.if-clashing.false in
     record {
       clashes = λ e. false_true (sym t ∙ e);
-      too_many = λ f e. absurd (k.before.if2.false e);
-      too_long = λ f l. absurd (omega (arith, c.if3.false, k.head-size.ensures));
+      too_many = λ f e. absurd (k.if-count-eq-MOST_IMAGES.false e);
+      too_long = λ f l. absurd (omega (arith, c.if-left-head_size.false, k.head_size.ensures));
       none = λ f n l. refl;
     }
 
-pub number-left-spec : {M : Type 1} → statement M
-number-left-spec =
-    tie.close (tie.spec returns returns-2 (λ c κs. search rules) (λ c. search rules) returns-3 returns-4)
+pub number_left_spec : {M : Type 1} → statement M
+number_left_spec =
+    tie.close (tie.spec returns-then-clashing returns-then-count-eq-MOST_IMAGES (λ c κs. search rules) (λ c. search rules) returns-then-left-head_size
+    returns)

@@ -44,81 +44,81 @@ space a =
 lent : (a : tie.Start) → length (mid_of a.args.used (length (buffer a) - a.args.used) (buffer a)) ≡ length (buffer a) - a.args.used
 lent a = mid_len a.args.used (length (buffer a)) (buffer a) (omega arith)
 
-abbrev begin : tie.After-write-head → tie.Start
+abbrev begin : tie.After-write_head-head → tie.Start
 begin c = c.before.before.before.before.before.before
 
 -- the buffer with the head
-abbrev with-head : tie.After-write-head → List ℕ
-with-head c = let a = begin c in put_mid a.args.used (length (buffer a) - a.args.used) (buffer a) c.write-head.new.1.1.1.1.0
+abbrev with-head : tie.After-write_head-head → List ℕ
+with-head c = let a = begin c in put_mid a.args.used (length (buffer a) - a.args.used) (buffer a) c.write_head-head.new.out
 
-abbrev at : tie.After-write-head → ℕ
-at c = (begin c).args.used + c.write-head.result
+abbrev at : tie.After-write_head-head → ℕ
+at c = (begin c).args.used + c.write_head-head.result
 
-head_written : (c : tie.After-write-head) → Writes (buffer (begin c)) (with-head c) (first (begin c) ++ head (begin c))
+head_written : (c : tie.After-write_head-head) → Writes (buffer (begin c)) (with-head c) (first (begin c) ++ head (begin c))
 head_written c =
     let a = begin c in
-    let w = a.pre.fits.within in
+    let w = a.requires.fits.within in
     part_written (begun (buffer a) a.args.used w) a.args.used _ (head a)
     (sym (first_length (buffer a) a.args.used w))
     (record {
       fits = omega (arith, lent a, space a);
-      all = c.write-head.ensures.1
-          ∙ ap (λ (k : ℕ). head a ++ drop k (mid_of a.args.used (length (buffer a) - a.args.used) (buffer a))) c.write-head.ensures.0;
+      all = c.write_head-head.ensures.1
+          ∙ ap (λ (k : ℕ). head a ++ drop k (mid_of a.args.used (length (buffer a) - a.args.used) (buffer a))) c.write_head-head.ensures.0;
     })
 
-at_length : (c : tie.After-write-head) → at c ≡ length (first (begin c) ++ head (begin c))
+at_length : (c : tie.After-write_head-head) → at c ≡ length (first (begin c) ++ head (begin c))
 at_length c =
     let a = begin c in
-    omega (arith, c.write-head.ensures.0, length-append (first a) (head a), first_length (buffer a) a.args.used a.pre.fits.within)
+    omega (arith, c.write_head-head.ensures.0, length-append (first a) (head a), first_length (buffer a) a.args.used a.requires.fits.within)
 
-text_fits : (c : tie.After-write-head) → length (text (begin c)) ≤ length (mid_of (at c) (length (with-head c) - at c) (with-head c))
-text_fits c = omega (arith, lent_length (head_written c) (at c) (at_length c), space (begin c), c.write-head.ensures.0)
+text_fits : (c : tie.After-write_head-head) → length (text (begin c)) ≤ length (mid_of (at c) (length (with-head c) - at c) (with-head c))
+text_fits c = omega (arith, lent_length (head_written c) (at c) (at_length c), space (begin c), c.write_head-head.ensures.0)
 
 -- the buffer with the manifest
-abbrev headed : tie.After-copy → tie.After-write-head
+abbrev headed : tie.After-copy → tie.After-write_head-head
 headed c = c.before.before.before.before
 
 abbrev whole : tie.After-copy → List ℕ
-whole c = let h = headed c in put_mid (at h) (length (with-head h) - at h) (with-head h) c.copy.new.1.0
+whole c = let h = headed c in put_mid (at h) (length (with-head h) - at h) (with-head h) c.copy.new.out
 
 all_written : (c : tie.After-copy) → let a = begin (headed c) in Writes (buffer a) (whole c) ((first a ++ head a) ++ text a)
 all_written c =
     let h = headed c in
     part_written (head_written h) (at h) _ (text (begin h)) (at_length h) (record { fits = text_fits h; all = c.copy.ensures })
 
-write-head-requires : tie.Need-write-head-requires
-write-head-requires c κs =
+write_head-head-requires : tie.Need-write_head-head-requires
+write_head-head-requires c κs =
     let a = c.before.before.before.before.before in
     (a.requires.digests.signer_size, a.requires.digests.digest_size, a.requires.short, omega (arith, lent a, space a))
 
-add_at : tie.Need-overflow-add-at
-add_at c =
+overflow_add-at : tie.Need-overflow_add-at
+overflow_add-at c =
     let h = c.before.before in
     let a = begin h in
-    omega (arith, space a, h.write-head.ensures.0, a.good.1.1.1.1.0.0)
+    omega (arith, space a, h.write_head-head.ensures.0, a.well_formed.1.1.1.1.0.0)
 
-sub-copy : tie.Need-overflow-sub-copy
-sub-copy c =
+slice_bounds-copy-count : tie.Need-slice_bounds-copy-count
+slice_bounds-copy-count c =
     let h = c.before.before in
-    omega (arith, space (begin h), h.write-head.ensures.0, Writing.same_length (head_written h))
+    omega (arith, space (begin h), h.write_head-head.ensures.0, Writing.same_length (head_written h))
 
-part-copy-start : tie.Need-slice-bounds-copy-start
-part-copy-start c = sub-copy c
+slice_bounds-copy-start : tie.Need-slice_bounds-copy-start
+slice_bounds-copy-start c = slice_bounds-copy-count c
 
 copy-requires : tie.Need-copy-requires
 copy-requires c κs = text_fits c.before.before.before
 
-same_length : tie.Need-same-length
-same_length c = Writing.same_length (all_written c.before.before)
+shape_of-store : tie.Need-shape_of-store
+shape_of-store c = Writing.same_length (all_written c.before.before)
 
 returns : tie.Need-returns
 returns c =
     let w = c.before.before in
     let a = begin (headed w) in
-    ended (buffer a) a.args.used a.pre.fits.within (head a) (text a) (whole w) (all_written w)
+    ended (buffer a) a.args.used a.requires.fits.within (head a) (text a) (whole w) (all_written w)
     ∙ ap (appended (buffer a) a.args.used) (sym (is_record a))
 
-pub write-record-spec : {M : Type 1} → statement M
-write-record-spec =
-    tie.close (tie.spec (λ c. search rules) (λ c. search rules) (λ c. search rules) write-head-requires add_at sub-copy part-copy-start
-    (λ c. search rules) copy-requires same_length returns)
+pub write_record_spec : {M : Type 1} → statement M
+write_record_spec =
+    tie.close (tie.spec (λ c. search rules) (λ c. search rules) (λ c. search rules) write_head-head-requires overflow_add-at slice_bounds-copy-count
+    slice_bounds-copy-start (λ c. search rules) copy-requires shape_of-store returns)
