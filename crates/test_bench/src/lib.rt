@@ -1,4 +1,6 @@
 // For the benchmark in C: what checking a text and a manifest costs.
+#![tactic(auto)]
+
 ghost use Rattle.std.specs.Prelude.{◌≡◌, Bool, true, false};
 ghost use Rattle.text.specs.Answer.{checked, number_of, is_canonical};
 ghost use Rattle.manifest.specs.Number.{manifest_text_number};

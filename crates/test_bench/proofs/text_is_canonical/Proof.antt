@@ -5,12 +5,12 @@ use Rattle.test_bench.specs.Bit.{bit}
 use Rattle.test_bench.proofs.text_is_canonical.Statement.{statement}
 use Rattle.test_bench.proofs.text_is_canonical.Tie as tie
 
+returns-then-is_canonical : tie.Need-returns-then-is_canonical
+returns-then-is_canonical c = ap bit (sym c.if-is_canonical.true ∙ c.is_canonical.ensures)
+
 returns : tie.Need-returns
-returns c = ap bit (sym c.if1.true ∙ c.before.is-canonical.ensures)
+returns c = ap bit (sym c.if-is_canonical.false ∙ c.is_canonical.ensures)
 
-returns-2 : tie.Need-returns-2
-returns-2 c = ap bit (sym c.if1.false ∙ c.before.is-canonical.ensures)
-
-pub text-is-canonical-spec : {M : Type 1} → statement M
-text-is-canonical-spec =
-    tie.close (tie.spec (λ c κs. search rules) returns returns-2)
+pub text_is_canonical_spec : {M : Type 1} → statement M
+text_is_canonical_spec =
+    tie.close (tie.spec (λ c κs. search rules) returns-then-is_canonical returns)
