@@ -1,6 +1,8 @@
 // Lines that hold a pair of manifests, with a tab between them. Of each pair is printed: whether their images have an alias in
 // common, whether an alias of a layer stands in both with different objects, and, where the first layer of the second is an alias, the index of that
 // alias's object in the first and what the object is; else `-`. A line that is no pair of good manifests is `bad`.
+#![tactic(auto)]
+
 ghost use Rattle.std.specs.Prelude.{ℕ, List};
 ghost use Rattle.manifest.specs.Opened.{Opens};
 ghost use Rattle.test_names.specs.Pairs.{OpenPair};

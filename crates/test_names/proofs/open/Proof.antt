@@ -9,5 +9,4 @@ use Rattle.test_names.proofs.open.Tie as tie
 pub open_spec : {M : Type 1} → statement M
 open_spec =
     tie.close (tie.spec (λ c κs. search rules) (λ c. search rules) (λ c. search rules) (λ c κs. search rules)
-    (λ c m n. refused_numbered _ c.before.before.check.ensures c.enum_told.given.1 m)
-    (λ c. c.open-second.ensures _ (good_opens _ c.before.before.before.before.check.ensures c.before.before.first.given.1)))
+    (λ c m n. refused_numbered _ c.check.ensures c.in-Refused.is m) (λ c. c.open_second.ensures _ (good_opens _ c.check.ensures c.in-Good.is)))

@@ -5,8 +5,7 @@ use Rattle.test_names.proofs.Refusing.{refused_numbered}
 use Rattle.test_names.proofs.open_second.Statement.{statement}
 use Rattle.test_names.proofs.open_second.Tie as tie
 
-pub open-second-spec : {M : Type 1} → statement M
-open-second-spec =
+pub open_second_spec : {M : Type 1} → statement M
+open_second_spec =
     tie.close (tie.spec (λ c κs. search rules) (λ c. search rules) (λ c. search rules)
-    (λ c s o m n. refused_numbered _ c.before.before.check.ensures c.enum_told.given.1 n)
-    (λ c s o. (o, good_opens _ c.before.before.before.check.ensures c.before.second.given.1)))
+    (λ c s o m n. refused_numbered _ c.check.ensures c.in-Refused.is n) (λ c s o. (o, good_opens _ c.check.ensures c.in-Good.is)))

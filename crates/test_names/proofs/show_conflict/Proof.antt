@@ -8,24 +8,24 @@ use borrow.Author.Rules.{rules}
 use Rattle.test_names.proofs.show_conflict.Statement.{statement}
 use Rattle.test_names.proofs.show_conflict.Tie as tie
 
-sort-contents-requires : tie.Need-sort-contents-requires
-sort-contents-requires c κs =
+sort_contents-n-requires : tie.Need-sort_contents-n-requires
+sort_contents-n-requires c κs =
     let a = c.before.before.before.before.before in
     (a.requires.0, record { space = omega arith; sorting = omega arith }, omega (arith, opened_short _ _ a.requires.0))
 
-slice-aggregate-fill-heads : tie.Need-slice-aggregate-fill-heads
-slice-aggregate-fill-heads c = sym (length-take-le _ _ c.before.before.before.before.sort-contents.ensures.0)
+slice_bounds-fill_heads-end : tie.Need-slice_bounds-fill_heads-end
+slice_bounds-fill_heads-end c = sym (length-take-le _ _ c.sort_contents-n.ensures.0)
 
-fill-heads-requires : tie.Need-fill-heads-requires
-fill-heads-requires c κs =
-    let r = c.before.before.before.before.before.sort-contents in
-    (contents_names r.ensures.1, omega (arith, length-take-le r.result r.new.1.1.0 r.ensures.0, r.ensures.0, r.auto.1.1.0))
+fill_heads-requires : tie.Need-fill_heads-requires
+fill_heads-requires c κs =
+    let r = c.sort_contents-n in
+    (contents_names r.ensures.1, omega (arith, length-take-le r.result r.new.names r.ensures.0, r.ensures.0, r.auto.names))
 
-slice-aggregate-conflicts : tie.Need-slice-aggregate-conflicts
-slice-aggregate-conflicts c = sym (length-take-le _ _ c.before.before.before.before.before.before.before.before.sort-contents.ensures.0)
+slice_bounds-conflicts-end : tie.Need-slice_bounds-conflicts-end
+slice_bounds-conflicts-end c = sym (length-take-le _ _ c.sort_contents-n.ensures.0)
 
-pub show-conflict-spec : {M : Type 1} → statement M
-show-conflict-spec =
-    tie.close (tie.spec (λ c. search rules) (λ c. search rules) (λ c. search rules) sort-contents-requires (λ c. search rules)
-    slice-aggregate-fill-heads (λ c. search rules) fill-heads-requires (λ c. search rules) slice-aggregate-conflicts (λ c. search rules)
+pub show_conflict_spec : {M : Type 1} → statement M
+show_conflict_spec =
+    tie.close (tie.spec (λ c. search rules) (λ c. search rules) (λ c. search rules) sort_contents-n-requires (λ c. search rules)
+    slice_bounds-fill_heads-end (λ c. search rules) fill_heads-requires (λ c. search rules) slice_bounds-conflicts-end (λ c. search rules)
     (λ c. search rules) (λ c κs. search rules) (λ c κs. search rules) (λ c. search rules))

@@ -5,11 +5,11 @@ use Rattle.test_names.proofs.show_pair.Statement.{statement}
 use Rattle.test_names.proofs.show_pair.Tie as tie
 
 -- both manifests
-both : (c : tie.After-known-told) → let a = c.before.before.before.before.before.before.args in let g = c.before.first.given.0 in
-    Opens a.s.now g.0 × Opens a.t.now g.1.0
-both c = rw c.before.first.given.1 at c.before.before.before.open.ensures
+both : (c : tie.In-Good) → let a = c.args in
+    Opens a.s.now c.in-Good.first × Opens a.t.now c.in-Good.second
+both c = rw c.in-Good.is at c.open.ensures
 
-pub show-pair-spec : {M : Type 1} → statement M
-show-pair-spec =
+pub show_pair_spec : {M : Type 1} → statement M
+show_pair_spec =
     tie.close (tie.spec (λ c κs. search rules) (λ c. search rules) (λ c κs. both c) (λ c κs. both c.before) (λ c κs. both c.before.before)
-    (λ c. search rules) (λ c. search rules) (λ c κs. search rules) (λ c. search rules) (λ c. search rules))
+    (λ c. search rules) (λ c κs. search rules) (λ c. search rules) (λ c. search rules))

@@ -7,19 +7,19 @@ use borrow.Author.Rules.{rules}
 use Rattle.test_names.proofs.show_shared.Statement.{statement}
 use Rattle.test_names.proofs.show_shared.Tie as tie
 
-slice-aggregate-fill-heads : tie.Need-slice-aggregate-fill-heads
-slice-aggregate-fill-heads c = sym (length-take-le _ _ c.before.before.before.sort-self.ensures.0)
+slice_bounds-fill_heads-end : tie.Need-slice_bounds-fill_heads-end
+slice_bounds-fill_heads-end c = sym (length-take-le _ _ c.sort_self-n.ensures.0)
 
-fill-heads-requires : tie.Need-fill-heads-requires
-fill-heads-requires c κs =
-    let r = c.before.before.before.before.sort-self in
-    (some_names r.ensures.1, omega (arith, length-take-le r.result r.new.1.1.0 r.ensures.0, r.ensures.0, r.auto.1.1.0))
+fill_heads-requires : tie.Need-fill_heads-requires
+fill_heads-requires c κs =
+    let r = c.sort_self-n in
+    (some_names r.ensures.1, omega (arith, length-take-le r.result r.new.names r.ensures.0, r.ensures.0, r.auto.names))
 
-slice-aggregate-shares-self : tie.Need-slice-aggregate-shares-self
-slice-aggregate-shares-self c = sym (length-take-le _ _ c.before.before.before.before.before.before.before.sort-self.ensures.0)
+slice_bounds-shares_self-end : tie.Need-slice_bounds-shares_self-end
+slice_bounds-shares_self-end c = sym (length-take-le _ _ c.sort_self-n.ensures.0)
 
-pub show-shared-spec : {M : Type 1} → statement M
-show-shared-spec =
-    tie.close (tie.spec (λ c. search rules) (λ c. search rules) (λ c κs. search rules) (λ c. search rules) slice-aggregate-fill-heads
-    (λ c. search rules) fill-heads-requires (λ c. search rules) slice-aggregate-shares-self (λ c. search rules) (λ c κs. search rules)
+pub show_shared_spec : {M : Type 1} → statement M
+show_shared_spec =
+    tie.close (tie.spec (λ c. search rules) (λ c. search rules) (λ c κs. search rules) (λ c. search rules) slice_bounds-fill_heads-end
+    (λ c. search rules) fill_heads-requires (λ c. search rules) slice_bounds-shares_self-end (λ c. search rules) (λ c κs. search rules)
     (λ c κs. search rules) (λ c. search rules))
