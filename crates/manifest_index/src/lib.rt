@@ -1,5 +1,7 @@
 // The own aliases of many images, in the one byte list where their manifests stand, found by name. A name has a number: `at` has the position where each
 // begins, and `order` has the numbers sorted by name.
+#![tactic(auto)]
+
 ghost use Rattle.std.specs.Prelude.{◌≡◌, List, ◌∷◌, ℕ, ◌+◌, ◌-◌, ◌≤◌, ◌<◌, length, take, drop};
 ghost use Rattle.reference.specs.References.{Rule as PolicyRule};
 ghost use Rattle.manifest_repeat.specs.Names.{NamesAt};

@@ -4,11 +4,11 @@ use Rattle.manifest_index.proofs.add.Statement.{statement}
 use Rattle.manifest_index.proofs.add.Tie as tie
 
 insert-requires : tie.Need-insert-requires
-insert-requires c κs = let p = c.before.before.before.before.requires in (record { strings = p.0.numbers; index = p.0.index.index }, p.1, p.2.entry)
+insert-requires c κs = let p = c.requires in (record { strings = p.0.numbers; index = p.0.index.index }, p.1, p.2.entry)
 
 returns : tie.Need-returns
 returns c =
-    let e = c.before.before.insert.ensures in
+    let e = c.insert.ensures in
     (e.0, λ es x. record { index = e.1 es x.index })
 
 pub add_spec : {M : Type 1} → statement M
