@@ -1,4 +1,6 @@
 // The `self` aliases of all images of a store in one index, by their numbers: alias k of image i has the number 64 * i + k.
+#![tactic(auto)]
+
 ghost use Rattle.std.specs.Prelude.{◌≡◌, List, ℕ, ◌+◌, ◌-◌, ◌*◌, ◌≤◌, ◌<◌, length, take};
 ghost use Rattle.manifest_index.specs.Index.{NumberOf, NameIndex, SomeNameIndex};
 ghost use Rattle.store_names.specs.Opened.{OpenedStore};
