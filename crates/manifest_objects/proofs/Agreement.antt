@@ -51,7 +51,7 @@ not_among : (n : List ℕ) (xs : List Alias) {b : Alias} → is_one_of n (map na
 not_among n xs {b} e m q =
     same_ne n b.name (none_passes (λ (x : Alias). same n x.name) (sym (any_map name (same n) xs) ∙ sym (one_of_any n (map name xs)) ∙ e) m) q
 
-stands_once : {xs : List Alias} {a b : Alias} → repeated (map name xs) ≡ false → In a xs → In b xs → a.name ≡ b.name → a ≡ b
+stands_once : {a b : Alias} {xs : List Alias} → repeated (map name xs) ≡ false → In a xs → In b xs → a.name ≡ b.name → a ≡ b
 unfolding repeated
 stands_once e (In.head p) (In.head q) f = p ∙ sym q
 stands_once e (In.head {x = x} {xs = xs} p) (In.tail m) f =

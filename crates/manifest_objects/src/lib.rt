@@ -1,5 +1,7 @@
 // The objects of a manifest by number, in the text's order: what following aliases through the images of a store needs. Positions are those in the
 // byte list b in which the manifest stands from `start` to `end`, so that references of many manifests are kept in one array.
+#![tactic(auto)]
+
 ghost use Rattle.std.specs.Prelude.{◌≡◌, List, ℕ, ◌-◌, ◌≤◌, length, take, drop};
 ghost use Rattle.reference.specs.References.{Layer as LayerReference};
 ghost use Rattle.text_content.specs.Value.{Values, Fields, array, object};

@@ -5,35 +5,35 @@ use Rattle.manifest_objects.proofs.Reading.{other_algorithm, same_algorithm, as_
 use Rattle.manifest_objects.proofs.is_alias_of.Statement.{statement}
 use Rattle.manifest_objects.proofs.is_alias_of.Tie as tie
 
-returns : tie.Need-returns
-returns c =
+returns-then-byte : tie.Need-returns-then-byte
+returns-then-byte c =
     let y = c.before in
     let z = y.before in
-    let m = z.before.before in
-    let f = as_alias _ _ _ m.before.before.read.ensures _ _ _ m.algorithm.given.1 in
-    λ l h. other_algorithm _ _ _ _ _ _ _ f.2 l h (λ e. c.if1.true (z.byte.ensures ∙ e ∙ sym y.byte2.ensures))
+    let m = z.before in
+    let f = as_alias _ _ _ m.read.ensures _ _ _ m.in-Alias.is in
+    λ l h. other_algorithm _ _ _ _ _ _ _ f.2 l h (λ e. c.if-byte.true (z.byte.ensures ∙ e ∙ sym y.byte-in-Alias.ensures))
 
 is-requires : tie.Need-is-requires
 is-requires c κs =
-    let m = c.before.before.before.before in
-    (as_alias _ _ _ m.before.before.read.ensures _ _ _ m.algorithm.given.1).0
+    let m = c.before.before.before in
+    (as_alias _ _ _ m.read.ensures _ _ _ m.in-Alias.is).0
 
-returns-2 : tie.Need-returns-2
-returns-2 c =
+returns-else-byte : tie.Need-returns-else-byte
+returns-else-byte c =
     let x = c.before in
     let y = x.before in
     let z = y.before in
-    let m = z.before.before in
-    let f = as_alias _ _ _ m.before.before.read.ensures _ _ _ m.algorithm.given.1 in
-    λ l h. same_algorithm _ _ _ _ _ _ _ f.2 l h (sym z.byte.ensures ∙ x.if1.false ∙ y.byte2.ensures) _ c.is.ensures
+    let m = z.before in
+    let f = as_alias _ _ _ m.read.ensures _ _ _ m.in-Alias.is in
+    λ l h. same_algorithm _ _ _ _ _ _ _ f.2 l h (sym z.byte.ensures ∙ x.if-byte.false ∙ y.byte-in-Alias.ensures) _ c.is.ensures
 
-returns-3 : tie.Need-returns-3
-returns-3 c = λ l h. is_digest _ _ _ c.before.before.read.ensures _ _ l h _ _ c.enum_told.given.1
+returns-in-Digest : tie.Need-returns-in-Digest
+returns-in-Digest c = λ l h. is_digest _ _ _ c.read.ensures _ _ l h _ _ c.in-Digest.is
 
-returns-4 : tie.Need-returns-4
-returns-4 c = λ l h. is_none _ _ _ c.before.before.read.ensures _ _ l h c.enum-told2.given.1
+returns-in-Bad : tie.Need-returns-in-Bad
+returns-in-Bad c = λ l h. is_none _ _ _ c.read.ensures _ _ l h c.in-Bad.is
 
-pub is-alias-of-spec : {M : Type 1} → statement M
-is-alias-of-spec =
-    tie.close (tie.spec (λ c κs. search rules) (λ c. search rules) (λ c κs. search rules) (λ c κs. search rules) returns is-requires
-    (λ c. search rules) (λ c. search rules) returns-2 returns-3 returns-4)
+pub is_alias_of_spec : {M : Type 1} → statement M
+is_alias_of_spec =
+    tie.close (tie.spec (λ c κs. search rules) (λ c. search rules) (λ c κs. search rules) (λ c κs. search rules) returns-then-byte is-requires
+    (λ c. search rules) (λ c. search rules) returns-else-byte returns-in-Digest returns-in-Bad)

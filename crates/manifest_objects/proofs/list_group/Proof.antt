@@ -10,67 +10,66 @@ use Rattle.manifest_objects.proofs.Listing.{group_goes_on}
 use Rattle.manifest_objects.proofs.list_group.Statement.{statement}
 use Rattle.manifest_objects.proofs.list_group.Tie as tie
 
-abbrev invariant-loop : tie.invariant-loop
+abbrev invariant-loop : tie.invariant-loop-value
 invariant-loop s at depth names₀ owners₀ left₀ n₀ object₀ names owners left n object = Numbered s at depth names₀ owners₀ names owners left n object
 
-abbrev decreases-loop : tie.decreases-loop
+abbrev decreases-loop : tie.decreases-loop-value
 decreases-loop s at depth names₀ owners₀ left₀ n₀ object₀ names owners left n object = length s - left.at
 
-new-requires : tie.Need-new-requires invariant-loop decreases-loop
-new-requires c κs = group_object _ _ _ _ _ c.before.before.before.requires
+new-left-requires : tie.Need-new-left-requires invariant-loop decreases-loop
+new-left-requires c κs = group_object _ _ _ _ _ c.requires
 
-loop-holds : tie.Need-loop-init invariant-loop decreases-loop
-loop-holds c =
-    let o = c.before.before.before.before.requires in
-    group_started _ _ _ _ _ o _ (c.new.ensures.0 o.group.fields o.group.here)
+loop-value-init : tie.Need-loop-value-init invariant-loop decreases-loop
+loop-value-init c =
+    let o = c.requires in
+    group_started _ _ _ _ _ o _ (c.new-left.ensures.0 o.group.fields o.group.here)
 
 next-requires : tie.Need-next-requires invariant-loop decreases-loop
-next-requires c κs = group_left _ _ _ _ _ _ _ _ _ _ c.loop.invariant
+next-requires c κs = group_left _ _ _ _ _ _ _ _ _ _ c.loop-value.invariant
 
-same_length : tie.Need-same-length invariant-loop decreases-loop
-same_length c = c.before.before.before.loop.invariant.size
+shape_of-names-in-End : tie.Need-shape_of-names-in-End invariant-loop decreases-loop
+shape_of-names-in-End c = c.loop-value.invariant.size
 
-same-length-2 : tie.Need-same-length-2 invariant-loop decreases-loop
-same-length-2 c = c.before.before.before.loop.invariant.owner_size
+shape_of-owners-in-End : tie.Need-shape_of-owners-in-End invariant-loop decreases-loop
+shape_of-owners-in-End c = c.loop-value.invariant.owner_size
 
-returns : tie.Need-returns invariant-loop decreases-loop
-returns c =
-    let d = c.before.before in
-    let p = d.before.loop.invariant in (
+returns-in-End : tie.Need-returns-in-End invariant-loop decreases-loop
+returns-in-End c =
+    let d = c.before in
+    let p = d.loop-value.invariant in (
       group_within _ _ _ _ _ _ _ _ _ _ p,
-      group_finished _ _ _ _ _ _ _ _ _ _ p (rw c.enum_told.given.1 at (d.next.ensures p.others p.here)),
+      group_finished _ _ _ _ _ _ _ _ _ _ p (rw c.in-End.is at (d.next.ensures p.others p.here)),
     )
 
 -- what `next` gave: a member
-abbrev inv : (c : tie.After-known-told invariant-loop decreases-loop) → let b = c.before.before.before.before in
-    let a = b.before.before.before.before.before.args in
-    Numbered a.s.now a.at a.depth a.names.now a.owners.now b.loop.names b.loop.owners b.loop.left b.loop.n
-    b.loop.object
-inv c = c.before.before.before.before.loop.invariant
+abbrev inv : (c : tie.In-At invariant-loop decreases-loop) → let b = c.before.before in
+    let a = b.args in
+    Numbered a.s.now a.at a.depth a.names.now a.owners.now b.loop-value.names b.loop-value.owners b.loop-value.left b.loop-value.n
+    b.loop-value.object
+inv c = c.loop-value.invariant
 
-given : (c : tie.After-known-told invariant-loop decreases-loop) → let b = c.before.before.before.before in let a = b.before.before.before.before.before.args in
-    let g = c.before.value.given.0 in NextMember a.s.now b.loop.left b.loop.invariant.others g.0 g.1.0 g.1.1.0
-given c = let d = c.before.before.before in let p = d.before.loop.invariant in rw c.before.value.given.1 at (d.next.ensures p.others p.here)
+given : (c : tie.In-At invariant-loop decreases-loop) → let b = c.before.before in let a = b.args in NextMember a.s.now b.loop-value.left b.loop-value.invariant.others c.in-At.key c.in-At.value c.in-At.rest
+given c = let d = c.before in let p = d.loop-value.invariant in rw c.in-At.is at (d.next.ensures p.others p.here)
 
-list-under-requires : tie.Need-list-under-requires invariant-loop decreases-loop
-list-under-requires c κs = let d = c.before.before in listable _ _ _ _ _ _ _ _ _ _ (inv d) _ _ _ (given d)
+list_under-n-requires : tie.Need-list_under-n-requires invariant-loop decreases-loop
+list_under-n-requires c κs = let d = c.before.before in listable _ _ _ _ _ _ _ _ _ _ (inv d) _ _ _ (given d)
 
-add-object : tie.Need-overflow-add-object invariant-loop decreases-loop
-add-object c =
+overflow_add-object : tie.Need-overflow_add-object invariant-loop decreases-loop
+overflow_add-object c =
     let d = c.before.before.before.before.before.before.before in
     omega (arith, next_number _ _ _ _ _ _ _ _ _ _ (inv d) _ _ _ (given d))
 
-loop-less : tie.Need-loop-smaller invariant-loop decreases-loop
-loop-less c = let x = given c.before.before.before.before.before.before.before in omega (arith, x.later, x.within)
+loop-value-smaller : tie.Need-loop-value-smaller invariant-loop decreases-loop
+loop-value-smaller c = let x = given c.before.before.before.before.before.before.before in omega (arith, x.later, x.within)
 
-loop-again : tie.Need-loop-preserved invariant-loop decreases-loop
-loop-again c =
+loop-value-preserved : tie.Need-loop-value-preserved invariant-loop decreases-loop
+loop-value-preserved c =
     let f = c.before.before.before.before in
     let d = f.before.before.before in
-    let k = f.list-under.auto.1.1.1.1 in
-    group_goes_on _ _ _ _ _ _ _ _ _ _ (inv d) _ _ _ (given d) _ _ _ k.0 k.1.0 f.list-under.ensures
+    let k = f.list_under-n.auto in
+    group_goes_on _ _ _ _ _ _ _ _ _ _ (inv d) _ _ _ (given d) _ _ _ k.names k.owners f.list_under-n.ensures
 
-pub list-group-spec : {M : Type 1} → statement M
-list-group-spec =
-    tie.close (tie.spec invariant-loop decreases-loop new-requires loop-holds next-requires (λ c. search rules) same_length same-length-2 returns
-    (λ c. search rules) list-under-requires add-object loop-less loop-again)
+pub list_group_spec : {M : Type 1} → statement M
+list_group_spec =
+    tie.close (tie.spec invariant-loop decreases-loop new-left-requires loop-value-init next-requires (λ c. search rules) shape_of-names-in-End
+    shape_of-owners-in-End returns-in-End (λ c. search rules) list_under-n-requires overflow_add-object loop-value-smaller loop-value-preserved)

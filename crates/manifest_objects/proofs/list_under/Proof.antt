@@ -10,30 +10,30 @@ use Rattle.manifest_objects.proofs.Listing.{owner_written, adds_listed}
 use Rattle.manifest_objects.proofs.list_under.Statement.{statement}
 use Rattle.manifest_objects.proofs.list_under.Tie as tie
 
-abbrev invariant-loop : tie.invariant-loop
+abbrev invariant-loop : tie.invariant-loop-i
 invariant-loop s at depth object names owners₀ n r i₀ owners i =
     (n ≤ i) × (i ≤ r) × (r ≤ length owners₀) × (length owners ≡ length owners₀) × (take i owners ≡ take n owners₀ ++ replicate (i - n) object)
 
-abbrev decreases-loop : tie.decreases-loop
+abbrev decreases-loop : tie.decreases-loop-i
 decreases-loop s at depth object names owners₀ n r i₀ owners i = r - i
 
-collect-entries-requires : tie.Need-collect-entries-requires invariant-loop decreases-loop
-collect-entries-requires c κs = c.before.before.before.before.requires.list
+collect_entries-added-requires : tie.Need-collect_entries-added-requires invariant-loop decreases-loop
+collect_entries-added-requires c κs = c.requires.list
 
-loop-holds : tie.Need-loop-init invariant-loop decreases-loop
-loop-holds c =
+loop-i-init : tie.Need-loop-i-init invariant-loop decreases-loop
+loop-i-init c =
     let f = c.before.before in
     let a = f.before.before.before.before.before in
-    let e = (f.collect-entries.ensures.0 a.requires.list.values a.requires.list.here).0 in
+    let e = (f.collect_entries-added.ensures.0 a.requires.list.values a.requires.list.here).0 in
     let k : a.args.n - a.args.n ≡ 0 = omega arith in
     (omega arith, omega (arith, e), omega (arith, e, a.requires.space), refl, sym (rw k (append-nil _)))
 
-loop-again : tie.Need-loop-preserved invariant-loop decreases-loop
-loop-again c =
-    let l = c.before.loop in
-    let fits : l.i < length l.owners = omega (arith, l.invariant.2, l.invariant.3, c.loop-test.true) in (
+loop-i-preserved : tie.Need-loop-i-preserved invariant-loop decreases-loop
+loop-i-preserved c =
+    let l = c.loop-i in
+    let fits : l.i < length l.owners = omega (arith, l.invariant.2, l.invariant.3, c.loop-i-test.true) in (
       omega (arith, l.invariant.0),
-      omega (arith, c.loop-test.true),
+      omega (arith, c.loop-i-test.true),
       l.invariant.2,
       length-set l.owners l.i _ ∙ l.invariant.3,
       owner_written _ l.owners _ l.i _ l.invariant.0 fits l.invariant.4,
@@ -41,14 +41,14 @@ loop-again c =
 
 returns : tie.Need-returns invariant-loop decreases-loop
 returns c =
-    let l = c.before.loop in
+    let l = c.loop-i in
     let f = c.before.before.before.before in
     let a = f.before.before.before.before.before in
-    let e : l.i ≡ f.collect-entries.result.count = omega (arith, l.invariant.1, c.loop-test.false) in
-    adds_listed _ _ _ _ _ _ _ a.requires _ _ _ f.collect-entries.ensures.0
+    let e : l.i ≡ f.collect_entries-added.result.count = omega (arith, l.invariant.1, c.loop-i-test.false) in
+    adds_listed _ _ _ _ _ _ _ a.requires _ _ _ f.collect_entries-added.ensures.0
     (subst (λ (j : ℕ). take j l.owners ≡ take a.args.n a.args.owners.now ++ replicate (j - a.args.n) a.args.object) e l.invariant.4)
 
-pub list-under-spec : {M : Type 1} → statement M
-list-under-spec =
-    tie.close (tie.spec invariant-loop decreases-loop collect-entries-requires loop-holds (λ c. search rules) (λ c. search rules) (λ c. search rules)
-    (λ c. search rules) (λ c. search rules) loop-again (λ c. search rules) (λ c. search rules) returns)
+pub list_under_spec : {M : Type 1} → statement M
+list_under_spec =
+    tie.close (tie.spec invariant-loop decreases-loop collect_entries-added-requires loop-i-init (λ c. search rules) (λ c. search rules)
+    (λ c. search rules) (λ c. search rules) (λ c. search rules) loop-i-preserved (λ c. search rules) (λ c. search rules) returns)

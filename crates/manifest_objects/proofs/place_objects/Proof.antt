@@ -21,5 +21,6 @@ returns c =
     let w = objects_placed _ _ a.requires.2 e.2 _ (a.args.end - a.args.start) refl in
     (e.0, e.1, w.0, w.1)
 
-pub place-objects-spec : {M : Type 1} → statement M
-place-objects-spec = tie.close (tie.spec (λ c. search rules) (λ c. search rules) (λ c. search rules) place-requires (λ c. search rules) returns)
+pub place_objects_spec : {M : Type 1} → statement M
+place_objects_spec =
+    tie.close (tie.spec (λ c. search rules) (λ c. search rules) (λ c. search rules) place-requires (λ c. search rules) returns)
