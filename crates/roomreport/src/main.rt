@@ -1,5 +1,7 @@
 // Loads the images that the lines of standard input give into a store of 32,768 bytes: an Image ID, a space and a manifest to a line. Prints the
 // index of each line and the number that it gets, and then the pairs of a guard and an image that it does not reach, by their places.
+#![tactic(auto)]
+
 ghost use Rattle.std.specs.Prelude.{◌≡◌, ◌+◌, ◌*◌, ◌≤◌, length};
 ghost use Rattle.roomreport.specs.Within.{Within};
 

@@ -1,5 +1,7 @@
 // Reads texts from standard input, an empty line after each but the last, and prints for each its number of document 01's table, `own`
 // where it is its own canonical form, and that form, or the offset of its fault.
+#![tactic(auto)]
+
 ghost use Rattle.std.specs.Prelude.{◌≡◌, true, ◌+◌, ◌<◌, length};
 
 fn show_place(number: usize, place: usize) {

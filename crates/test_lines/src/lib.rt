@@ -6,6 +6,8 @@
 //   show               prints the bytes up to the used count, and on a line of its own how many after them are not 0xEE any more
 //
 // A line that is none of these, or that asks for bytes which the buffer does not have, prints `bad`. What is printed is tested; no contract speaks of it.
+#![tactic(auto)]
+
 ghost use Rattle.std.specs.Prelude.{◌≡◌, ℕ, ◌≤◌, ◌<◌, ◌*◌, length, get_or};
 ghost use Rattle.test_lines.specs.Words.{place_after, number_of, are_pairs, digit_value, byte_at};
 

@@ -2,6 +2,8 @@
 // asked: L for a layer reference, R for a rule and A for an alias, each in a JSON string, I for an Image ID in plain bytes, and B for the
 // byte of an algorithm, as a decimal digit. After a digest's position stand its bytes, and of one in a string whether it is found to have
 // these, these without the first, and these with the last one changed.
+#![tactic(auto)]
+
 ghost use Rattle.std.specs.Prelude.{◌≡◌, true, ◌≤◌, length};
 ghost use Rattle.text_strings.specs.InString.{Inside};
 ghost use Rattle.reference_digests.specs.Readings.{DigestAt, PlainDigest};

@@ -10,16 +10,16 @@ use Rattle.test_canonical.proofs.is_gap.Tie as tie
 false_true : {C : Type 0} → ◌≡◌ {A = Bool} false true → C
 false_true e = let z : ◌≡◌ {A = ℕ} 0 1 = cc in absurd (omega arith)
 
-returns-2 : tie.Need-returns-2
-returns-2 c = λ e. false_true e
+returns-else-at-s-2 : tie.Need-returns-else-at-s-2
+returns-else-at-s-2 c = λ e. false_true e
 
-returns-3 : tie.Need-returns-3
-returns-3 c = λ e. false_true e
+returns-else-s-at-eq10 : tie.Need-returns-else-s-at-eq10
+returns-else-s-at-eq10 c = λ e. false_true e
 
-returns-4 : tie.Need-returns-4
-returns-4 c = λ e. false_true e
+returns-else-at-s : tie.Need-returns-else-at-s
+returns-else-at-s c = λ e. false_true e
 
-pub is-gap-spec : {M : Type 1} → statement M
-is-gap-spec =
-    tie.close (tie.spec (λ c. search rules) (λ c. search rules) (λ c. search rules) (λ c. search rules) (λ c. search rules) returns-2 returns-3
-    returns-4)
+pub is_gap_spec : {M : Type 1} → statement M
+is_gap_spec =
+    tie.close (tie.spec (λ c. search rules) (λ c. search rules) (λ c. search rules) (λ c. search rules) (λ c. search rules) returns-else-at-s-2
+    returns-else-s-at-eq10 returns-else-at-s)

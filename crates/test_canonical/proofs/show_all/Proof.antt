@@ -5,31 +5,27 @@ use lib.ListN.{length}
 use borrow.Author.Rules.{rules}
 use Rattle.test_canonical.proofs.show_all.Statement.{statement}
 use Rattle.test_canonical.proofs.show_all.Tie as tie
-use Rattle.test_canonical.proofs.show_all.Reads as reads
-use Rattle.test_canonical.proofs.show_all.Lts as lts
-use Rattle.test_canonical.proofs.is_gap.Reads as is-gap-reads
-use Rattle.test_canonical.proofs.show.Reads as show-reads
 
-abbrev invariant-loop : tie.invariant-loop
+abbrev invariant-loop : tie.invariant-loop-i
 invariant-loop s start₀ i₀ start i = (start ≤ i) × (i ≤ length s)
 
-abbrev decreases-loop : tie.decreases-loop
+abbrev decreases-loop : tie.decreases-loop-i
 decreases-loop s start₀ i₀ start i = length s - i
 
-add_start : tie.Need-overflow-add-start invariant-loop decreases-loop
-add_start c = omega (arith, c.before.before.before.is-gap.ensures c.before.before.if1.true)
+overflow_add-start : tie.Need-overflow_add-start invariant-loop decreases-loop
+overflow_add-start c = omega (arith, c.is_gap.ensures c.if-is_gap.true)
 
-add-i-2 : tie.Need-overflow-add-i-2 invariant-loop decreases-loop
-add-i-2 c = ⊎_elim (λ w. omega (arith, c.before.before.is-gap.ensures w.0.taken)) (λ w. omega arith) c.before.if1.branch
+overflow_add-i-in-loop-i : tie.Need-overflow_add-i-in-loop-i invariant-loop decreases-loop
+overflow_add-i-in-loop-i c = ⊎_elim (λ w. omega (arith, c.is_gap.ensures w.if-is_gap.true)) (λ w. omega arith) c.if-is_gap.branch-raw
 
-loop-less : tie.Need-loop-smaller invariant-loop decreases-loop
-loop-less c = ⊎_elim (λ w. omega (arith, c.before.before.is-gap.ensures w.0.taken)) (λ w. omega arith) c.before.if1.branch
+loop-i-smaller : tie.Need-loop-i-smaller invariant-loop decreases-loop
+loop-i-smaller c = ⊎_elim (λ w. omega (arith, c.is_gap.ensures w.if-is_gap.true)) (λ w. omega arith) c.if-is_gap.branch-raw
 
-loop-again : tie.Need-loop-preserved invariant-loop decreases-loop
-loop-again c = ⊎_elim (λ w. omega (arith, c.before.before.is-gap.ensures w.0.taken)) (λ w. omega arith) c.before.if1.branch
+loop-i-preserved : tie.Need-loop-i-preserved invariant-loop decreases-loop
+loop-i-preserved c = ⊎_elim (λ w. omega (arith, c.is_gap.ensures w.if-is_gap.true)) (λ w. omega arith) c.if-is_gap.branch-raw
 
-pub show-all-spec : {M : Type 1} → statement M
-show-all-spec =
-    tie.close (tie.spec invariant-loop decreases-loop (λ c. search rules) (λ c κs. search rules) (λ c. search rules) (λ c. search rules) (λ c. search rules)
-    (λ c κs. search rules) (λ c. search rules) add_start add-i-2 loop-less loop-again (λ c. search rules) (λ c. search rules) (λ c. search rules)
-    (λ c κs. search rules) (λ c. search rules))
+pub show_all_spec : {M : Type 1} → statement M
+show_all_spec =
+    tie.close (tie.spec invariant-loop decreases-loop (λ c. search rules) (λ c κs. search rules) (λ c. search rules) (λ c. search rules)
+    (λ c. search rules) (λ c κs. search rules) (λ c. search rules) overflow_add-start overflow_add-i-in-loop-i loop-i-smaller loop-i-preserved
+    (λ c. search rules) (λ c. search rules) (λ c. search rules) (λ c κs. search rules) (λ c. search rules))

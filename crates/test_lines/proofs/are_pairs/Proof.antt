@@ -15,42 +15,42 @@ use Rattle.test_lines.proofs.Words.{all_digits, digits_next, digits_not}
 use Rattle.test_lines.proofs.are_pairs.Statement.{statement}
 use Rattle.test_lines.proofs.are_pairs.Tie as tie
 
-abbrev invariant-loop : tie.invariant-loop
+abbrev invariant-loop : tie.invariant-loop-i
 invariant-loop hex i₀ i = (i ≤ length hex) × (every is_lower_hex (drop i hex) ≡ every is_lower_hex hex)
 
-abbrev decreases-loop : tie.decreases-loop
+abbrev decreases-loop : tie.decreases-loop-i
 decreases-loop hex i₀ i = length hex - i
 
-cast-is-lower-hex : tie.Need-overflow-cast-is-lower-hex invariant-loop decreases-loop
-cast-is-lower-hex c = omega (arith, c.shared-slice-known2.given c.before.before.loop.i)
+overflow_cast-hex : tie.Need-overflow_cast-hex invariant-loop decreases-loop
+overflow_cast-hex c = omega (arith, c.shared_slice_known-in-loop-i-1.given c.loop-i.i)
+
+returns-then-not-is_lower_hex : tie.Need-returns-then-not-is_lower_hex invariant-loop decreases-loop
+unfolding are_pairs
+returns-then-not-is_lower_hex c =
+    let b = c.before in
+    let l = b.before.before.before in
+    let hex = l.args.hex.now in
+    sym (ap (λ (t : Bool). t && eqb (length hex % 2) 0)
+    (sym l.loop-i.invariant.1 ∙ digits_not hex l.loop-i.i b.loop-i-test.true
+    (sym b.is_lower_hex.ensures ∙ not-true b.is_lower_hex.result c.if-not-is_lower_hex.true-raw)))
+
+loop-i-preserved : tie.Need-loop-i-preserved invariant-loop decreases-loop
+loop-i-preserved c =
+    let b = c.before in
+    let l = b.before.before.before in (
+      omega arith,
+      sym (digits_next l.args.hex.now l.loop-i.i b.loop-i-test.true
+          (sym b.is_lower_hex.ensures ∙ not-false b.is_lower_hex.result c.if-not-is_lower_hex.false-raw)) ∙ l.loop-i.invariant.1,
+    )
 
 returns : tie.Need-returns invariant-loop decreases-loop
 unfolding are_pairs
 returns c =
-    let b = c.before in
-    let l = b.before.before.before in
-    let hex = l.before.before.args.hex.now in
-    sym (ap (λ (t : Bool). t && eqb (length hex % 2) 0)
-    (sym l.loop.invariant.1 ∙ digits_not hex l.loop.i b.before.before.loop-test.true
-    (sym b.is-lower-hex.ensures ∙ not-true b.is-lower-hex.result c.if1.true)))
-
-loop-again : tie.Need-loop-preserved invariant-loop decreases-loop
-loop-again c =
-    let b = c.before in
-    let l = b.before.before.before in (
-      omega arith,
-      sym (digits_next l.before.before.args.hex.now l.loop.i b.before.before.loop-test.true
-          (sym b.is-lower-hex.ensures ∙ not-false b.is-lower-hex.result c.if1.false)) ∙ l.loop.invariant.1,
-    )
-
-returns-2 : tie.Need-returns-2 invariant-loop decreases-loop
-unfolding are_pairs
-returns-2 c =
     let l = c.before in
-    let hex = l.before.before.args.hex.now in
-    sym (ap (λ (t : Bool). t && eqb (length hex % 2) 0) (sym l.loop.invariant.1 ∙ all_digits hex l.loop.i c.loop-test.false))
+    let hex = l.args.hex.now in
+    sym (ap (λ (t : Bool). t && eqb (length hex % 2) 0) (sym l.loop-i.invariant.1 ∙ all_digits hex l.loop-i.i c.loop-i-test.false))
 
-pub are-pairs-spec : {M : Type 1} → statement M
-are-pairs-spec =
-    tie.close (tie.spec invariant-loop decreases-loop (λ c. (omega arith, refl)) (λ c. search rules) cast-is-lower-hex (λ c κs. search rules) returns
-    (λ c. search rules) (λ c. search rules) loop-again returns-2)
+pub are_pairs_spec : {M : Type 1} → statement M
+are_pairs_spec =
+    tie.close (tie.spec invariant-loop decreases-loop (λ c. (omega arith, refl)) (λ c. search rules) overflow_cast-hex (λ c κs. search rules)
+    returns-then-not-is_lower_hex (λ c. search rules) (λ c. search rules) loop-i-preserved returns)

@@ -9,16 +9,16 @@ use borrow.Author.Rules.{rules}
 use Rattle.test_lines.proofs.count_changed.Statement.{statement}
 use Rattle.test_lines.proofs.count_changed.Tie as tie
 
-abbrev invariant-loop : tie.invariant-loop
+abbrev invariant-loop : tie.invariant-loop-i
 invariant-loop s n₀ i₀ n i = (i ≤ length s) × (n ≤ i)
 
-abbrev decreases-loop : tie.decreases-loop
+abbrev decreases-loop : tie.decreases-loop-i
 decreases-loop s n₀ i₀ n i = length s - i
 
-loop-again : tie.Need-loop-preserved invariant-loop decreases-loop
-loop-again c = ⊎_elim (λ w. omega arith) (λ w. omega arith) c.if1.branch
+loop-i-preserved : tie.Need-loop-i-preserved invariant-loop decreases-loop
+loop-i-preserved c = ⊎_elim (λ w. omega arith) (λ w. omega arith) c.if-s-i.branch-raw
 
-pub count-changed-spec : {M : Type 1} → statement M
-count-changed-spec =
-    tie.close (tie.spec invariant-loop decreases-loop (λ c. search rules) (λ c. search rules) (λ c. search rules) (λ c. search rules) (λ c. search rules) loop-again
-    (λ c. search rules))
+pub count_changed_spec : {M : Type 1} → statement M
+count_changed_spec =
+    tie.close (tie.spec invariant-loop decreases-loop (λ c. search rules) (λ c. search rules) (λ c. search rules) (λ c. search rules)
+    (λ c. search rules) loop-i-preserved (λ c. search rules))

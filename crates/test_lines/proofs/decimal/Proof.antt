@@ -14,56 +14,57 @@ use Rattle.test_lines.proofs.Words.{no_number, some_number, number_read, no_digi
 use Rattle.test_lines.proofs.decimal.Statement.{statement}
 use Rattle.test_lines.proofs.decimal.Tie as tie
 
-abbrev invariant-loop : tie.invariant-loop
+abbrev invariant-loop : tie.invariant-loop-i
 invariant-loop s n₀ i₀ n i = (i ≤ length s) × (number_from n (drop i s) ≡ number_of s)
 
-abbrev decreases-loop : tie.decreases-loop
+abbrev decreases-loop : tie.decreases-loop-i
 decreases-loop s n₀ i₀ n i = length s - i
 
-returns-2 : tie.Need-returns-2 invariant-loop decreases-loop
-returns-2 c =
+returns-then-not-is_digit : tie.Need-returns-then-not-is_digit invariant-loop decreases-loop
+returns-then-not-is_digit c =
     let b = c.before in
     let l = b.before.before.before in
-    sym (no_digit l.before.before.before.args.s.now l.loop.n l.loop.i b.before.before.loop-test.true
-    (sym b.is_digit.ensures ∙ not-true b.is_digit.result c.if2.true)) ∙ l.loop.invariant.1
+    sym (no_digit l.args.s.now l.loop-i.n l.loop-i.i b.loop-i-test.true
+    (sym b.is_digit.ensures ∙ not-true b.is_digit.result c.if-not-is_digit.true-raw)) ∙ l.loop-i.invariant.1
 
 -- a byte that passed the test is a digit
-digit_there : (c : tie.Else2 invariant-loop decreases-loop) → let l = c.before.before.before.before in
-    is_digit (get_or l.before.before.before.args.s.now l.loop.i 0) ≡ true
-digit_there c = sym c.before.is_digit.ensures ∙ not-false c.before.is_digit.result c.if2.false
+digit_there : (c : tie.Else-not-is_digit invariant-loop decreases-loop) → let l = c.before.before.before.before in
+    is_digit (get_or l.args.s.now l.loop-i.i 0) ≡ true
+digit_there c = sym c.is_digit.ensures ∙ not-false c.is_digit.result c.if-not-is_digit.false-raw
 
-returns-3 : tie.Need-returns-3 invariant-loop decreases-loop
-returns-3 c =
+returns-then-n-gt-TENTH : tie.Need-returns-then-n-gt-TENTH invariant-loop decreases-loop
+returns-then-n-gt-TENTH c =
     let b = c.before.before in
     let l = b.before.before.before in
-    sym (too_large l.before.before.before.args.s.now l.loop.n l.loop.i b.before.before.loop-test.true (digit_there c.before)
-    c.if3.true) ∙ l.loop.invariant.1
+    sym (too_large l.args.s.now l.loop-i.n l.loop-i.i b.loop-i-test.true (digit_there c.before)
+    c.if-n-gt-TENTH.true) ∙ l.loop-i.invariant.1
 
-sub-n : tie.Need-overflow-sub-n invariant-loop decreases-loop
-sub-n c = (digit_bounds _ (digit_there c.before)).0
+overflow_sub-n : tie.Need-overflow_sub-n invariant-loop decreases-loop
+overflow_sub-n c = (digit_bounds _ (digit_there c.before)).0
 
-cast-n : tie.Need-overflow-cast-n invariant-loop decreases-loop
-cast-n c = omega (arith, digit_bounds _ (digit_there c.before))
+overflow_cast-n : tie.Need-overflow_cast-n invariant-loop decreases-loop
+overflow_cast-n c = omega (arith, digit_bounds _ (digit_there c.before))
 
-add-n : tie.Need-overflow-add-n invariant-loop decreases-loop
-add-n c = omega (arith, digit_bounds _ (digit_there c.before), c.if3.false)
+overflow_add-n : tie.Need-overflow_add-n invariant-loop decreases-loop
+overflow_add-n c = omega (arith, digit_bounds _ (digit_there c.before), c.if-n-gt-TENTH.false)
 
-loop-again : tie.Need-loop-preserved invariant-loop decreases-loop
-loop-again c =
+loop-i-preserved : tie.Need-loop-i-preserved invariant-loop decreases-loop
+loop-i-preserved c =
     let b = c.before.before in
     let l = b.before.before.before in (
       omega arith,
-      sym (next_digit l.before.before.before.args.s.now l.loop.n l.loop.i b.before.before.loop-test.true (digit_there c.before)
-          c.if3.false) ∙ l.loop.invariant.1,
+      sym (next_digit l.args.s.now l.loop-i.n l.loop-i.i b.loop-i-test.true (digit_there c.before)
+          c.if-n-gt-TENTH.false) ∙ l.loop-i.invariant.1,
     )
 
-returns-4 : tie.Need-returns-4 invariant-loop decreases-loop
-returns-4 c =
+returns : tie.Need-returns invariant-loop decreases-loop
+returns c =
     let l = c.before in
-    sym (number_read l.before.before.before.args.s.now l.loop.n l.loop.i c.loop-test.false) ∙ l.loop.invariant.1
+    sym (number_read l.args.s.now l.loop-i.n l.loop-i.i c.loop-i-test.false) ∙ l.loop-i.invariant.1
 
-pub decimal-spec : {M : Type 1} → statement M
-decimal-spec =
-    tie.close (tie.spec invariant-loop decreases-loop (λ c. sym (no_number _ c.if1.true)) (λ c. (omega arith, sym (some_number _ c.if1.false)))
-    (λ c. search rules) (λ c κs. search rules) returns-2 returns-3 (λ c. search rules) sub-n cast-n add-n (λ c. search rules) (λ c. search rules)
-    loop-again returns-4)
+pub decimal_spec : {M : Type 1} → statement M
+decimal_spec =
+    tie.close (tie.spec invariant-loop decreases-loop (λ c. sym (no_number _ c.if-s-eq0.true))
+    (λ c. (omega arith, sym (some_number _ c.if-s-eq0.false))) (λ c. search rules) (λ c κs. search rules) returns-then-not-is_digit
+    returns-then-n-gt-TENTH (λ c. search rules) overflow_sub-n overflow_cast-n overflow_add-n (λ c. search rules) (λ c. search rules) loop-i-preserved
+    returns)

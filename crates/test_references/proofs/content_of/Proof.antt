@@ -13,33 +13,33 @@ use Rattle.test_references.proofs.content_of.Tie as tie
 
 kind-requires : tie.Need-kind-requires
 kind-requires c κs =
-    let a = c.before.before.before in
-    let p = known _ _ a.check.ensures _ _ c.before.enum-told2.given.1 in
-    record { depth = 8; value = content p.tree; here = c.root.ensures.0 8 p.tree (taken_text _ p) }
+    let a = c.before.before in
+    let p = known _ _ a.check.ensures _ _ c.in-Accepted.is in
+    record { depth = 8; value = content p.tree; here = c.root-at.ensures.0 8 p.tree (taken_text _ p) }
 
-add-t7 : tie.Need-overflow-add-t7
-add-t7 c =
-    let k = c.before.before in
+overflow_add-result : tie.Need-overflow_add-result
+overflow_add-result c =
+    let k = c.before in
     let t = k.before.before in
-    let p = known _ _ t.before.before.check.ensures _ _ t.enum-told2.given.1 in
-    let h = k.before.root.ensures.0 8 p.tree (taken_text _ p) in
-    omega (arith, string_short _ _ _ _ p.short h (sym (k.kind.ensures 8 _ h) ∙ c.enum-told3.given.1))
+    let p = known _ _ t.check.ensures _ _ t.in-Accepted.is in
+    let h = k.root-at.ensures.0 8 p.tree (taken_text _ p) in
+    omega (arith, string_short _ _ _ _ p.short h (sym (k.kind.ensures 8 _ h) ∙ c.in-String.is))
 
-returns : tie.Need-returns
-returns c = λ e. false_true e
+returns-in-Refused : tie.Need-returns-in-Refused
+returns-in-Refused c = λ e. false_true e
 
-returns-2 : tie.Need-returns-2
-returns-2 c = λ _.
-    let k = c.before.before in
+returns-in-String : tie.Need-returns-in-String
+returns-in-String c = λ _.
+    let k = c.before in
     let t = k.before.before in
-    let p = known _ _ t.before.before.check.ensures _ _ t.enum-told2.given.1 in
-    let h = k.before.root.ensures.0 8 p.tree (taken_text _ p) in
-    string_inside _ _ 8 _ h (sym (k.kind.ensures 8 _ h) ∙ c.enum-told3.given.1)
+    let p = known _ _ t.check.ensures _ _ t.in-Accepted.is in
+    let h = k.root-at.ensures.0 8 p.tree (taken_text _ p) in
+    string_inside _ _ 8 _ h (sym (k.kind.ensures 8 _ h) ∙ c.in-String.is)
 
-returns-3 : tie.Need-returns-3
-returns-3 c = λ e. false_true e
+returns-in_default : tie.Need-returns-in_default
+returns-in_default c = λ e. false_true e
 
-pub content-of-spec : {M : Type 1} → statement M
-content-of-spec =
-    tie.close (tie.spec (λ c κs. search rules) (λ c. search rules) (λ c. search rules) (λ c κs. search rules) kind-requires (λ c. search rules) add-t7
-    returns returns-2 returns-3)
+pub content_of_spec : {M : Type 1} → statement M
+content_of_spec =
+    tie.close (tie.spec (λ c κs. search rules) (λ c. search rules) (λ c. search rules) (λ c κs. search rules) kind-requires (λ c. search rules)
+    overflow_add-result returns-in-Refused returns-in-String returns-in_default)

@@ -8,76 +8,76 @@ use Rattle.test_references.proofs.show_digest.Statement.{statement}
 use Rattle.test_references.proofs.show_digest.Tie as tie
 
 -- a digest fits the buffer, and has two bytes at least
-few : (c : tie.After-digest-bytes) → (28 ≤ c.digest-bytes.result) × (c.digest-bytes.result ≤ 48)
+few : (c : tie.After-digest_bytes-n) → (28 ≤ c.digest_bytes-n.result) × (c.digest_bytes-n.result ≤ 48)
 few c =
-    let d = digest_bounds c.before.before.args.a in
-    let e = c.digest-bytes.ensures.0 in
+    let d = digest_bounds c.args.a in
+    let e = c.digest_bytes-n.ensures.0 in
     (omega arith, omega arith)
 
 write-requires : tie.Need-write-requires
 write-requires c κs = let a = c.before.before.before in (a.requires, omega (arith, (digest_bounds a.args.a).1))
 
-sub-print-digest : tie.Need-overflow-sub-print-digest
-sub-print-digest c = let f = few c.before.before.before in omega arith
+slice_bounds-print_digest-count : tie.Need-slice_bounds-print_digest-count
+slice_bounds-print_digest-count c = let f = few c.before.before.before in omega arith
 
-part-print-digest-start : tie.Need-slice-bounds-print-digest-start
-part-print-digest-start c = let f = few c.before.before.before.before in omega arith
+slice_bounds-print_digest-start : tie.Need-slice_bounds-print_digest-start
+slice_bounds-print_digest-start c = let f = few c.before.before.before in omega arith
 
-part-print-digest-end : tie.Need-slice-bounds-print-digest-end
-part-print-digest-end c = let f = few c.before.before.before.before in omega arith
+slice_bounds-print_digest-end : tie.Need-slice_bounds-print_digest-end
+slice_bounds-print_digest-end c = let f = few c.before.before.before in omega arith
 
-sub-show-is : tie.Need-overflow-sub-show-is
-sub-show-is c = let f = few c.before.before.before.before.before.before in omega arith
+slice_bounds-show_is-count : tie.Need-slice_bounds-show_is-count
+slice_bounds-show_is-count c = let f = few c.before.before.before.before.before in omega arith
 
-part-show-is-start : tie.Need-slice-bounds-show-is-start
-part-show-is-start c = let f = few c.before.before.before.before.before.before.before in omega arith
+slice_bounds-show_is-start : tie.Need-slice_bounds-show_is-start
+slice_bounds-show_is-start c = let f = few c.before.before.before.before.before in omega arith
 
-part-show-is-end : tie.Need-slice-bounds-show-is-end
-part-show-is-end c = let f = few c.before.before.before.before.before.before.before in omega arith
+slice_bounds-show_is-end : tie.Need-slice_bounds-show_is-end
+slice_bounds-show_is-end c = let f = few c.before.before.before.before.before in omega arith
 
-show-is-requires : tie.Need-show-is-requires
-show-is-requires c κs = c.before.before.before.before.before.before.before.before.before.before.requires
+show_is-requires : tie.Need-show_is-requires
+show_is-requires c κs = c.requires
 
-sub-show-is-2 : tie.Need-overflow-sub-show-is-2
-sub-show-is-2 c = let f = few c.before.before.before.before.before.before.before.before.before in omega arith
+slice_bounds-show_is-count-2 : tie.Need-slice_bounds-show_is-count-2
+slice_bounds-show_is-count-2 c = let f = few c.before.before.before.before.before.before.before in omega arith
 
-part-show-is-start-2 : tie.Need-slice-bounds-show-is-start-2
-part-show-is-start-2 c = let f = few c.before.before.before.before.before.before.before.before.before.before in omega arith
+slice_bounds-show_is-start-2 : tie.Need-slice_bounds-show_is-start-2
+slice_bounds-show_is-start-2 c = let f = few c.before.before.before.before.before.before.before in omega arith
 
-part-show-is-end-2 : tie.Need-slice-bounds-show-is-end-2
-part-show-is-end-2 c = let f = few c.before.before.before.before.before.before.before.before.before.before in omega arith
+slice_bounds-show_is-end-2 : tie.Need-slice_bounds-show_is-end-2
+slice_bounds-show_is-end-2 c = let f = few c.before.before.before.before.before.before.before in omega arith
 
-show-is-requires-2 : tie.Need-show-is-requires-2
-show-is-requires-2 c κs = c.before.before.before.before.before.before.before.before.before.before.before.before.before.requires
+show_is-requires-2 : tie.Need-show_is-requires-2
+show_is-requires-2 c κs = c.requires
 
-change-last-requires : tie.Need-change-last-requires
-change-last-requires c κs =
-    let f = few c.before.before.before.before.before.before.before.before.before.before.before.before.before in
+change_last-requires : tie.Need-change_last-requires
+change_last-requires c κs =
+    let f = few c.before.before.before.before.before.before.before.before.before.before in
     (omega arith, omega arith)
 
-sub-show-is-3 : tie.Need-overflow-sub-show-is-3
-sub-show-is-3 c =
-    let f = few c.before.before.before.before.before.before.before.before.before.before.before.before.before.before.before in
+slice_bounds-show_is-count-3 : tie.Need-slice_bounds-show_is-count-3
+slice_bounds-show_is-count-3 c =
+    let f = few c.before.before.before.before.before.before.before.before.before.before.before.before in
     omega arith
 
-part-show-is-start-3 : tie.Need-slice-bounds-show-is-start-3
-part-show-is-start-3 c =
-    let f = few c.before.before.before.before.before.before.before.before.before.before.before.before.before.before.before.before in
+slice_bounds-show_is-start-3 : tie.Need-slice_bounds-show_is-start-3
+slice_bounds-show_is-start-3 c =
+    let f = few c.before.before.before.before.before.before.before.before.before.before.before.before in
     omega arith
 
-part-show-is-end-3 : tie.Need-slice-bounds-show-is-end-3
-part-show-is-end-3 c =
-    let f = few c.before.before.before.before.before.before.before.before.before.before.before.before.before.before.before.before in
+slice_bounds-show_is-end-3 : tie.Need-slice_bounds-show_is-end-3
+slice_bounds-show_is-end-3 c =
+    let f = few c.before.before.before.before.before.before.before.before.before.before.before.before in
     omega arith
 
-show-is-requires-3 : tie.Need-show-is-requires-3
-show-is-requires-3 c κs =
-    let d = c.before.before.before.before.before.before.before.before.before.before.before.before.before.before.before.before.before in
-    d.before.before.requires
+show_is-requires-3 : tie.Need-show_is-requires-3
+show_is-requires-3 c κs =
+    let d = c.before.before.before.before.before.before.before.before.before.before.before.before.before.before.before in
+    d.requires
 
-pub show-digest-spec : {M : Type 1} → statement M
-show-digest-spec =
-    tie.close (tie.spec (λ c κs. search rules) (λ c. search rules) write-requires sub-print-digest part-print-digest-start part-print-digest-end
-    (λ c κs. search rules) sub-show-is part-show-is-start part-show-is-end show-is-requires sub-show-is-2 part-show-is-start-2 part-show-is-end-2
-    show-is-requires-2 (λ c. search rules) change-last-requires sub-show-is-3 part-show-is-start-3 part-show-is-end-3 show-is-requires-3
-    (λ c. search rules))
+pub show_digest_spec : {M : Type 1} → statement M
+show_digest_spec =
+    tie.close (tie.spec (λ c κs. search rules) (λ c. search rules) write-requires slice_bounds-print_digest-count slice_bounds-print_digest-start
+    slice_bounds-print_digest-end (λ c κs. search rules) slice_bounds-show_is-count slice_bounds-show_is-start slice_bounds-show_is-end
+    show_is-requires slice_bounds-show_is-count-2 slice_bounds-show_is-start-2 slice_bounds-show_is-end-2 show_is-requires-2 (λ c. search rules)
+    change_last-requires slice_bounds-show_is-count-3 slice_bounds-show_is-start-3 slice_bounds-show_is-end-3 show_is-requires-3 (λ c. search rules))

@@ -6,22 +6,22 @@ use Rattle.reference.specs.Readings.{IdReads}
 use Rattle.test_references.proofs.show_id.Statement.{statement}
 use Rattle.test_references.proofs.show_id.Tie as tie
 
-show-plain-digest-requires : tie.Need-show-plain-digest-requires
-show-plain-digest-requires c κs =
+show_plain_digest-requires : tie.Need-show_plain_digest-requires
+show_plain_digest-requires c κs =
     let k = c.before.before.before.before.before in
-    let r = k.before.before in
-    let a = r.before.before.args in
-    (subst (IdReads a.id.now) k.algorithm.given.1 r.read.ensures).0
+    let r = k.before in
+    let a = r.args in
+    (subst (IdReads a.id.now) k.in-Image.is r.read.ensures).0
 
-show-plain-digest-requires-2 : tie.Need-show-plain-digest-requires-2
-show-plain-digest-requires-2 c κs =
+show_plain_digest-requires-in-Image : tie.Need-show_plain_digest-requires-in-Image
+show_plain_digest-requires-in-Image c κs =
     let k = c.before.before.before.before.before.before.before.before in
     let r = k.before.before in
-    let a = r.before.before.args in
-    (subst (IdReads a.id.now) k.algorithm.given.1 r.read.ensures).1
+    let a = r.args in
+    (subst (IdReads a.id.now) k.in-Image.is r.read.ensures).1
 
-pub show-id-spec : {M : Type 1} → statement M
-show-id-spec =
-    tie.close (tie.spec (λ c κs. search rules) (λ c. search rules) (λ c κs. search rules) (λ c. search rules) (λ c. search rules)
-    (λ c κs. search rules) (λ c. search rules) (λ c κs. search rules) show-plain-digest-requires (λ c. search rules) (λ c κs. search rules)
-    show-plain-digest-requires-2 (λ c. search rules) (λ c. search rules))
+pub show_id_spec : {M : Type 1} → statement M
+show_id_spec =
+    tie.close (tie.spec (λ c κs. search rules) (λ c. search rules) (λ c κs. search rules) (λ c. search rules) (λ c κs. search rules)
+    (λ c κs. search rules) show_plain_digest-requires (λ c κs. search rules) show_plain_digest-requires-in-Image (λ c. search rules)
+    (λ c. search rules))

@@ -6,23 +6,22 @@ use Rattle.reference.specs.Readings.{LayerReads}
 use Rattle.test_references.proofs.show_layer.Statement.{statement}
 use Rattle.test_references.proofs.show_layer.Tie as tie
 
-show-digest-at-requires : tie.Need-show-digest-at-requires
-show-digest-at-requires c κs =
+show_digest_at-requires : tie.Need-show_digest_at-requires
+show_digest_at-requires c κs =
     let k = c.before.before.before.before in
-    let r = k.before.before in
-    let a = r.before.before.args in
-    (subst (LayerReads a.s.now a.i) k.a.given.1 r.read.ensures).0
+    let r = k.before in
+    let a = r.args in
+    (subst (LayerReads a.s.now a.i) k.in-Digest.is r.read.ensures).0
 
-show-digest-at-requires-2 : tie.Need-show-digest-at-requires-2
-show-digest-at-requires-2 c κs =
+show_digest_at-requires-in-Alias : tie.Need-show_digest_at-requires-in-Alias
+show_digest_at-requires-in-Alias c κs =
     let k = c.before.before.before.before in
-    let r = k.before.before in
-    let a = r.before.before.args in
-    (subst (LayerReads a.s.now a.i) k.algorithm.given.1 r.read.ensures).0
+    let r = k.before in
+    let a = r.args in
+    (subst (LayerReads a.s.now a.i) k.in-Alias.is r.read.ensures).0
 
-pub show-layer-spec : {M : Type 1} → statement M
-show-layer-spec =
-    tie.close (tie.spec (λ c κs. search rules) (λ c. search rules) (λ c κs. search rules) (λ c. search rules) (λ c. search rules)
-    (λ c κs. search rules) (λ c. search rules) show-digest-at-requires (λ c. search rules) (λ c. search rules) (λ c κs. search rules)
-    (λ c. search rules) show-digest-at-requires-2 (λ c. search rules) (λ c κs. search rules) (λ c. search rules) (λ c. search rules)
-    (λ c. search rules))
+pub show_layer_spec : {M : Type 1} → statement M
+show_layer_spec =
+    tie.close (tie.spec (λ c κs. search rules) (λ c. search rules) (λ c κs. search rules) (λ c. search rules) (λ c κs. search rules)
+    show_digest_at-requires (λ c. search rules) (λ c κs. search rules) show_digest_at-requires-in-Alias (λ c κs. search rules) (λ c. search rules)
+    (λ c. search rules) (λ c. search rules))

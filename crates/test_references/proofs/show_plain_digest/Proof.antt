@@ -8,25 +8,25 @@ use Rattle.test_references.proofs.show_plain_digest.Statement.{statement}
 use Rattle.test_references.proofs.show_plain_digest.Tie as tie
 
 -- a digest fits the buffer, and has two bytes at least
-few : (c : tie.After-digest-bytes) → (28 ≤ c.digest-bytes.result) × (c.digest-bytes.result ≤ 48)
+few : (c : tie.After-digest_bytes-n) → (28 ≤ c.digest_bytes-n.result) × (c.digest_bytes-n.result ≤ 48)
 few c =
-    let d = digest_bounds c.before.before.args.a in
-    let e = c.digest-bytes.ensures.0 in
+    let d = digest_bounds c.args.a in
+    let e = c.digest_bytes-n.ensures.0 in
     (omega arith, omega arith)
 
-write-plain-requires : tie.Need-write-plain-requires
-write-plain-requires c κs = let a = c.before.before.before in (a.requires, omega (arith, (digest_bounds a.args.a).1))
+write_plain-requires : tie.Need-write_plain-requires
+write_plain-requires c κs = let a = c.before.before.before in (a.requires, omega (arith, (digest_bounds a.args.a).1))
 
-sub-print-digest : tie.Need-overflow-sub-print-digest
-sub-print-digest c = let f = few c.before.before.before in omega arith
+slice_bounds-print_digest-count : tie.Need-slice_bounds-print_digest-count
+slice_bounds-print_digest-count c = let f = few c.before.before.before in omega arith
 
-part-print-digest-start : tie.Need-slice-bounds-print-digest-start
-part-print-digest-start c = let f = few c.before.before.before.before in omega arith
+slice_bounds-print_digest-start : tie.Need-slice_bounds-print_digest-start
+slice_bounds-print_digest-start c = let f = few c.before.before.before in omega arith
 
-part-print-digest-end : tie.Need-slice-bounds-print-digest-end
-part-print-digest-end c = let f = few c.before.before.before.before in omega arith
+slice_bounds-print_digest-end : tie.Need-slice_bounds-print_digest-end
+slice_bounds-print_digest-end c = let f = few c.before.before.before in omega arith
 
-pub show-plain-digest-spec : {M : Type 1} → statement M
-show-plain-digest-spec =
-    tie.close (tie.spec (λ c κs. search rules) (λ c. search rules) write-plain-requires sub-print-digest part-print-digest-start part-print-digest-end
-    (λ c κs. search rules) (λ c. search rules))
+pub show_plain_digest_spec : {M : Type 1} → statement M
+show_plain_digest_spec =
+    tie.close (tie.spec (λ c κs. search rules) (λ c. search rules) write_plain-requires slice_bounds-print_digest-count slice_bounds-print_digest-start
+    slice_bounds-print_digest-end (λ c κs. search rules) (λ c. search rules))

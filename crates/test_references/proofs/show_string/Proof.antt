@@ -5,16 +5,16 @@ use borrow.Author.Rules.{rules}
 use Rattle.test_references.proofs.show_string.Statement.{statement}
 use Rattle.test_references.proofs.show_string.Tie as tie
 
-show-layer-requires : tie.Need-show-layer-requires
-show-layer-requires c κs = c.before.before.before.content-of.ensures (not-false _ c.before.if1.false)
+show_layer-requires : tie.Need-show_layer-requires
+show_layer-requires c κs = c.content_of-p.ensures (not-false _ c.if-not-p.false)
 
-show-rule-requires : tie.Need-show-rule-requires
-show-rule-requires c κs = c.before.before.before.content-of.ensures (not-false _ c.before.if1.false)
+show_rule-requires : tie.Need-show_rule-requires
+show_rule-requires c κs = c.content_of-p.ensures (not-false _ c.if-not-p.false)
 
-is-alias-requires : tie.Need-is-alias-requires
-is-alias-requires c κs = c.before.before.before.content-of.ensures (not-false _ c.before.if1.false)
+is_alias-requires : tie.Need-is_alias-requires
+is_alias-requires c κs = c.content_of-p.ensures (not-false _ c.if-not-p.false)
 
-pub show-string-spec : {M : Type 1} → statement M
-show-string-spec =
-    tie.close (tie.spec (λ c κs. search rules) (λ c. search rules) (λ c κs. search rules) (λ c. search rules) show-layer-requires show-rule-requires
-    is-alias-requires (λ c κs. search rules) (λ c. search rules) (λ c. search rules) (λ c. search rules))
+pub show_string_spec : {M : Type 1} → statement M
+show_string_spec =
+    tie.close (tie.spec (λ c κs. search rules) (λ c κs. search rules) (λ c. search rules) show_layer-requires show_rule-requires is_alias-requires
+    (λ c κs. search rules) (λ c. search rules) (λ c. search rules) (λ c. search rules))
