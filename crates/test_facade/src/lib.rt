@@ -2,6 +2,8 @@
 // canonical form, whether it is that form, what its layers are, whether it rejects, its instances, whether it has `noRestart`, `writableFS`, an
 // entrypoint and the variable A=b, and its signals. Of two good ones, which rules of the first match the image
 // sha224 with 28 bytes 0xaa as signer, 28 bytes 0xbb as manifest digest, and the second as its manifest.
+#![tactic(auto)]
+
 ghost use Rattle.std.specs.Prelude.{◌≡◌, ℕ, ◌≤◌, ◌<◌, length, take};
 ghost use Rattle.manifest_index.specs.Index.{NumberOf, SomeNameIndex};
 ghost use Rattle.manifest.specs.Opened.{Opens};

@@ -13,38 +13,38 @@ use Rattle.manifest.specs.Manifest.{layers as layers_of, signals}
 use Rattle.test_facade.proofs.show_listed.Statement.{statement}
 use Rattle.test_facade.proofs.show_listed.Tie as tie
 
-abbrev invariant-loop : tie.invariant-loop
+abbrev invariant-loop : tie.invariant-loop-i
 invariant-loop s p layers n i₀ i = (i ≤ n) × (layers ≡ true → n ≡ length (layers_of s)) × (layers ≡ false → n ≡ length (signals s))
 
-abbrev decreases-loop : tie.decreases-loop
+abbrev decreases-loop : tie.decreases-loop-i
 decreases-loop s p layers n i₀ i = n - i
 
-loop-holds : tie.Need-loop-init invariant-loop decreases-loop
-loop-holds c = (
+loop-i-init : tie.Need-loop-i-init invariant-loop decreases-loop
+loop-i-init c = (
   omega arith,
-  ⊎_elim (λ w e. w.2 ∙ w.1.ensures) (λ w e. false_true (sym w.0.left ∙ e)) c.if1.branch,
-  ⊎_elim (λ w e. false_true (sym e ∙ w.0.taken)) (λ w e. w.2 ∙ w.1.ensures) c.if1.branch,
+  ⊎_elim (λ w e. w.n-is ∙ w.layer_count-n.ensures) (λ w e. false_true (sym w.if-layers.false ∙ e)) c.if-layers.branch-raw,
+  ⊎_elim (λ w e. false_true (sym e ∙ w.if-layers.true)) (λ w e. w.n-is ∙ w.signal_count-n.ensures) c.if-layers.branch-raw,
 )
 
 layer-requires : tie.Need-layer-requires invariant-loop decreases-loop
 layer-requires c κs =
     let b = c.before in
-    (b.before.before.before.before.requires, omega (arith, b.loop-test.true, b.before.loop.invariant.1 c.if2.true))
+    (b.requires, omega (arith, b.loop-i-test.true, b.loop-i.invariant.1 c.if-layers-2.true))
 
 signal-requires : tie.Need-signal-requires invariant-loop decreases-loop
 signal-requires c κs =
     let b = c.before in
-    (b.before.before.before.before.requires, omega (arith, b.loop-test.true, b.before.loop.invariant.2 c.if2.false))
+    (b.requires, omega (arith, b.loop-i-test.true, b.loop-i.invariant.2 c.if-layers-2.false))
 
-add-i : tie.Need-overflow-add-i invariant-loop decreases-loop
-add-i c =
+overflow_add-i : tie.Need-overflow_add-i invariant-loop decreases-loop
+overflow_add-i c =
     let b = c.before in
-    ⊎_elim (λ w. omega (arith, b.loop-test.true, w.2, w.1.ok)) (λ w. omega (arith, b.loop-test.true, w.2, w.1.ok)) b.before.before.if1.branch
+    ⊎_elim (λ w. omega (arith, b.loop-i-test.true, w.n-is, w.layer_count-n.type_inv)) (λ w. omega (arith, b.loop-i-test.true, w.n-is, w.signal_count-n.type_inv)) b.if-layers.branch-raw
 
-loop-again : tie.Need-loop-preserved invariant-loop decreases-loop
-loop-again c = let l = c.before.before in (omega arith, l.loop.invariant.1, l.loop.invariant.2)
+loop-i-preserved : tie.Need-loop-i-preserved invariant-loop decreases-loop
+loop-i-preserved c = let l = c.before.before in (omega arith, l.loop-i.invariant.1, l.loop-i.invariant.2)
 
-pub show-listed-spec : {M : Type 1} → statement M
-show-listed-spec =
-    tie.close (tie.spec invariant-loop decreases-loop (λ c κs. c.before.before.requires) (λ c κs. c.before.before.requires) loop-holds layer-requires (λ c κs. search rules)
-    signal-requires (λ c κs. search rules) add-i (λ c. search rules) loop-again (λ c. search rules))
+pub show_listed_spec : {M : Type 1} → statement M
+show_listed_spec =
+    tie.close (tie.spec invariant-loop decreases-loop (λ c κs. c.requires) (λ c κs. c.requires) loop-i-init layer-requires (λ c κs. search rules)
+    signal-requires (λ c κs. search rules) overflow_add-i (λ c. search rules) loop-i-preserved (λ c. search rules))

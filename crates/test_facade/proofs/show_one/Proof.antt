@@ -5,10 +5,10 @@ use Rattle.manifest.proofs.Opening.{good_opens}
 use Rattle.test_facade.proofs.show_one.Statement.{statement}
 use Rattle.test_facade.proofs.show_one.Tie as tie
 
-show-good-requires : tie.Need-show-good-requires
-show-good-requires c κs = good_opens _ c.before.before.before.check.ensures c.before.length.given.1
+show_good-requires : tie.Need-show_good-requires
+show_good-requires c κs = good_opens _ c.check.ensures c.in-Good.is
 
-pub show-one-spec : {M : Type 1} → statement M
-show-one-spec =
-    tie.close (tie.spec (λ c κs. search rules) (λ c. search rules) (λ c κs. search rules) (λ c. search rules) show-good-requires (λ c. search rules)
+pub show_one_spec : {M : Type 1} → statement M
+show_one_spec =
+    tie.close (tie.spec (λ c κs. search rules) (λ c. search rules) (λ c κs. search rules) (λ c. search rules) show_good-requires (λ c. search rules)
     (λ c. search rules))

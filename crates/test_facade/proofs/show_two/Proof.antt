@@ -3,10 +3,10 @@ use borrow.Author.Rules.{rules}
 use Rattle.test_facade.proofs.show_two.Statement.{statement}
 use Rattle.test_facade.proofs.show_two.Tie as tie
 
-show-accepts-requires : tie.Need-show-accepts-requires
-show-accepts-requires c κs = rw c.before.first.given.1 at c.before.before.before.open.ensures
+show_accepts-requires : tie.Need-show_accepts-requires
+show_accepts-requires c κs = rw c.in-Good.is at c.open.ensures
 
-pub show-two-spec : {M : Type 1} → statement M
-show-two-spec =
-    tie.close (tie.spec (λ c κs. search rules) (λ c. search rules) show-accepts-requires (λ c. search rules) (λ c. search rules) (λ c κs. search rules)
-    (λ c. search rules) (λ c. search rules))
+pub show_two_spec : {M : Type 1} → statement M
+show_two_spec =
+    tie.close (tie.spec (λ c κs. search rules) (λ c. search rules) show_accepts-requires (λ c. search rules) (λ c κs. search rules) (λ c. search rules)
+    (λ c. search rules))
