@@ -1,5 +1,7 @@
 // Whether images of a store define one layer key for different objects. An image's layer names are sorted once, and those of other images looked up.
 // The same search serves the names that images have for themselves.
+#![tactic(auto)]
+
 ghost use Rattle.std.specs.Prelude.{◌≡◌, ◌+◌, ◌≤◌, ◌<◌, length, take, drop, get_or};
 ghost use Rattle.laws.specs.Any.{any_of, any_pair};
 ghost use Rattle.manifest_heads.specs.Heads.{HeadsOf};

@@ -12,70 +12,70 @@ use Rattle.store_names.proofs.Opened.{opened_at}
 use Rattle.store_conflict.proofs.any_clashes_in.Statement.{statement}
 use Rattle.store_conflict.proofs.any_clashes_in.Tie as tie
 
-abbrev invariant-loop : tie.invariant-loop
+abbrev invariant-loop : tie.invariant-loop-j
 invariant-loop which s names heads keys a signer b v places j₀ j =
     any_of (clashes_in which a signer s) (drop j (images_in b v)) ≡ any_of (clashes_in which a signer s) (drop j₀ (images_in b v))
 
-abbrev decreases-loop : tie.decreases-loop
+abbrev decreases-loop : tie.decreases-loop-j
 decreases-loop which s names heads keys a signer b v places j₀ j = v.count - j
 
-abbrev start : tie.At-loop invariant-loop decreases-loop → tie.Start invariant-loop decreases-loop
+abbrev start : tie.At-loop-j invariant-loop decreases-loop → tie.Start invariant-loop decreases-loop
 start l = l.before.before.before.before.before.before.before
 
-fits : (a : tie.Start invariant-loop decreases-loop) → a.args.t9.count ≤ length a.args.t9.records
-fits a = omega (arith, records_size a.args.t9 a.well-formed.1.1.1.1.1.1.1.1.0, a.requires.2.fills.few)
+fits : (a : tie.Start invariant-loop decreases-loop) → a.args.v.count ≤ length a.args.v.records
+fits a = omega (arith, records_size a.args.v a.well_formed.1.1.1.1.1.1.1.1.0, a.requires.2.fills.few)
 
-mul-r : tie.Need-overflow-mul-r invariant-loop decreases-loop
-mul-r c = omega (arith, (start c.before).pre.2.fills.few, c.loop-test.true)
+offset_bounds-v-j : tie.Need-offset_bounds-v-j invariant-loop decreases-loop
+offset_bounds-v-j c = omega (arith, (start c.before).requires.2.fills.few, c.loop-j-test.true)
 
-element-copy-out-r : tie.Need-element-copy-out-r invariant-loop decreases-loop
-element-copy-out-r c = omega (arith, (start c.before).pre.2.fills.few, c.loop-test.true)
+bounds-v-j : tie.Need-bounds-v-j invariant-loop decreases-loop
+bounds-v-j c = omega (arith, (start c.before).requires.2.fills.few, c.loop-j-test.true)
 
-mul-q : tie.Need-overflow-mul-q invariant-loop decreases-loop
-mul-q c = omega (arith, (start c.before.before).pre.2.fills.few, c.before.loop-test.true)
+offset_bounds-places-j : tie.Need-offset_bounds-places-j invariant-loop decreases-loop
+offset_bounds-places-j c = omega (arith, (start c.before.before).requires.2.fills.few, c.loop-j-test.true)
 
-array-copy-out-q : tie.Need-array-copy-out-q invariant-loop decreases-loop
-array-copy-out-q c = omega (arith, (start c.before.before).pre.2.fills.few, c.before.loop-test.true)
+bounds-places-j : tie.Need-bounds-places-j invariant-loop decreases-loop
+bounds-places-j c = omega (arith, (start c.before.before).requires.2.fills.few, c.loop-j-test.true)
 
-clashes-in-requires : tie.Need-clashes-in-requires invariant-loop decreases-loop
-clashes-in-requires c κs =
+clashes_in-requires : tie.Need-clashes_in-requires invariant-loop decreases-loop
+clashes_in-requires c κs =
     let t = c.before.before in
     let a = start t.before in
-    let j = t.before.loop.j in
-    let o = a.pre.2 in
-    (a.pre.0, a.pre.1, o.fills.each j t.loop-test.true, opened_at _ _ _ o j t.loop-test.true _)
+    let j = t.loop-j.j in
+    let o = a.requires.2 in
+    (a.requires.0, a.requires.1, o.fills.each j t.loop-j-test.true, opened_at _ _ _ o j t.loop-j-test.true _)
+
+returns-then-clashes_in : tie.Need-returns-then-clashes_in invariant-loop decreases-loop
+returns-then-clashes_in c =
+    let t = c.before.before.before.before in
+    let l = t.before in
+    let a = start l in
+    sym (any_here a.args.b.now a.args.v (fits a) l.loop-j.j t.loop-j-test.true _
+    (sym c.clashes_in.ensures ∙ c.if-clashes_in.true)) ∙ l.loop-j.invariant
+
+overflow_add-j : tie.Need-overflow_add-j invariant-loop decreases-loop
+overflow_add-j c =
+    let t = c.before.before.before.before in
+    omega (arith, t.loop-j-test.true, (start t.before).requires.2.fills.few)
+
+loop-j-smaller : tie.Need-loop-j-smaller invariant-loop decreases-loop
+loop-j-smaller c = omega (arith, c.loop-j-test.true)
+
+loop-j-preserved : tie.Need-loop-j-preserved invariant-loop decreases-loop
+loop-j-preserved c =
+    let t = c.before.before.before.before in
+    let l = t.before in
+    let a = start l in
+    sym (any_next a.args.b.now a.args.v (fits a) l.loop-j.j t.loop-j-test.true _
+    (sym c.clashes_in.ensures ∙ c.if-clashes_in.false)) ∙ l.loop-j.invariant
 
 returns : tie.Need-returns invariant-loop decreases-loop
 returns c =
-    let t = c.before.before.before.before in
-    let l = t.before in
-    let a = start l in
-    sym (any_here a.args.b.now a.args.t9 (fits a) l.loop.j t.loop-test.true _
-    (sym c.before.clashes-in.ensures ∙ c.if1.true)) ∙ l.loop.invariant
-
-add-j : tie.Need-overflow-add-j invariant-loop decreases-loop
-add-j c =
-    let t = c.before.before.before.before in
-    omega (arith, t.loop-test.true, (start t.before).pre.2.fills.few)
-
-loop-less : tie.Need-loop-smaller invariant-loop decreases-loop
-loop-less c = omega (arith, c.before.before.before.before.loop-test.true)
-
-loop-again : tie.Need-loop-preserved invariant-loop decreases-loop
-loop-again c =
-    let t = c.before.before.before.before in
-    let l = t.before in
-    let a = start l in
-    sym (any_next a.args.b.now a.args.t9 (fits a) l.loop.j t.loop-test.true _
-    (sym c.before.clashes-in.ensures ∙ c.if1.false)) ∙ l.loop.invariant
-
-returns-2 : tie.Need-returns-2 invariant-loop decreases-loop
-returns-2 c =
     let l = c.before in
     let a = start l in
-    sym (any_image_end a.args.b.now a.args.t9 (fits a) l.loop.j _ c.loop-test.false) ∙ l.loop.invariant
+    sym (any_image_end a.args.b.now a.args.v (fits a) l.loop-j.j _ c.loop-j-test.false) ∙ l.loop-j.invariant
 
-pub any-clashes-in-spec : {M : Type 1} → statement M
-any-clashes-in-spec =
-    tie.close (tie.spec invariant-loop decreases-loop (λ c. refl) mul-r element-copy-out-r mul-q array-copy-out-q clashes-in-requires returns add-j loop-less
-    loop-again returns-2)
+pub any_clashes_in_spec : {M : Type 1} → statement M
+any_clashes_in_spec =
+    tie.close (tie.spec invariant-loop decreases-loop (λ c. refl) offset_bounds-v-j bounds-v-j offset_bounds-places-j bounds-places-j
+    clashes_in-requires returns-then-clashes_in overflow_add-j loop-j-smaller loop-j-preserved returns)

@@ -5,20 +5,20 @@ use borrow.Author.Rules.{rules}
 use Rattle.store_conflict.proofs.any_clashes_with.Statement.{statement}
 use Rattle.store_conflict.proofs.any_clashes_with.Tie as tie
 
-slice-aggregate-any-clashes-in : tie.Need-slice-aggregate-any-clashes-in
-slice-aggregate-any-clashes-in c =
-    sym (length-take-le _ _ c.before.before.before.before.before.before.before.before.before.sort-asked.ensures.0)
+slice_bounds-any_clashes_in-end-2 : tie.Need-slice_bounds-any_clashes_in-end-2
+slice_bounds-any_clashes_in-end-2 c =
+    sym (length-take-le _ _ c.sort_asked-n.ensures.0)
 
-any-clashes-in-requires : tie.Need-any-clashes-in-requires
-any-clashes-in-requires c κs =
+any_clashes_in-requires : tie.Need-any_clashes_in-requires
+any_clashes_in-requires c κs =
     let f = c.before.before.before.before.before.before.before.before.before.before.before in
-    let r = f.sort-asked.ensures in
-    (r.1, r.2, f.before.before.before.before.before.before.before.before.before.before.before.before.requires.1)
+    let r = c.sort_asked-n.ensures in
+    (r.1, r.2, f.requires.1)
 
 returns : tie.Need-returns
-returns c = c.any-clashes-in.ensures
+returns c = c.any_clashes_in.ensures
 
-pub any-clashes-with-spec : {M : Type 1} → statement M
-any-clashes-with-spec =
-    tie.close (tie.spec (λ c κs. search rules) (λ c. search rules) slice-aggregate-any-clashes-in any-clashes-in-requires (λ c. search rules)
+pub any_clashes_with_spec : {M : Type 1} → statement M
+any_clashes_with_spec =
+    tie.close (tie.spec (λ c κs. search rules) (λ c. search rules) slice_bounds-any_clashes_in-end-2 any_clashes_in-requires (λ c. search rules)
     (λ c. search rules) (λ c. search rules) (λ c. search rules) returns)

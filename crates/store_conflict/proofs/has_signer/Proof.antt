@@ -12,59 +12,60 @@ use Rattle.store_record.proofs.Walks.{records_size, any_image_end, any_here, any
 use Rattle.store_conflict.proofs.has_signer.Statement.{statement}
 use Rattle.store_conflict.proofs.has_signer.Tie as tie
 
-abbrev invariant-loop : tie.invariant-loop
+abbrev invariant-loop : tie.invariant-loop-j
 invariant-loop b a signer v j₀ j = any_of (is_signed a signer) (drop j (images_in b v)) ≡ any_of (is_signed a signer) (drop j₀ (images_in b v))
 
-abbrev decreases-loop : tie.decreases-loop
+abbrev decreases-loop : tie.decreases-loop-j
 decreases-loop b a signer v j₀ j = v.count - j
 
-abbrev start : tie.At-loop invariant-loop decreases-loop → tie.Start invariant-loop decreases-loop
+abbrev start : tie.At-loop-j invariant-loop decreases-loop → tie.Start invariant-loop decreases-loop
 start l = l.before.before.before
 
-fits : (a : tie.Start invariant-loop decreases-loop) → a.args.t2.count ≤ length a.args.t2.records
-fits a = omega (arith, records_size a.args.t2 a.well-formed.1.0, a.requires.few)
+fits : (a : tie.Start invariant-loop decreases-loop) → a.args.v.count ≤ length a.args.v.records
+fits a = omega (arith, records_size a.args.v a.well_formed.1.0, a.requires.few)
 
-mul-r : tie.Need-overflow-mul-r invariant-loop decreases-loop
-mul-r c = omega (arith, (start c.before).pre.few, c.loop-test.true)
+offset_bounds-v-j : tie.Need-offset_bounds-v-j invariant-loop decreases-loop
+offset_bounds-v-j c = omega (arith, (start c.before).requires.few, c.loop-j-test.true)
 
-element-copy-out-r : tie.Need-element-copy-out-r invariant-loop decreases-loop
-element-copy-out-r c = omega (arith, (start c.before).pre.few, c.loop-test.true)
+bounds-v-j : tie.Need-bounds-v-j invariant-loop decreases-loop
+bounds-v-j c = omega (arith, (start c.before).requires.few, c.loop-j-test.true)
 
-is-signed-by-requires : tie.Need-is-signed-by-requires invariant-loop decreases-loop
-is-signed-by-requires c κs =
+is_signed_by-requires : tie.Need-is_signed_by-requires invariant-loop decreases-loop
+is_signed_by-requires c κs =
     let t = c.before in
-    (start t.before).pre.each t.before.loop.j t.loop-test.true
+    (start t.before).requires.each t.loop-j.j t.loop-j-test.true
+
+returns-then-is_signed_by : tie.Need-returns-then-is_signed_by invariant-loop decreases-loop
+returns-then-is_signed_by c =
+    let t = c.before.before.before in
+    let l = t.before in
+    let a = start l in
+    sym (any_here a.args.b.now a.args.v (fits a) l.loop-j.j t.loop-j-test.true _
+    (sym (c.is_signed_by.ensures ∙ signed_is _ _ _ _) ∙ c.if-is_signed_by.true)) ∙ l.loop-j.invariant
+
+overflow_add-j : tie.Need-overflow_add-j invariant-loop decreases-loop
+overflow_add-j c =
+    let t = c.before.before.before in
+    omega (arith, t.loop-j-test.true, (start t.before).requires.few)
+
+loop-j-smaller : tie.Need-loop-j-smaller invariant-loop decreases-loop
+loop-j-smaller c = omega (arith, c.loop-j-test.true)
+
+loop-j-preserved : tie.Need-loop-j-preserved invariant-loop decreases-loop
+loop-j-preserved c =
+    let t = c.before.before.before in
+    let l = t.before in
+    let a = start l in
+    sym (any_next a.args.b.now a.args.v (fits a) l.loop-j.j t.loop-j-test.true _
+    (sym (c.is_signed_by.ensures ∙ signed_is _ _ _ _) ∙ c.if-is_signed_by.false)) ∙ l.loop-j.invariant
 
 returns : tie.Need-returns invariant-loop decreases-loop
 returns c =
-    let t = c.before.before.before in
-    let l = t.before in
-    let a = start l in
-    sym (any_here a.args.b.now a.args.t2 (fits a) l.loop.j t.loop-test.true _
-    (sym (c.before.is-signed-by.ensures ∙ signed_is _ _ _ _) ∙ c.if1.true)) ∙ l.loop.invariant
-
-add-j : tie.Need-overflow-add-j invariant-loop decreases-loop
-add-j c =
-    let t = c.before.before.before in
-    omega (arith, t.loop-test.true, (start t.before).pre.few)
-
-loop-less : tie.Need-loop-smaller invariant-loop decreases-loop
-loop-less c = omega (arith, c.before.before.before.loop-test.true)
-
-loop-again : tie.Need-loop-preserved invariant-loop decreases-loop
-loop-again c =
-    let t = c.before.before.before in
-    let l = t.before in
-    let a = start l in
-    sym (any_next a.args.b.now a.args.t2 (fits a) l.loop.j t.loop-test.true _
-    (sym (c.before.is-signed-by.ensures ∙ signed_is _ _ _ _) ∙ c.if1.false)) ∙ l.loop.invariant
-
-returns-2 : tie.Need-returns-2 invariant-loop decreases-loop
-returns-2 c =
     let l = c.before in
     let a = start l in
-    sym (any_image_end a.args.b.now a.args.t2 (fits a) l.loop.j _ c.loop-test.false) ∙ l.loop.invariant
+    sym (any_image_end a.args.b.now a.args.v (fits a) l.loop-j.j _ c.loop-j-test.false) ∙ l.loop-j.invariant
 
-pub has-signer-spec : {M : Type 1} → statement M
-has-signer-spec =
-    tie.close (tie.spec invariant-loop decreases-loop (λ c. refl) mul-r element-copy-out-r is-signed-by-requires returns add-j loop-less loop-again returns-2)
+pub has_signer_spec : {M : Type 1} → statement M
+has_signer_spec =
+    tie.close (tie.spec invariant-loop decreases-loop (λ c. refl) offset_bounds-v-j bounds-v-j is_signed_by-requires returns-then-is_signed_by
+    overflow_add-j loop-j-smaller loop-j-preserved returns)

@@ -7,28 +7,28 @@ use borrow.Author.Rules.{rules}
 use Rattle.store_conflict.proofs.sort_asked.Statement.{statement}
 use Rattle.store_conflict.proofs.sort_asked.Tie as tie
 
-sort-names-requires : tie.Need-sort-names-requires
-sort-names-requires c κs =
-    let p = c.before.before.before.before.before.before.before.before.requires in
+sort_names-n-requires : tie.Need-sort_names-n-requires
+sort_names-n-requires c κs =
+    let p = c.requires in
     (p.0, p.1.names, p.1.keys_space)
 
-slice-aggregate-fill-heads : tie.Need-slice-aggregate-fill-heads
-slice-aggregate-fill-heads c = sym (length-take-le _ _ c.before.before.before.before.before.before.before.sort-names.ensures.0)
+slice_bounds-fill_heads-end-2 : tie.Need-slice_bounds-fill_heads-end-2
+slice_bounds-fill_heads-end-2 c = sym (length-take-le _ _ c.sort_names-n.ensures.0)
 
-fill-heads-requires : tie.Need-fill-heads-requires
-fill-heads-requires c κs =
+fill_heads-requires : tie.Need-fill_heads-requires
+fill_heads-requires c κs =
     let f = c.before.before.before.before.before.before.before.before in
-    let r = f.sort-names in
-    let l = length-take-le r.result r.new.1.1.1.0 r.ensures.0 in
-    let a = f.before.before.before.before.before.before.before.before.before in
-    (asked_names a.args.which _ _ _ r.ensures.1, omega (arith, l, r.ensures.0, r.auto.1.1.1.0, a.requires.1.heads_space))
+    let r = c.sort_names-n in
+    let l = length-take-le r.result r.new.sorted r.ensures.0 in
+    let a = f.before.before.before.before.before.before.before.before in
+    (asked_names a.args.which _ _ _ r.ensures.1, omega (arith, l, r.ensures.0, r.auto.sorted, a.requires.1.heads_space))
 
 returns : tie.Need-returns
 returns c =
-    let r = c.before.before.before.before.before.before.before.before.before.before.before.sort-names.ensures in
-    (r.0, r.1, c.before.before.fill-heads.ensures)
+    let r = c.sort_names-n.ensures in
+    (r.0, r.1, c.fill_heads.ensures)
 
-pub sort-asked-spec : {M : Type 1} → statement M
-sort-asked-spec =
-    tie.close (tie.spec sort-names-requires (λ c. search rules) slice-aggregate-fill-heads fill-heads-requires (λ c. search rules)
+pub sort_asked_spec : {M : Type 1} → statement M
+sort_asked_spec =
+    tie.close (tie.spec sort_names-n-requires (λ c. search rules) slice_bounds-fill_heads-end-2 fill_heads-requires (λ c. search rules)
     (λ c. search rules) (λ c. search rules) (λ c. search rules) returns)

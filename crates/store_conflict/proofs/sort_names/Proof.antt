@@ -4,19 +4,19 @@ use borrow.Author.Rules.{rules}
 use Rattle.store_conflict.proofs.sort_names.Statement.{statement}
 use Rattle.store_conflict.proofs.sort_names.Tie as tie
 
-returns : tie.Need-returns
-returns c =
+returns-in-Own : tie.Need-returns-in-Own
+returns-in-Own c =
     let f = c.before.before.before.before in
-    let e = f.sort-self.ensures in
-    (e.0, own_asked _ f.before.before.before.enum_told.given.1 e.1)
+    let e = f.sort_self.ensures in
+    (e.0, own_asked _ f.in-Own.is e.1)
 
-returns-2 : tie.Need-returns-2
-returns-2 c =
+returns-in-Layers : tie.Need-returns-in-Layers
+returns-in-Layers c =
     let f = c.before.before.before.before.before.before in
-    let e = f.sort-contents.ensures in
-    (e.0, layers_asked _ f.before.before.before.before.enum-told2.given.1 e.1)
+    let e = f.sort_contents.ensures in
+    (e.0, layers_asked _ f.in-Layers.is e.1)
 
-pub sort-names-spec : {M : Type 1} → statement M
-sort-names-spec =
+pub sort_names_spec : {M : Type 1} → statement M
+sort_names_spec =
     tie.close (tie.spec (λ c. search rules) (λ c κs. search rules) (λ c. search rules) (λ c κs. search rules) (λ c. search rules) (λ c. search rules)
-    returns (λ c. search rules) (λ c. search rules) (λ c. search rules) returns-2)
+    returns-in-Own (λ c. search rules) (λ c. search rules) (λ c. search rules) returns-in-Layers)
