@@ -1,4 +1,6 @@
 // Whether images of one signer share a `self` alias. In the index of all of them equal names stand side by side, so that one walk finds out.
+#![tactic(auto)]
+
 ghost use Rattle.std.specs.Prelude.{◌≡◌, ℕ, ◌+◌, ◌-◌, ◌/◌, ◌≤◌, ◌<◌, eqb, length, take, drop, get_or};
 ghost use Rattle.laws.specs.Any.{any_of, any_pair};
 ghost use Rattle.manifest_index.specs.Index.{SomeNameIndex};

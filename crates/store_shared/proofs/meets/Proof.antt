@@ -19,11 +19,11 @@ use Rattle.store_shared.proofs.meets.Tie as tie
 abbrev its : List ℕ → List ℕ → ℕ → ℕ → Bool
 its order groups m e = eqb (group_of groups (get_or order m 0)) (group_of groups e)
 
-abbrev invariant-loop : tie.invariant-loop
+abbrev invariant-loop : tie.invariant-loop-k
 invariant-loop order groups start m e g k₀ k =
     any_of (its order groups m) (take (m - k) (drop k order)) ≡ any_of (its order groups m) (take (m - start) (drop start order))
 
-abbrev decreases-loop : tie.decreases-loop
+abbrev decreases-loop : tie.decreases-loop-k
 decreases-loop order groups start m e g k₀ k = m - k
 
 -- the number at place m is that of an alias
@@ -31,76 +31,77 @@ at_m : (a : tie.Start invariant-loop decreases-loop) → get_or a.args.order.now
 at_m a = a.requires.0 _ a.requires.3
 
 -- a turn of the loop: so is the number that it reads
-module _ (t : tie.In-loop invariant-loop decreases-loop) where
+module _ (t : tie.In-loop-k invariant-loop decreases-loop) where
   abbrev start : tie.Start invariant-loop decreases-loop
   start = t.before.before.before.before
 
-  reached : t.before.loop.k < length start.args.order.now
-  reached = omega (arith, t.loop-test.taken, start.pre.3)
+  reached : t.loop-k.k < length start.args.order.now
+  reached = omega (arith, t.loop-k-test.true, start.requires.3)
 
-  at_k : get_or start.args.order.now t.before.loop.k 0 < 4096
-  at_k = start.pre.0 _ reached
+  at_k : get_or start.args.order.now t.loop-k.k 0 < 4096
+  at_k = start.requires.0 _ reached
 
   -- the places after it
   abbrev later : Bool
   later =
       let a = start.args in
-      any_of (its a.order.now a.groups.now a.m) (take (a.m - (t.before.loop.k + 1)) (drop (t.before.loop.k + 1) a.order.now))
+      any_of (its a.order.now a.groups.now a.m) (take (a.m - (t.loop-k.k + 1)) (drop (t.loop-k.k + 1) a.order.now))
 
   step : any_of (its start.args.order.now start.args.groups.now start.args.m)
-      (take (start.args.m - t.before.loop.k) (drop t.before.loop.k start.args.order.now))
-      ≡ (its start.args.order.now start.args.groups.now start.args.m (get_or start.args.order.now t.before.loop.k 0) || later)
-  step = any_part _ _ _ _ t.loop-test.taken (omega (arith, start.pre.3))
+      (take (start.args.m - t.loop-k.k) (drop t.loop-k.k start.args.order.now))
+      ≡ (its start.args.order.now start.args.groups.now start.args.m (get_or start.args.order.now t.loop-k.k 0) || later)
+  step = any_part _ _ _ _ t.loop-k-test.true (omega (arith, start.requires.3))
 
-shared-slice-read-e : tie.Need-shared-slice-read-e invariant-loop decreases-loop
-shared-slice-read-e c = c.before.requires.3
+bounds-order-m : tie.Need-bounds-order-m invariant-loop decreases-loop
+bounds-order-m c = c.requires.3
 
-cast-e : tie.Need-overflow-cast-e invariant-loop decreases-loop
-cast-e c = omega (arith, at_m c.before)
+overflow_cast-e : tie.Need-overflow_cast-e invariant-loop decreases-loop
+overflow_cast-e c = omega (arith, at_m c.before)
 
-mul-g : tie.Need-overflow-mul-g invariant-loop decreases-loop
-mul-g c = omega (arith, at_m c.before)
+offset_bounds-groups-e : tie.Need-offset_bounds-groups-e invariant-loop decreases-loop
+offset_bounds-groups-e c = omega (arith, at_m c.before)
 
-shared-slice-read-g : tie.Need-shared-slice-read-g invariant-loop decreases-loop
-shared-slice-read-g c = omega (arith, at_m c.before.before, c.before.before.requires.1)
+bounds-groups-e : tie.Need-bounds-groups-e invariant-loop decreases-loop
+bounds-groups-e c = omega (arith, at_m c.before.before, c.requires.1)
 
-shared-slice-read-f : tie.Need-shared-slice-read-f invariant-loop decreases-loop
-shared-slice-read-f c = reached c.before
+bounds-order-k : tie.Need-bounds-order-k invariant-loop decreases-loop
+bounds-order-k c = reached c.before
 
-cast_f : tie.Need-overflow-cast-f invariant-loop decreases-loop
-cast_f c = omega (arith, at_k c.before)
+overflow_cast-f : tie.Need-overflow_cast-f invariant-loop decreases-loop
+overflow_cast-f c = omega (arith, at_k c.before)
 
-mul-if1 : tie.Need-overflow-mul-if1 invariant-loop decreases-loop
-mul-if1 c = omega (arith, at_k c.before)
+offset_bounds-groups-f : tie.Need-offset_bounds-groups-f invariant-loop decreases-loop
+offset_bounds-groups-f c = omega (arith, at_k c.before)
 
-shared-slice-read-if1 : tie.Need-shared-slice-read-if1 invariant-loop decreases-loop
-shared-slice-read-if1 c = omega (arith, at_k c.before.before, (start c.before.before).pre.1)
+bounds-groups-f : tie.Need-bounds-groups-f invariant-loop decreases-loop
+bounds-groups-f c = omega (arith, at_k c.before.before, (start c.before.before).requires.1)
+
+returns-then-g-groups : tie.Need-returns-then-g-groups invariant-loop decreases-loop
+unfolding group_of
+returns-then-g-groups c =
+    let t = c.before.before.before in
+    sym (step t ∙ ap (λ (x : Bool). x || later t) (eq-eqb _ _ c.if-g-groups.true)) ∙ t.loop-k.invariant
+
+overflow_add-k : tie.Need-overflow_add-k invariant-loop decreases-loop
+overflow_add-k c = let t = c.before.before.before in search rules
+
+loop-k-smaller : tie.Need-loop-k-smaller invariant-loop decreases-loop
+loop-k-smaller c = omega (arith, c.loop-k-test.true)
+
+loop-k-preserved : tie.Need-loop-k-preserved invariant-loop decreases-loop
+unfolding group_of
+loop-k-preserved c =
+    let t = c.before.before.before in
+    sym (step t ∙ ap (λ (x : Bool). x || later t) (ne_eqb _ _ c.if-g-groups.false)) ∙ t.loop-k.invariant
 
 returns : tie.Need-returns invariant-loop decreases-loop
-unfolding group_of
 returns c =
-    let t = c.before.before.before in
-    sym (step t ∙ ap (λ (x : Bool). x || later t) (eq-eqb _ _ c.if1.true)) ∙ t.before.loop.invariant
-
-add-k : tie.Need-overflow-add-k invariant-loop decreases-loop
-add-k c = let t = c.before.before.before in search rules
-
-loop-less : tie.Need-loop-smaller invariant-loop decreases-loop
-loop-less c = omega (arith, c.before.before.before.loop-test.true)
-
-loop-again : tie.Need-loop-preserved invariant-loop decreases-loop
-unfolding group_of
-loop-again c =
-    let t = c.before.before.before in
-    sym (step t ∙ ap (λ (x : Bool). x || later t) (ne_eqb _ _ c.if1.false)) ∙ t.before.loop.invariant
-
-returns-2 : tie.Need-returns-2 invariant-loop decreases-loop
-returns-2 c =
     let l = c.before in
-    let a = l.before.before.before.args in
-    sym (any_part_end (its a.order.now a.groups.now a.m) a.order.now l.loop.k a.m c.loop-test.false) ∙ l.loop.invariant
+    let a = l.args in
+    sym (any_part_end (its a.order.now a.groups.now a.m) a.order.now l.loop-k.k a.m c.loop-k-test.false) ∙ l.loop-k.invariant
 
-pub meets-spec : {M : Type 1} → statement M
-meets-spec =
-    tie.close (tie.spec invariant-loop decreases-loop (λ c. search rules) shared-slice-read-e cast-e mul-g shared-slice-read-g (λ c. refl) (λ c. search rules)
-    shared-slice-read-f cast_f mul-if1 shared-slice-read-if1 returns add-k loop-less loop-again returns-2)
+pub meets_spec : {M : Type 1} → statement M
+meets_spec =
+    tie.close (tie.spec invariant-loop decreases-loop (λ c. search rules) bounds-order-m overflow_cast-e offset_bounds-groups-e bounds-groups-e
+    (λ c. refl) (λ c. search rules) bounds-order-k overflow_cast-f offset_bounds-groups-f bounds-groups-f returns-then-g-groups overflow_add-k
+    loop-k-smaller loop-k-preserved returns)
