@@ -63,10 +63,10 @@ made_of (i ∷ is) xs {k} m =
 
 -- every ID and every alias make one up
 key_made :
-    {is : List Id} {xs : List Alias} {a : Algorithm} {s d : List ℕ} {x : Alias} → In (image_id a s d) is → In x xs
+    {xs : List Alias} {a : Algorithm} {s d : List ℕ} {is : List Id} {x : Alias} → In (image_id a s d) is → In x xs
     → In (keyed a s x) (layer_keys_of is xs)
 unfolding layer_keys_of layer_keys_under
-key_made {xs = xs} {a} {s} {d} {x} (In.head {x = i} {xs = is} e) m =
+key_made {xs = xs} {a} {s} {d} {x = x} (In.head {x = i} {xs = is} e) m =
     Memᴰ.append_left (layer_keys_of is xs) (subst (λ (j : Id). In (keyed a s x) (layer_keys_under j xs)) e (Memᴰ.map (keyed a s) m))
 key_made {xs = xs} (In.tail {x = i} n) m = Memᴰ.append_right (layer_keys_under i xs) (key_made n m)
 
@@ -127,7 +127,7 @@ module _ (room : List Image) where
 
 -- where no two elements pass a test, two are one or do not pass it in one order
 asked :
-    {A : Type 0} (p : A → A → Bool) {xs : List A} {x y : A} → any_pair p xs ≡ false → In x xs → In y xs
+    {A : Type 0} (p : A → A → Bool) {x y : A} {xs : List A} → any_pair p xs ≡ false → In x xs → In y xs
     → (x ≡ y) ⊎ ((p x y ≡ false) ⊎ (p y x ≡ false))
 unfolding any_pair
 asked p e (In.head f) (In.head g) = inl (f ∙ sym g)

@@ -66,7 +66,7 @@ found k (l ∷ ls) m e =
     (λ f. let w = found k ls m (rw (f, object_in) at e) in
     record { held = w.held; stands = Memᴰ.tail w.stands; is = w.is; object = w.object })
 
-not_found : (k : Key) {ls : List LayerKey} {l : LayerKey} → object_in k ls ≡ none → In l ls → is_same_key l.key k ≡ true → ⊥
+not_found : (k : Key) {l : LayerKey} {ls : List LayerKey} → object_in k ls ≡ none → In l ls → is_same_key l.key k ≡ true → ⊥
 unfolding object_in
 not_found k e (Memᴰ.head {x = x} {xs = xs} q) f =
     let g : is_same_key x.key k ≡ true = ap (λ (j : LayerKey). is_same_key j.key k) (sym q) ∙ f in none_some (sym (rw (g, object_in) at e))
@@ -83,7 +83,7 @@ key_image (x ∷ xs) {k} m =
     (λ (q : In k (keys_in xs)). let w = key_image xs q in (w.0, Memᴰ.tail w.1, w.2))
     (Memᴰ.append_cases (layer_keys x) m)
 
-image_key : {room : List Image} {x : Image} {k : LayerKey} → In x room → In k (layer_keys x) → In k (keys_in room)
+image_key : {x : Image} {room : List Image} {k : LayerKey} → In x room → In k (layer_keys x) → In k (keys_in room)
 unfolding keys_in
 image_key {k = k} (Memᴰ.head {x = y} {xs = ys} e) m = Memᴰ.append_left (keys_in ys) (subst (λ (z : Image). In k (layer_keys z)) e m)
 image_key (Memᴰ.tail {x = y} n) m = Memᴰ.append_right (layer_keys y) (image_key n m)
@@ -132,7 +132,7 @@ unfolding objects_of object_count
 objects_counted [] = refl
 objects_counted (x ∷ xs) = length-append (objects x.text) (objects_of xs) ∙ ap (λ (n : ℕ). length (objects x.text) + n) (objects_counted xs)
 
-of_image : {room : List Image} {x : Image} {m : Layer} → In x room → In m (objects x.text) → In m (objects_of room)
+of_image : {x : Image} {room : List Image} {m : Layer} → In x room → In m (objects x.text) → In m (objects_of room)
 unfolding objects_of
 of_image {m = m} (Memᴰ.head {x = y} {xs = ys} e) i = Memᴰ.append_left (objects_of ys) (subst (λ (z : Image). In m (objects z.text)) e i)
 of_image (Memᴰ.tail {x = y} n) i = Memᴰ.append_right (objects y.text) (of_image n i)

@@ -1,1 +1,2 @@
 // Paths of aliases: the definitions and their laws. There is no code here.
+#![tactic(auto)]
