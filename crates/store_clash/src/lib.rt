@@ -1,6 +1,8 @@
 // When images define one key: an image beside those of a store, and the images of a store among themselves. Keys hold the algorithm and the signer,
 // so images of another signer are passed over; of one side the names are sorted once, and those of the other side are looked up there. The names that
 // the images of a store have for themselves are compared in one index of all. Arrays are lent by the caller, who makes them once.
+#![tactic(auto)]
+
 ghost use Rattle.std.specs.Prelude.{◌≡◌, length};
 ghost use Rattle.laws.specs.Any.{any_of};
 ghost use Rattle.manifest.specs.Opened.{Opens};

@@ -7,36 +7,36 @@ use Rattle.store_clash.proofs.clashes_with_any.Statement.{statement}
 use Rattle.store_clash.proofs.clashes_with_any.Tie as tie
 
 -- where the image's own names were looked up
-abbrev start : tie.After-any-clashes-with → tie.Start
+abbrev start : tie.After-any_clashes_with → tie.Start
 start k = k.before.before.before.before.before.before.before.before.before.before.before.before
 
 -- where the answer to that is known
-abbrev own : tie.Else1 → tie.After-any-clashes-with
+abbrev own : tie.Else-any_clashes_with → tie.After-any_clashes_with
 own c = c.before.before.before.before.before.before.before.before.before
+
+returns-then-any_clashes_with : tie.Need-returns-then-any_clashes_with
+returns-then-any_clashes_with c =
+    let k = c.before.before.before.before.before.before.before.before.before in
+    let a = (start k).args in
+    sym (clash_shared a.b.now a.v 0 a.a a.signer.now a.s.now (sym k.any_clashes_with.ensures ∙ c.if-any_clashes_with.true))
+
+any_clashes_with-requires-2 : tie.Need-any_clashes_with-requires-2
+any_clashes_with-requires-2 c κs =
+    let k = own c.before.before.before.before in
+    let p = (start k).requires in
+    let n = k.any_clashes_with.auto in
+    (p.0, p.1, space_kept p.2 _ _ _ _ n.sorted n.spare n.heads n.keys)
 
 returns : tie.Need-returns
 returns c =
-    let k = c.before.before.before.before.before.before.before.before.before in
-    let a = (start k).args in
-    sym (clash_shared a.b.now a.v 0 a.a a.signer.now a.s.now (sym k.any-clashes-with.ensures ∙ c.if1.true))
-
-any-clashes-with-requires-2 : tie.Need-any-clashes-with-requires-2
-any-clashes-with-requires-2 c κs =
-    let k = own c.before.before.before.before in
-    let p = (start k).pre in
-    let n = k.any-clashes-with.kept.1.1.1.1.1.1.1.1.1 in
-    (p.0, p.1, space_kept p.2 _ _ _ _ n.0 n.1.0 n.1.1.0 n.1.1.1.0)
-
-returns-2 : tie.Need-returns-2
-returns-2 c =
     let f = c.before.before.before.before.before.before.before.before in
     let e = f.before.before.before.before.before in
     let k = own e in
     let a = (start k).args in
-    let none = sym k.any-clashes-with.ensures ∙ e.if1.false in
-    f.any-clashes-with2.ensures ∙ sym (clash_layers a.b.now a.v 0 a.a a.signer.now a.s.now none)
+    let none = sym k.any_clashes_with.ensures ∙ e.if-any_clashes_with.false in
+    f.any_clashes_with-2.ensures ∙ sym (clash_layers a.b.now a.v 0 a.a a.signer.now a.s.now none)
 
-pub clashes-with-any-spec : {M : Type 1} → statement M
-clashes-with-any-spec =
-    tie.close (tie.spec (λ c κs. search rules) (λ c. search rules) (λ c. search rules) (λ c. search rules) (λ c. search rules) returns
-    any-clashes-with-requires-2 (λ c. search rules) (λ c. search rules) (λ c. search rules) (λ c. search rules) returns-2)
+pub clashes_with_any_spec : {M : Type 1} → statement M
+clashes_with_any_spec =
+    tie.close (tie.spec (λ c κs. search rules) (λ c. search rules) (λ c. search rules) (λ c. search rules) (λ c. search rules)
+    returns-then-any_clashes_with any_clashes_with-requires-2 (λ c. search rules) (λ c. search rules) (λ c. search rules) (λ c. search rules) returns)
