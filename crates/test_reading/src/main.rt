@@ -6,6 +6,8 @@
 //   reference LETTER TEXT  what a reference is found to be, with no space after the letter (`test_references`)
 //
 // Any other line prints `bad`. What is printed is tested; no contract speaks of it.
+#![tactic(auto)]
+
 fn show_number(s: &[u8]) {
     io::print_decimal(1, manifest::number(s) as u64);
     io::write_all(1, b"\n");
