@@ -1,5 +1,7 @@
 // Aliases followed through the images of a store. Every reference of the store has a number, and `next` has for each the number of the object that it
 // stands for, so that an alias is looked up once in a call, however many paths run through it.
+#![tactic(auto)]
+
 ghost use Rattle.std.specs.Prelude.{◌≡◌, false, List, ◌<◌, length, get_or};
 ghost use Rattle.reference.specs.References.{Layer, no_layer};
 ghost use Rattle.store_record.specs.Image.{Image};
