@@ -1,5 +1,7 @@
 // The images that one image of a store accepts, as a row of marks: each rule is read once, its alias is looked up once, and then it is asked of every
 // image. Alias k of image i has the number 64 * i + k in the index of all own aliases.
+#![tactic(auto)]
+
 ghost use Rattle.std.specs.Prelude.{◌≡◌, ◌&&◌, map, ℕ, ◌+◌, ◌*◌, ◌/◌, ◌^◌, ◌<◌, eqb, length, get_or};
 ghost use Rattle.laws.specs.Any.{any_of};
 ghost use Rattle.reference.specs.References.{Rule as PolicyRule};

@@ -7,13 +7,13 @@ use Rattle.policy_rows.proofs.matches_image.Statement.{statement}
 use Rattle.policy_rows.proofs.matches_image.Tie as tie
 
 matches-requires : tie.Need-matches-requires
-matches-requires c κs = c.before.before.before.before.requires.0
+matches-requires c κs = c.requires.0
 
 returns : tie.Need-returns
 unfolding between
 returns c = λ y k e. c.matches.ensures y _ k e ∙ matches_held y _ _
 
-pub matches-image-spec : {M : Type 1} → statement M
-matches-image-spec =
+pub matches_image_spec : {M : Type 1} → statement M
+matches_image_spec =
     tie.close (tie.spec (λ c. search rules) (λ c. search rules) (λ c. search rules) (λ c. search rules) (λ c. search rules) (λ c. search rules)
     matches-requires returns)

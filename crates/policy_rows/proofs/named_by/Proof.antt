@@ -13,21 +13,21 @@ use Rattle.policy_rows.proofs.named_by.Statement.{statement}
 use Rattle.policy_rows.proofs.named_by.Tie as tie
 
 -- where the names stand, for the rule that was read
-module _ (c : tie.After-asked) where
+module _ (c : tie.After-asked-r) where
   abbrev start : tie.Start
   start = c.before.before.before.before.before
 
-  found : Asked start.args.b.now start.args.at.now start.args.order.now start.pre.0.rule c.asked.result
-  found = c.asked.ensures start.pre.0.rule start.pre.0.read
+  found : Asked start.args.b.now start.args.at.now start.args.order.now start.requires.0.rule c.asked-r.result
+  found = c.asked-r.ensures start.requires.0.rule start.requires.0.read
 
 owners-requires : tie.Need-owners-requires
 owners-requires c κs = λ i h.
     let a = start c.before in
     let f = found c.before in
-    let r = c.before.asked.result in
+    let r = c.asked-r.result in
     let order = a.args.order.now in
     let size = length-take-le (r.to - r.from) (drop r.from order) (omega (arith, length-drop r.from order, f.within)) in
-    part_below order 4096 r.from (r.to - r.from) (λ k l. omega (arith, index_number a.pre.1.index k l, a.pre.2)) (omega (
+    part_below order 4096 r.from (r.to - r.from) (λ k l. omega (arith, index_number a.requires.1.index k l, a.requires.2)) (omega (
       arith,
       f.rising,
       f.within,
@@ -35,9 +35,9 @@ owners-requires c κs = λ i h.
     i (omega (arith, h, size))
 
 returns : tie.Need-returns
-returns c = λ y k j. c.owners.ensures j ∙ asked_any (c.before.before.asked.ensures y k) (λ e. eqb (e / 64) j)
+returns c = λ y k j. c.owners.ensures j ∙ asked_any (c.asked-r.ensures y k) (λ e. eqb (e / 64) j)
 
-pub named-by-spec : {M : Type 1} → statement M
-named-by-spec =
+pub named_by_spec : {M : Type 1} → statement M
+named_by_spec =
     tie.close (tie.spec (λ c κs. search rules) (λ c. omega (arith, (found c).rising, (found c).within)) (λ c. (found c).rising) (λ c. (found c).rising)
     (λ c. (found c).within) owners-requires returns)

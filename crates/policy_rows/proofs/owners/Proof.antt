@@ -7,35 +7,35 @@ use Rattle.policy_rows.proofs.Bits.{Owned, owned_none, owned_next, owned_all}
 use Rattle.policy_rows.proofs.owners.Statement.{statement}
 use Rattle.policy_rows.proofs.owners.Tie as tie
 
-abbrev invariant-loop : tie.invariant-loop
+abbrev invariant-loop : tie.invariant-loop-i
 invariant-loop order word₀ i₀ word i = Owned order i word
 
-abbrev decreases-loop : tie.decreases-loop
+abbrev decreases-loop : tie.decreases-loop-i
 decreases-loop order word₀ i₀ word i = length order - i
 
-loop-holds : tie.Need-loop-init invariant-loop decreases-loop
-loop-holds c = owned_none _
+loop-i-init : tie.Need-loop-i-init invariant-loop decreases-loop
+loop-i-init c = owned_none _
 
 -- the number that is read is that of an alias
-small : (c : tie.After-shared-slice-known invariant-loop decreases-loop) → get_or c.before.before.before.args.order.now c.before.before.loop.i 0 < 4096
-small c = c.before.before.before.requires _ c.before.loop-test.true
+small : (c : tie.After-shared_slice_known-1 invariant-loop decreases-loop) → get_or c.args.order.now c.loop-i.i 0 < 4096
+small c = c.requires _ c.loop-i-test.true
 
-cast-e : tie.Need-overflow-cast-e invariant-loop decreases-loop
-cast-e c = omega (arith, small c)
+overflow_cast-e : tie.Need-overflow_cast-e invariant-loop decreases-loop
+overflow_cast-e c = omega (arith, small c)
 
-shl-word : tie.Need-overflow-shl-word invariant-loop decreases-loop
-shl-word c = omega (arith, small c)
+overflow_shl-word : tie.Need-overflow_shl-word invariant-loop decreases-loop
+overflow_shl-word c = omega (arith, small c)
 
-loop-less : tie.Need-loop-smaller invariant-loop decreases-loop
-loop-less c = omega (arith, c.before.loop-test.true)
+loop-i-smaller : tie.Need-loop-i-smaller invariant-loop decreases-loop
+loop-i-smaller c = omega (arith, c.loop-i-test.true)
 
-loop-again : tie.Need-loop-preserved invariant-loop decreases-loop
-loop-again c = let l = c.before.before.loop in owned_next _ l.i l.word c.before.loop-test.true (small c) l.invariant
+loop-i-preserved : tie.Need-loop-i-preserved invariant-loop decreases-loop
+loop-i-preserved c = let l = c.loop-i in owned_next _ l.i l.word c.loop-i-test.true (small c) l.invariant
 
 returns : tie.Need-returns invariant-loop decreases-loop
-returns c = owned_all _ _ _ c.loop-test.false c.before.loop.invariant
+returns c = owned_all _ _ _ c.loop-i-test.false c.loop-i.invariant
 
-pub owners-spec : {M : Type 1} → statement M
-owners-spec =
-    tie.close (tie.spec invariant-loop decreases-loop loop-holds (λ c. search rules) (λ c. search rules) cast-e shl-word (λ c. search rules) loop-less loop-again
-    returns)
+pub owners_spec : {M : Type 1} → statement M
+owners_spec =
+    tie.close (tie.spec invariant-loop decreases-loop loop-i-init (λ c. search rules) (λ c. search rules) overflow_cast-e overflow_shl-word
+    (λ c. search rules) loop-i-smaller loop-i-preserved returns)
