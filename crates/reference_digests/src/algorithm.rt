@@ -84,7 +84,8 @@ pub fn named(s: &[u8], plain: bool, i: usize, len: usize) -> Known
     if reference_parts::part::is_named(s, plain, i, len, b"sha256") {
         return Known::Is(Algorithm::Sha256);
     }
-    if reference_parts::part::is_named(s, plain, i, len, b"sha384") {
+    let is_sha384 = reference_parts::part::is_named(s, plain, i, len, b"sha384");
+    if is_sha384 {
         return Known::Is(Algorithm::Sha384);
     }
     Known::Unknown

@@ -262,6 +262,9 @@ pub fn plain_end(s: &[u8], at: usize) -> usize
     plain_rest(s, i)
 }
 
+// The lowest byte that may stand in a string as it is.
+const LOWEST_RAW: u8 = 0x20;
+
 // The chars of a string and its closing quotation mark.
 pub fn chars(s: &[u8], at: usize) -> Scan
     requires { at ≤ length s.now }
@@ -292,7 +295,7 @@ pub fn chars(s: &[u8], at: usize) -> Scan
                 }
                 Escape::NoEscape(e) => return Scan::NoToken(e),
             }
-        } else if b < 0x20 {
+        } else if b < LOWEST_RAW {
             return Scan::NoToken(i);
         } else {
             refused |= b == 0x7F;

@@ -67,7 +67,8 @@ fn compare_bytes(s: &[u8], i: usize, t: &[u8], j: usize) -> Order
         if x != y {
             return differ(x, y);
         }
-        if x == b'"' {
+        let is_closed = x == b'"';
+        if is_closed {
             return Order::Equal;
         }
         k += 1;

@@ -81,6 +81,9 @@ fn unmarked_end(s: &[u8], at: usize) -> usize
     unmarked_rest(s, i)
 }
 
+// The byte that begins an escape.
+const ESCAPE: u8 = b'\\';
+
 // The string whose content goes on at i, in canonical form from there to its closing mark. A byte of the text that begins no escape
 // stands for itself, and is no byte that has to be escaped; it is copied with those after it.
 fn write_content(s: &[u8], i: usize, out: &mut [u8]) -> usize
@@ -96,7 +99,7 @@ fn write_content(s: &[u8], i: usize, out: &mut [u8]) -> usize
             out[n] = b'"';
             return n + 1;
         }
-        if b == b'\\' {
+        if b == ESCAPE {
             let e = text_strings::read_escape(s, k);
             let c = e.scalar;
             n += write_char(c, &mut out[n..]);

@@ -81,11 +81,11 @@ returns-in-NoEscape c =
     let e = c.in-NoEscape.e in
     (omega arith, scans_none (text l) e taken.1 _ (stops l e (starts then2 ∙ taken.2)))
 
-returns-then-b-lt32 : tie.Need-returns-then-b-lt32 invariant-loop decreases-loop
-returns-then-b-lt32 c =
+returns-then-b-lt-LOWEST_RAW : tie.Need-returns-then-b-lt-LOWEST_RAW invariant-loop decreases-loop
+returns-then-b-lt-LOWEST_RAW c =
     let else1 = c.before.before in
     let l = else1.before.before.before in
-    let read = char_control (text l) l.loop-i.i else1.loop-i-test.true else1.if-b-eq34.false c.if-b-eq92.false c.if-b-lt32.true in
+    let read = char_control (text l) l.loop-i.i else1.loop-i-test.true else1.if-b-eq34.false c.if-b-eq92.false c.if-b-lt-LOWEST_RAW.true in
     (omega arith, scans_none (text l) l.loop-i.i l.loop-i.invariant.1 _ (stops l l.loop-i.i read))
 
 -- what was passed ends in the text
@@ -97,11 +97,11 @@ passed c =
 overflow_sub-size : tie.Need-overflow_sub-size invariant-loop decreases-loop
 overflow_sub-size c = omega (arith, c.plain_end-i.ensures)
 
-overflow_add-size-else-b-lt32 : tie.Need-overflow_add-size-else-b-lt32 invariant-loop decreases-loop
-overflow_add-size-else-b-lt32 c = let fits = passed c in omega (arith, c.plain_end-i.ensures)
+overflow_add-size-else-b-lt-LOWEST_RAW : tie.Need-overflow_add-size-else-b-lt-LOWEST_RAW invariant-loop decreases-loop
+overflow_add-size-else-b-lt-LOWEST_RAW c = let fits = passed c in omega (arith, c.plain_end-i.ensures)
 
-overflow_add-size-else-b-lt32-2 : tie.Need-overflow_add-size-else-b-lt32-2 invariant-loop decreases-loop
-overflow_add-size-else-b-lt32-2 c = let fits = passed c in omega (arith, c.plain_end-i.ensures)
+overflow_add-size-else-b-lt-LOWEST_RAW-2 : tie.Need-overflow_add-size-else-b-lt-LOWEST_RAW-2 invariant-loop decreases-loop
+overflow_add-size-else-b-lt-LOWEST_RAW-2 c = let fits = passed c in omega (arith, c.plain_end-i.ensures)
 
 loop-i-smaller : tie.Need-loop-i-smaller invariant-loop decreases-loop
 loop-i-smaller c = omega (arith, c.plain_end-i.ensures)
@@ -113,7 +113,7 @@ loop-i-preserved c =
     let l = else1.before.before.before in
     let q = else1.if-b-eq34.false in
     let e = else3.if-b-eq92.false in
-    let read = char_plain (text l) l.loop-i.i else1.loop-i-test.true q e else3.if-b-lt32.false in
+    let read = char_plain (text l) l.loop-i.i else1.loop-i-test.true q e else3.if-b-lt-LOWEST_RAW.false in
     let p = c.plain_end-i.ensures in
     let r = c.plain_end-i.result in (
       omega (arith, p),
@@ -121,7 +121,7 @@ loop-i-preserved c =
       omega (arith, p),
       passes l r _ _
           (ap measure read
-          ∙ measure_plain _ _ q e else3.if-b-lt32.false
+          ∙ measure_plain _ _ q e else3.if-b-lt-LOWEST_RAW.false
           ∙ ap (add _ 1) (plain_run (text l) (l.loop-i.i + 1) r p)
           ∙ add_plain _ 1 _ _),
     )
@@ -134,5 +134,5 @@ returns c =
 pub chars_spec : {M : Type 1} → statement M
 chars_spec =
     tie.close (tie.spec invariant-loop decreases-loop loop-i-init (λ c. omega arith) (λ c. omega arith) returns-then-b-eq34 one_escape-requires (λ c. search rules) overflow_add-size
-    loop-i-smaller-in-Char loop-i-preserved-in-Char (λ c. search rules) returns-in-NoEscape returns-then-b-lt32 (λ c. omega arith) (λ c κs. omega arith) overflow_sub-size overflow_add-size-else-b-lt32 overflow_add-size-else-b-lt32-2 loop-i-smaller
+    loop-i-smaller-in-Char loop-i-preserved-in-Char (λ c. search rules) returns-in-NoEscape returns-then-b-lt-LOWEST_RAW (λ c. omega arith) (λ c κs. omega arith) overflow_sub-size overflow_add-size-else-b-lt-LOWEST_RAW overflow_add-size-else-b-lt-LOWEST_RAW-2 loop-i-smaller
     loop-i-preserved returns)

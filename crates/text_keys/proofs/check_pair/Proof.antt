@@ -1,13 +1,13 @@
 -- `text_keys::check_pair` meets its contract: what each answer of the comparison says. Assumes nothing.
 use borrow.Author.Rules.{rules}
 use Prim.Native.Nat.{◌+◌}
-use mathlib.Core.Path.{sym}
+use mathlib.Core.Path.{sym, ap}
 use native.Mathlib.Omega.{arith}
 use Rattle.text_strings.specs.InString.{content_from, key_le}
 use Rattle.text_strings.proofs.Cursors.{inside_within}
 use Rattle.text_order.proofs.Orders.{Ordered}
 use Rattle.text_keys.specs.Repeats.{left_if, same_left}
-use Rattle.text_keys.proofs.Keys.{compared, less, equal, greater}
+use Rattle.text_keys.proofs.Keys.{tag, compared, less, equal, greater}
 use Rattle.text_keys.proofs.check_pair.Statement.{statement}
 use Rattle.text_keys.proofs.check_pair.Tie as tie
 
@@ -21,15 +21,15 @@ told c = let p = c.requires in compared _ _ _ _ p.0 p.1 c.compare.ensures
 
 returns-in-Less : tie.Need-returns-in-Less
 unfolding same_left left_if key_le
-returns-in-Less c = let o = less (told c.before) c.in-Less.in-Less-own.keys1 in (rw (same_left, o.0), sym o.1)
+returns-in-Less c = let o = less (told c.before) (ap tag c.in-Less.is) in (rw (same_left, o.0), sym o.1)
 
 returns-in-Equal : tie.Need-returns-in-Equal
 unfolding same_left left_if key_le
-returns-in-Equal c = let o = equal (told c.before) c.in-Equal.in-Equal-own.keys2 in (rw (same_left, o.0), sym o.1)
+returns-in-Equal c = let o = equal (told c.before) (ap tag c.in-Equal.is) in (rw (same_left, o.0), sym o.1)
 
 returns-in-Greater : tie.Need-returns-in-Greater
 unfolding same_left left_if key_le
-returns-in-Greater c = let o = greater (told c.before) c.in-Greater.in-Greater-own.keys3 in (rw (same_left, o.0), sym o.1)
+returns-in-Greater c = let o = greater (told c.before) (ap tag c.in-Greater.is) in (rw (same_left, o.0), sym o.1)
 
 pub check_pair_spec : {M : Type 1} → statement M
 check_pair_spec =

@@ -97,8 +97,8 @@ returns-then-x-y c =
     λ x y p q. c.differ.ensures ∙ bytes_differ _ _ _ _ c.loop-k.invariant.2 e.0 e.1
     c.if-x-y.true x y p q
 
-returns-then-x-eq34 : tie.Need-returns-then-x-eq34 invariant-loop decreases-loop
-returns-then-x-eq34 c = both_close _ _ _ _ c.loop-k.invariant.2 c.if-x-y.false c.if-x-eq34.true
+returns-then-is_closed : tie.Need-returns-then-is_closed invariant-loop decreases-loop
+returns-then-is_closed c = both_close _ _ _ _ c.loop-k.invariant.2 c.if-x-y.false c.if-is_closed.true
 
 overflow_add-k-in-loop-k : tie.Need-overflow_add-k-in-loop-k invariant-loop decreases-loop
 overflow_add-k-in-loop-k c = omega (arith, inside_within _ _ c.loop-k.invariant.0)
@@ -113,15 +113,15 @@ loop-k-preserved c =
     let inv = c.loop-k.invariant in
     let e = either_false _ _ (sym c.either_escapes.ensures ∙ c.if-either_escapes.false) in
     let f = c.if-x-y.false in (
-      subst (Inside a.s.now) (add_assoc a.i k 1) (inside_next _ _ inv.0 c.if-x-eq34.false e.0),
-      subst (Inside a.t.now) (add_assoc a.j k 1) (inside_next _ _ inv.1 (λ h. c.if-x-eq34.false (f ∙ h)) e.1),
+      subst (Inside a.s.now) (add_assoc a.i k 1) (inside_next _ _ inv.0 c.if-is_closed.false e.0),
+      subst (Inside a.t.now) (add_assoc a.j k 1) (inside_next _ _ inv.1 (λ h. c.if-is_closed.false (f ∙ h)) e.1),
       subst₂ (λ (m n : ℕ). Tracks (InString a.s.now a.i) (InString a.t.now a.j) (InString a.s.now m) (InString a.t.now n))
           (add_assoc a.i k 1) (add_assoc a.j k 1)
-          (both_plain _ _ _ _ inv.2 e.0 e.1 f c.if-x-eq34.false),
+          (both_plain _ _ _ _ inv.2 e.0 e.1 f c.if-is_closed.false),
     )
 
 pub compare_bytes_spec : {M : Type 1} → statement M
 compare_bytes_spec =
     tie.close (tie.spec invariant-loop decreases-loop loop-k-init overflow_add-x bounds-s-i overflow_add-y bounds-t-j (λ c κs. search rules) overflow_add-i
     overflow_add-j same_escape-requires overflow_add-k loop-k-smaller-then-same_escape loop-k-preserved-then-same_escape overflow_add-i-then-either_escapes (λ c κs. search rules) overflow_add-j-then-either_escapes (λ c κs. search rules)
-    compare_cursors-requires returns-then-either_escapes (λ c κs. search rules) returns-then-x-y returns-then-x-eq34 overflow_add-k-in-loop-k loop-k-smaller loop-k-preserved)
+    compare_cursors-requires returns-then-either_escapes (λ c κs. search rules) returns-then-x-y returns-then-is_closed overflow_add-k-in-loop-k loop-k-smaller loop-k-preserved)

@@ -36,7 +36,7 @@ returns-then-b-eq34 : tie.Need-returns-then-b-eq34 invariant-loop decreases-loop
 returns-then-b-eq34 c = closed c.loop-out.invariant c.requires.1 c.if-b-eq34.true
 
 read_escape-e-requires : tie.Need-read_escape-e-requires invariant-loop decreases-loop
-read_escape-e-requires c κs = escape_here c.loop-out.invariant c.if-b-eq92.true
+read_escape-e-requires c κs = escape_here c.loop-out.invariant c.if-b-eq-ESCAPE.true
 
 slice_bounds-write_char-count : tie.Need-slice_bounds-write_char-count invariant-loop decreases-loop
 slice_bounds-write_char-count c =
@@ -58,14 +58,14 @@ overflow_add-n c =
     let l = d.before.before.before.before in
     omega (arith, c.write_char-n.ensures.0, char_space l.loop-out.invariant l.requires.1 _ _ d.read_escape-e.ensures)
 
-loop-out-smaller-then-b-eq92 : tie.Need-loop-out-smaller-then-b-eq92 invariant-loop decreases-loop
-loop-out-smaller-then-b-eq92 c =
+loop-out-smaller-then-b-eq-ESCAPE : tie.Need-loop-out-smaller-then-b-eq-ESCAPE invariant-loop decreases-loop
+loop-out-smaller-then-b-eq-ESCAPE c =
     let d = c.before.before.before.before in
     let e = d.read_escape-e.ensures in
     omega (arith, e.later, e.within)
 
-loop-out-preserved-then-b-eq92 : tie.Need-loop-out-preserved-then-b-eq92 invariant-loop decreases-loop
-loop-out-preserved-then-b-eq92 c =
+loop-out-preserved-then-b-eq-ESCAPE : tie.Need-loop-out-preserved-then-b-eq-ESCAPE invariant-loop decreases-loop
+loop-out-preserved-then-b-eq-ESCAPE c =
     let d = c.before.before.before.before in
     let w = c.write_char-n.ensures in
     let l = d.before.before.before.before in
@@ -90,7 +90,7 @@ copy-n-requires c κs =
     let fits = l.requires.1 in
     let e = d.unmarked_end-end.ensures.run in
     let q = d.if-b-eq34.false in
-    let b = d.if-b-eq92.false in
+    let b = d.if-b-eq-ESCAPE.false in
     (omega (arith, e.up), omega (arith, run_within l.loop-out.invariant fits q b _ e), run_fits l.loop-out.invariant fits q b _ e)
 
 overflow_add-n-in-loop-out : tie.Need-overflow_add-n-in-loop-out invariant-loop decreases-loop
@@ -101,7 +101,7 @@ overflow_add-n-in-loop-out c =
       arith,
       c.copy-n.ensures.0,
       run_space l.loop-out.invariant l.requires.1 d.if-b-eq34.false
-          d.if-b-eq92.false _ d.unmarked_end-end.ensures.run,
+          d.if-b-eq-ESCAPE.false _ d.unmarked_end-end.ensures.run,
     )
 
 loop-out-smaller : tie.Need-loop-out-smaller invariant-loop decreases-loop
@@ -109,18 +109,18 @@ loop-out-smaller c =
     let d = c.before.before.before.before in
     let l = d.before.before.before.before in
     let e = d.unmarked_end-end.ensures.run in
-    omega (arith, e.up, run_within l.loop-out.invariant l.requires.1 d.if-b-eq34.false d.if-b-eq92.false _ e)
+    omega (arith, e.up, run_within l.loop-out.invariant l.requires.1 d.if-b-eq34.false d.if-b-eq-ESCAPE.false _ e)
 
 loop-out-preserved : tie.Need-loop-out-preserved invariant-loop decreases-loop
 loop-out-preserved c =
     let d = c.before.before.before.before in
     let l = d.before.before.before.before in
     let w = c.copy-n.ensures in
-    after_run l.loop-out.invariant l.requires.1 d.if-b-eq34.false d.if-b-eq92.false _
+    after_run l.loop-out.invariant l.requires.1 d.if-b-eq34.false d.if-b-eq-ESCAPE.false _
     d.unmarked_end-end.ensures.run _ _ w.0 w.1
 
 pub write_content_spec : {M : Type 1} → statement M
 write_content_spec =
     tie.close (tie.spec invariant-loop decreases-loop loop-out-init bounds-s-k bounds-out-n overflow_add-result shape_of-out-then-b-eq34 returns-then-b-eq34 read_escape-e-requires
-    slice_bounds-write_char-count slice_bounds-write_char-start (λ c. search rules) write_char-n-requires overflow_add-n loop-out-smaller-then-b-eq92 loop-out-preserved-then-b-eq92 overflow_add-k unmarked_end-end-requires slice_bounds-copy-count
+    slice_bounds-write_char-count slice_bounds-write_char-start (λ c. search rules) write_char-n-requires overflow_add-n loop-out-smaller-then-b-eq-ESCAPE loop-out-preserved-then-b-eq-ESCAPE overflow_add-k unmarked_end-end-requires slice_bounds-copy-count
     slice_bounds-copy-start (λ c. search rules) copy-n-requires overflow_add-n-in-loop-out loop-out-smaller loop-out-preserved)

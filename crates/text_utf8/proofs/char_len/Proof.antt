@@ -44,12 +44,6 @@ returns-in-0-to-127 c =
     let h : a.at < length a.text.now = omega arith in
     sym (length_follows a.text.now a.at h [] (lead_1 _ (omega arith)))
 
-returns-in-194-to-223 : tie.Need-returns-in-194-to-223
-returns-in-194-to-223 c =
-    let a = c.args in
-    let h : a.at < length a.text.now = omega arith in
-    c.two.ensures ∙ sym (length_follows a.text.now a.at h (tail ∷ []) (lead_2 _ (omega arith) (omega arith)))
-
 returns-in-225-to-239 : tie.Need-returns-in-225-to-239
 returns-in-225-to-239 c =
     let a = c.args in
@@ -78,4 +72,5 @@ pub char_len_spec : {M : Type 1} → statement M
 char_len_spec =
     tie.close (tie.spec (λ c. search rules) (λ c. search rules) (λ c κs. search rules) (λ c κs. search rules) (λ c κs. search rules)
     (λ c κs. search rules) (λ c κs. search rules) (λ c κs. search rules) (λ c κs. search rules) returns-in-224 returns-in-237 returns-in-240 returns-in-244 returns-in-0-to-127
-    returns-in-194-to-223 returns-in-225-to-239 returns-in-241-to-243 returns-in_default returns-in_default-2)
+    (λ c. c.two.ensures ∙ sym (length_follows c.args.text.now c.args.at (omega arith) (tail ∷ []) (lead_2 _ (omega arith) (omega arith))))
+    returns-in-225-to-239 returns-in-241-to-243 returns-in_default returns-in_default-2)

@@ -15,14 +15,14 @@ returns-then-is_named-2 c =
     let e = d.before.before in
     sym (named_second _ (sym e.is_named.ensures ∙ e.if-is_named.false) (sym d.is_named-2.ensures ∙ c.if-is_named-2.true))
 
-returns-then-is_named-3 : tie.Need-returns-then-is_named-3
-returns-then-is_named-3 c =
+returns-then-is_sha384 : tie.Need-returns-then-is_sha384
+returns-then-is_sha384 c =
     let f = c.before in
     let g = f.before.before in
     let d = g.before in
     let e = d.before.before in
     sym (named_third _ (sym e.is_named.ensures ∙ e.if-is_named.false) (sym d.is_named-2.ensures
-    ∙ g.if-is_named-2.false) (sym f.is_named-3.ensures ∙ c.if-is_named-3.true))
+    ∙ g.if-is_named-2.false) (sym f.is_named-is_sha384.ensures ∙ c.if-is_sha384.true))
 
 returns : tie.Need-returns
 returns c =
@@ -30,10 +30,10 @@ returns c =
     let g = f.before.before in
     let d = g.before in
     let e = d.before.before in
-    sym (named_none _ (sym e.is_named.ensures ∙ e.if-is_named.false) (sym d.is_named-2.ensures ∙ g.if-is_named-2.false) (sym f.is_named-3.ensures
-    ∙ c.if-is_named-3.false))
+    sym (named_none _ (sym e.is_named.ensures ∙ e.if-is_named.false) (sym d.is_named-2.ensures ∙ g.if-is_named-2.false) (sym f.is_named-is_sha384.ensures
+    ∙ c.if-is_sha384.false))
 
 pub named_spec : {M : Type 1} → statement M
 named_spec =
     tie.close (tie.spec (λ c κs. search rules) returns-then-is_named (λ c κs. search rules) returns-then-is_named-2 (λ c κs. search rules)
-    returns-then-is_named-3 returns)
+    returns-then-is_sha384 returns)
