@@ -17,11 +17,11 @@ archive:
 else
 ACON_LIB = target/staticlib/libacon.a
 archive:
-	rt staticlib acon
+	tools/build acon
 endif
 
 report:
-	rt check roomreport
+	tools/build roomreport
 	target/bin/roomreport < examples/room.txt
 
 GCC = gcc -O2 -std=c11 -Wall -Wextra -Werror -Iinclude
@@ -53,5 +53,5 @@ install:
 	@ACON_LIB='$(ACON_LIB)' PREFIX='$(PREFIX)' DESTDIR='$(DESTDIR)' tools/install
 
 bench: archive
-	rt staticlib test_bench
+	tools/build test_bench
 	ACON_LIB=$(ACON_LIB) bench/run
