@@ -1,4 +1,6 @@
 // How the layers of an image come out: each is followed to its digest, which must be in the layer list; the digests are written in the order of `layers`.
+#![tactic(auto)]
+
 ghost use Rattle.std.specs.Prelude.{◌≡◌, List, ◌++◌, map, ◌<◌, length, drop, get_or};
 ghost use Rattle.std.proofs.Math.Option.{some};
 ghost use Rattle.reference.specs.References.{Layer as LayerReference, no_layer};

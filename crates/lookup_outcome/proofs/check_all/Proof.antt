@@ -1,7 +1,7 @@
 -- `lookup_outcome::check_all` meets its contract. The loop's invariant: the layers before the reference e were found, or the first that fails is one of
 -- them, and then none is left to ask. The measure is how many are left.
 -- Assumes nothing.
-use Prim.Native.Nat.{◌-◌, ◌*◌, ◌≤◌, ◌<◌}
+use Prim.Native.Nat.{ℕ, ◌-◌, ◌*◌, ◌≤◌, ◌<◌}
 use mathlib.Core.Path.{◌≡◌, refl, ◌∙◌}
 use mathlib.Core.List.{List}
 use mathlib.Core.Logic.{⊎_elim}
@@ -15,41 +15,42 @@ use Rattle.lookup_layers.specs.Layers.{LayerDigest}
 use Rattle.lookup_layers.proofs.Listing.{read_sized}
 use Rattle.lookup_paths.specs.Follow.{end_of}
 use Rattle.lookup_outcome.specs.Outcome.{fate}
+use Rattle.lookup_outcome.specs.declared.Fate.TheVariants.{Present}
 use Rattle.lookup_outcome.specs.Resolving.{Resolving, FoundAt}
 use Rattle.lookup_outcome.proofs.Checking.{Told, all_found, checked_none, entry_small, told_fails, told_next, told_first, told_all}
 use Rattle.lookup_outcome.proofs.check_all.Statement.{statement}
 use Rattle.lookup_outcome.proofs.check_all.Tie as tie
 
-abbrev invariant-loop : tie.invariant-loop
+abbrev invariant-loop : tie.invariant-loop-e
 invariant-loop b keys next objects present numbers₀ n length₀ failing₀ why₀ e₀ numbers size failing why e =
     (objects ≤ e) × (objects ≤ failing) × (failing ≤ length keys) × (length numbers ≡ length numbers₀) × (size ≤ 49 * (e - objects))
     × ((room : List Image) (refs : List Layer) (ds : List LayerDigest) → Resolving b keys next present objects room refs ds
     → Told ds room refs objects e size numbers failing why)
 
-abbrev decreases-loop : tie.decreases-loop
+abbrev decreases-loop : tie.decreases-loop-e
 decreases-loop b keys next objects present numbers₀ n length₀ failing₀ why₀ e₀ numbers size failing why e = length keys - e
 
 -- a turn of the loop: the layer that it follows
-module _ (t : tie.In-loop invariant-loop decreases-loop) where
+module _ (t : tie.In-loop-e invariant-loop decreases-loop) where
   abbrev start : tie.Start invariant-loop decreases-loop
   start = t.before.before.before.before.before.before.before
 
-  reached : t.before.loop.e < length start.args.keys.now
-  reached = omega (arith, t.loop-test.taken, t.before.loop.inv.2)
+  reached : t.loop-e.e < length start.args.keys.now
+  reached = omega (arith, t.loop-e-test.true, t.loop-e.invariant.2)
 
   -- its place among the layers
-  place_below : t.before.loop.e - start.args.objects < length t.before.loop.numbers
+  place_below : t.loop-e.e - start.args.objects < length t.loop-e.numbers
   place_below =
-      let x = start.pre.0.is in
-      omega (arith, reached, t.before.loop.inv.3, start.pre.1, x.layers_few, stand_length x.stand)
+      let x = start.requires.0.is in
+      omega (arith, reached, t.loop-e.invariant.3, start.requires.1, x.layers_few, stand_length x.stand)
 
   -- its number is small
-  e_below : t.before.loop.e < 4160
-  e_below = let x = start.pre.0.is in omega (arith, reached, stand_length x.stand, x.links.few)
+  e_below : t.loop-e.e < 4160
+  e_below = let x = start.requires.0.is in omega (arith, reached, stand_length x.stand, x.links.few)
 
-loop-holds : tie.Need-loop-init invariant-loop decreases-loop
-loop-holds c =
-    let x = c.before.before.before.before.before.requires.0.is in
+loop-e-init : tie.Need-loop-e-init invariant-loop decreases-loop
+loop-e-init c =
+    let x = c.requires.0.is in
     let h = stand_length x.stand in (
       omega arith,
       omega (arith, x.few),
@@ -59,103 +60,104 @@ loop-holds c =
       λ room refs ds y. let k = stand_length y.stand in all_found k (omega (arith, y.few)) (checked_none ds room refs _ _),
     )
 
-fate-of-requires : tie.Need-fate-of-requires invariant-loop decreases-loop
-fate-of-requires c κs = ((start c).requires.0, reached c)
+fate_of-requires : tie.Need-fate_of-requires invariant-loop decreases-loop
+fate_of-requires c κs = ((start c).requires.0, reached c)
 
--- a layer that was found
-module _ (k : tie.After-number invariant-loop decreases-loop) where
-  abbrev turn : tie.In-loop invariant-loop decreases-loop
-  turn = k.before.before.before
-
+-- a layer that was found, once its fate is known
+module _ (h : tie.After-fate_of invariant-loop decreases-loop) (number size : ℕ) (is : h.fate_of.result ≡ Present number size) where
   found_here : (room : List Image) (refs : List Layer) (ds : List LayerDigest)
-      → Resolving (start turn).args.b.now (start turn).args.keys.now (start turn).args.next.now (start turn).args.present.now
-      (start turn).args.objects room refs ds
-      → FoundAt refs (fate ds (end_of room (get_or refs turn.before.loop.e no_layer))) k.number.given.0.0 k.number.given.0.1.0
-  found_here room refs ds x = rw k.number.given.1 at (k.before.before.fate-of.ensures room refs ds x)
+      → Resolving (start h.before).args.b.now (start h.before).args.keys.now (start h.before).args.next.now (start h.before).args.present.now
+      (start h.before).args.objects room refs ds
+      → FoundAt refs (fate ds (end_of room (get_or refs h.loop-e.e no_layer))) number size
+  found_here room refs ds x = rw is at (h.fate_of.ensures room refs ds x)
 
   -- the number of its digest is small, too
-  number_below : k.number.given.0.0 < 4160
+  number_below : number < 4160
   number_below =
-      let x = (start turn).pre.0.is in
+      let x = (start h.before).requires.0.is in
       omega (arith, (found_here _ _ _ x).at.within, x.links.few)
 
   -- and so is its entry
-  size_below : k.number.given.0.1.0 ≤ 49
+  size_below : size ≤ 49
   size_below =
-      let x = (start turn).pre.0.is in
+      let x = (start h.before).requires.0.is in
       entry_small _ _ _ _ _ (read_sized _ _ x.list) (found_here _ _ _ x)
 
-cast-numbers : tie.Need-overflow-cast-numbers invariant-loop decreases-loop
-cast-numbers c = omega (arith, number_below c.before)
+-- a turn of the loop that found its layer
+abbrev turn : tie.In-Present invariant-loop decreases-loop → tie.In-loop-e invariant-loop decreases-loop
+turn k = k.before.before
 
-sub-numbers : tie.Need-overflow-sub-numbers invariant-loop decreases-loop
-sub-numbers c = (turn c.before).before.loop.inv.0
+overflow_cast-numbers : tie.Need-overflow_cast-numbers invariant-loop decreases-loop
+overflow_cast-numbers c = omega (arith, number_below c.before _ _ c.in-Present.is)
 
-mul-numbers : tie.Need-overflow-mul-numbers invariant-loop decreases-loop
-mul-numbers c = omega (arith, e_below (turn c.before))
+overflow_sub-numbers : tie.Need-overflow_sub-numbers invariant-loop decreases-loop
+overflow_sub-numbers c = (turn c).loop-e.invariant.0
 
-slice-write-numbers : tie.Need-slice-write-numbers invariant-loop decreases-loop
-slice-write-numbers c = place_below (turn c.before)
+offset_bounds-numbers-e : tie.Need-offset_bounds-numbers-e invariant-loop decreases-loop
+offset_bounds-numbers-e c = omega (arith, e_below (turn c))
 
-add-length : tie.Need-overflow-add-length invariant-loop decreases-loop
-add-length c = let t = turn c.before in omega (arith, t.before.loop.inv.4, size_below c.before, e_below t)
+bounds-numbers-e : tie.Need-bounds-numbers-e invariant-loop decreases-loop
+bounds-numbers-e c = place_below (turn c)
 
-add-e : tie.Need-overflow-add-e invariant-loop decreases-loop
-add-e c = omega (arith, e_below c.before.before)
+overflow_add-length : tie.Need-overflow_add-length invariant-loop decreases-loop
+overflow_add-length c = let t = turn c in omega (arith, t.loop-e.invariant.4, size_below c.before _ _ c.in-Present.is, e_below t)
 
-loop-less : tie.Need-loop-smaller invariant-loop decreases-loop
-loop-less c = omega (arith, reached c.before.before)
+overflow_add-e : tie.Need-overflow_add-e invariant-loop decreases-loop
+overflow_add-e c = omega (arith, e_below c.before.before)
 
-loop-again : tie.Need-loop-preserved invariant-loop decreases-loop
-loop-again c =
+loop-e-smaller : tie.Need-loop-e-smaller invariant-loop decreases-loop
+loop-e-smaller c = omega (arith, reached c.before.before)
+
+loop-e-preserved : tie.Need-loop-e-preserved invariant-loop decreases-loop
+loop-e-preserved c =
     let t = c.before.before in
-    let l = t.before.loop in
+    let l = t.loop-e in
     ⊎_elim
-    (λ w. rw (w.3, w.4, w.5, w.6) (
+    (λ w. rw (w.numbers-is, w.length-is, w.failing-is, w.why-is) (
       omega (arith, l.invariant.0),
       l.invariant.0,
       omega (arith, reached t),
       l.invariant.3,
       omega (arith, l.invariant.4, l.invariant.0),
-      λ room refs ds x. told_fails ds room refs _ l.e l.length l.numbers l.failing l.why (l.invariant.5 room refs ds x) t.loop-test.true _
-          (rw w.1.given.1 at (c.before.fate-of.ensures room refs ds x)),
+      λ room refs ds x. told_fails ds room refs _ l.e l.length l.numbers l.failing l.why (l.invariant.5 room refs ds x) t.loop-e-test.true _
+          (rw w.in-Fails.is at (c.fate_of.ensures room refs ds x)),
     ))
-    (λ w. let k : tie.After-number invariant-loop decreases-loop = record { before = record { before = c.before; match = w.0 }; number = w.1 } in
-    rw (w.3, w.4, w.5, w.6) (
+    (λ w. rw (w.numbers-is, w.length-is, w.failing-is, w.why-is) (
       omega (arith, l.invariant.0),
       l.invariant.1,
       l.invariant.2,
       length-set l.numbers _ _ ∙ l.invariant.3,
-      omega (arith, l.invariant.4, l.invariant.0, size_below k),
-      λ room refs ds x. told_next ds room refs _ l.e l.length l.numbers l.failing l.why (l.invariant.5 room refs ds x) t.loop-test.true _ _
-          (found_here k room refs ds x) (place_below t),
+      omega (arith, l.invariant.4, l.invariant.0, size_below c.before _ _ w.in-Present.is),
+      λ room refs ds x. told_next ds room refs _ l.e l.length l.numbers l.failing l.why (l.invariant.5 room refs ds x) t.loop-e-test.true _ _
+          (found_here c.before _ _ w.in-Present.is room refs ds x) (place_below t),
     ))
-    c.match.branch
+    c.match-fate_of.branch-raw
 
-sub-t22 : tie.Need-overflow-sub-t22 invariant-loop decreases-loop
-sub-t22 c = omega (arith, c.before.before.loop.invariant.1)
+overflow_sub-result : tie.Need-overflow_sub-result invariant-loop decreases-loop
+overflow_sub-result c = omega (arith, c.loop-e.invariant.1)
 
-same_length : tie.Need-same-length invariant-loop decreases-loop
-same_length c = c.before.before.loop.invariant.3
+shape_of-numbers-then-failing-n : tie.Need-shape_of-numbers-then-failing-n invariant-loop decreases-loop
+shape_of-numbers-then-failing-n c = c.loop-e.invariant.3
+
+returns-then-failing-n : tie.Need-returns-then-failing-n invariant-loop decreases-loop
+returns-then-failing-n c =
+    λ room refs ds x.
+    let l = c.loop-e in
+    told_first ds room refs _ l.e l.length l.numbers l.failing l.why (l.invariant.5 room refs ds x)
+    (omega (arith, c.if-failing-n.true, stand_length x.stand))
+
+shape_of-numbers : tie.Need-shape_of-numbers invariant-loop decreases-loop
+shape_of-numbers c = c.loop-e.invariant.3
 
 returns : tie.Need-returns invariant-loop decreases-loop
 returns c =
     λ room refs ds x.
-    let l = c.before.before.loop in
-    told_first ds room refs _ l.e l.length l.numbers l.failing l.why (l.invariant.5 room refs ds x)
-    (omega (arith, c.if1.true, stand_length x.stand))
-
-same-length-2 : tie.Need-same-length-2 invariant-loop decreases-loop
-same-length-2 c = c.before.before.loop.invariant.3
-
-returns-2 : tie.Need-returns-2 invariant-loop decreases-loop
-returns-2 c =
-    λ room refs ds x.
-    let l = c.before.before.loop in
+    let l = c.loop-e in
     told_all ds room refs _ l.e l.length l.numbers l.failing l.why (l.invariant.5 room refs ds x)
-    (omega (arith, c.if1.false, stand_length x.stand)) c.before.loop-test.false
+    (omega (arith, c.if-failing-n.false, stand_length x.stand)) c.loop-e-test.false
 
-pub check-all-spec : {M : Type 1} → statement M
-check-all-spec =
-    tie.close (tie.spec invariant-loop decreases-loop loop-holds fate-of-requires (λ c. search rules) (λ c. search rules) cast-numbers sub-numbers mul-numbers
-    slice-write-numbers add-length add-e loop-less loop-again sub-t22 same_length returns same-length-2 returns-2)
+pub check_all_spec : {M : Type 1} → statement M
+check_all_spec =
+    tie.close (tie.spec invariant-loop decreases-loop loop-e-init fate_of-requires (λ c. search rules) (λ c. search rules) overflow_cast-numbers
+    overflow_sub-numbers offset_bounds-numbers-e bounds-numbers-e overflow_add-length overflow_add-e loop-e-smaller loop-e-preserved
+    overflow_sub-result shape_of-numbers-then-failing-n returns-then-failing-n shape_of-numbers returns)

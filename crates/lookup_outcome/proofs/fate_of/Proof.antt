@@ -18,7 +18,7 @@ use Rattle.lookup_outcome.proofs.fate_of.Tie as tie
 
 follow-requires : tie.Need-follow-requires
 follow-requires c κs =
-    let p = c.before.before.before.before.requires in
+    let p = c.requires in
     let x = p.0.is in
     record {
       keys = _;
@@ -29,63 +29,63 @@ follow-requires c κs =
     }
 
 -- a path that met a digest
-module _ (r : tie.After-number) where
+module _ (r : tie.In-Met) where
   abbrev start : tie.Start
-  start = r.before.before.before.before.before.before.before
+  start = r.before.before.before.before.before.before
 
   abbrev number : ℕ
-  number = r.number.given.0.0
+  number = r.in-Met.number
 
   met_here : (room : List Image) (refs : List Layer) (ds : List LayerDigest)
       → Resolving start.args.b.now start.args.keys.now start.args.next.now start.args.present.now start.args.objects room refs ds
       → MetAt refs (end_of room (get_or refs start.args.e no_layer)) number
   met_here room refs ds x =
-      rw r.number.given.1 at
-      (r.before.before.follow.ensures room refs x.apart x.links x.count (omega (arith, start.pre.1, stand_length x.stand)))
+      rw r.in-Met.is at
+      (r.follow.ensures room refs x.apart x.links x.count (omega (arith, start.requires.1, stand_length x.stand)))
 
-mul-size-if-present : tie.Need-overflow-mul-size-if-present
-mul-size-if-present c =
-    let r = c.before in
+offset_bounds-keys-number : tie.Need-offset_bounds-keys-number
+offset_bounds-keys-number c =
+    let r = c in
     let x = (start r).requires.0.is in omega (arith, (met_here r _ _ _ x).within, x.links.few)
 
-shared-slice-read-size-if-present : tie.Need-shared-slice-read-size-if-present
-shared-slice-read-size-if-present c =
-    let r = c.before.before in
+bounds-keys-number : tie.Need-bounds-keys-number
+bounds-keys-number c =
+    let r = c.before in
     let x = (start r).requires.0.is in met_within x.stand (met_here r _ _ _ x)
 
-size-if-present-requires : tie.Need-size-if-present-requires
-size-if-present-requires c κs =
-    let r = c.before.before in
+size_if_present-size-requires : tie.Need-size_if_present-size-requires
+size_if_present-size-requires c κs =
+    let r = c.before in
     let p = (start r).requires.0 in
     (some_met p.is.stand (met_here r _ _ _ p.is), record { layers = p.layers; is = p.is.list })
 
-returns : tie.Need-returns
-returns c = λ room refs ds x.
+returns-then-size-eq0 : tie.Need-returns-then-size-eq0
+returns-then-size-eq0 c = λ room refs ds x.
     let f = c.before in
-    let r = f.before.before.before in
-    fate_absent x.stand (met_here r room refs ds x) ds _ (λ d s. f.size-if-present.ensures d ds s x.list) c.if1.true
+    let r = f.before.before in
+    fate_absent x.stand (met_here r room refs ds x) ds _ (λ d s. f.size_if_present-size.ensures d ds s x.list) c.if-size-eq0.true
 
-returns-2 : tie.Need-returns-2
-returns-2 c = λ room refs ds x.
-    let f = c.before.before in
+returns-in-Undefined : tie.Need-returns-in-Undefined
+returns-in-Undefined c = λ room refs ds x.
+    let f = c.before in
     let a = f.before.before.before.before.before in
     fate_undefined ds _
-    (rw c.enum_told.given.1 at (f.follow.ensures room refs x.apart x.links x.count (omega (arith, a.requires.1, stand_length x.stand))))
+    (rw c.in-Undefined.is at (f.follow.ensures room refs x.apart x.links x.count (omega (arith, a.requires.1, stand_length x.stand))))
 
-returns-3 : tie.Need-returns-3
-returns-3 c = λ room refs ds x.
-    let f = c.before.before in
+returns-in-Endless : tie.Need-returns-in-Endless
+returns-in-Endless c = λ room refs ds x.
+    let f = c.before in
     let a = f.before.before.before.before.before in
     fate_endless ds _
-    (rw c.enum-told2.given.1 at (f.follow.ensures room refs x.apart x.links x.count (omega (arith, a.requires.1, stand_length x.stand))))
+    (rw c.in-Endless.is at (f.follow.ensures room refs x.apart x.links x.count (omega (arith, a.requires.1, stand_length x.stand))))
 
-returns-4 : tie.Need-returns-4
-returns-4 c = λ room refs ds x.
+returns-else-size-eq0 : tie.Need-returns-else-size-eq0
+returns-else-size-eq0 c = λ room refs ds x.
     let f = c.before in
-    let r = f.before.before.before in
-    fate_found x.stand (met_here r room refs ds x) ds _ (λ d s. f.size-if-present.ensures d ds s x.list) c.if1.false
+    let r = f.before.before in
+    fate_found x.stand (met_here r room refs ds x) ds _ (λ d s. f.size_if_present-size.ensures d ds s x.list) c.if-size-eq0.false
 
-pub fate-of-spec : {M : Type 1} → statement M
-fate-of-spec =
-    tie.close (tie.spec follow-requires (λ c. search rules) (λ c. search rules) (λ c. search rules) mul-size-if-present
-    shared-slice-read-size-if-present size-if-present-requires returns returns-2 returns-3 returns-4)
+pub fate_of_spec : {M : Type 1} → statement M
+fate_of_spec =
+    tie.close (tie.spec follow-requires (λ c. search rules) (λ c. search rules) (λ c. search rules) offset_bounds-keys-number bounds-keys-number
+    size_if_present-size-requires returns-then-size-eq0 returns-in-Undefined returns-in-Endless returns-else-size-eq0)

@@ -15,56 +15,57 @@ use Rattle.lookup_outcome.proofs.size_if_present.Statement.{statement}
 use Rattle.lookup_outcome.proofs.size_if_present.Tie as tie
 
 -- what was read as a digest
-module _ (r : tie.After-a) where
+module _ (r : tie.In-Digest) where
   abbrev start : tie.Start
-  start = r.before.before.before.before.before
+  start = r.before.before.before.before
 
   -- stands for any layer whose digest stands there
   denoted : (d : LayerDigest) → DigestStands start.args.b.now start.args.k d
-      → Denotes start.args.b.now (Digest r.a.given.0.0 r.a.given.0.1.0) (layer_digest d.algorithm d.bytes)
-  denoted d s = rw r.a.given.1 at (r.before.before.read.ensures _ s.stands)
+      → Denotes start.args.b.now (Digest r.in-Digest.a r.in-Digest.at) (layer_digest d.algorithm d.bytes)
+  denoted d s = rw r.in-Digest.is at (r.read.ensures _ s.stands)
 
 read-requires : tie.Need-read-requires
-read-requires c κs = some_reference c.before.before.requires.0.stands
+read-requires c κs = some_reference c.requires.0.stands
 
 write-requires : tie.Need-write-requires
 write-requires c κs =
-    let r = c.before.before in
-    ((denoted r _ (start r).requires.0.stands).reads.0, (digest_bounds r.a.given.0.0).1)
+    let r = c.before in
+    ((denoted r _ (start r).requires.0.stands).reads.0, (digest_bounds r.in-Digest.a).1)
 
-array-share-prefix-bytes : tie.Need-array-share-prefix-bytes
-array-share-prefix-bytes c = omega (arith, c.digest-bytes.ensures.0, (digest_bounds c.before.before.before.before.before.a.given.0.0).1)
+slice_bounds-bytes-end : tie.Need-slice_bounds-bytes-end
+slice_bounds-bytes-end c = omega (arith, c.digest_bytes-n.ensures.0, (digest_bounds c.in-Digest.a).1)
 
-slice-aggregate-has : tie.Need-slice-aggregate-has
-slice-aggregate-has c = sym (length-take-le c.before.digest-bytes.result _ (array-share-prefix-bytes c.before))
+slice_bounds-has-end : tie.Need-slice_bounds-has-end
+slice_bounds-has-end c = sym (length-take-le c.digest_bytes-n.result _ (slice_bounds-bytes-end c.before))
 
-returns : tie.Need-returns
-returns c = λ d ds s l.
+returns-then-has : tie.Need-returns-then-has
+returns-then-has c = λ d ds s l.
     let h = c.before in
     let n = h.before.before in
     let w = n.before.before in
-    let r = w.before.before.before in
+    let r = w.before.before in
     let x = denoted r d s in
-    size_present (digits_read x.reads.0.digest (sym x.reads.1 ∙ x.is)) _ n.digest-bytes.ensures.0 _ _ w.write.ensures ds _
-    (h.has.ensures ds l) c.if1.true
+    size_present (digits_read x.reads.0.digest (sym x.reads.1 ∙ x.is)) _ n.digest_bytes-n.ensures.0 _ _ w.write.ensures ds _
+    (h.has.ensures ds l) c.if-has.true
 
-returns-2 : tie.Need-returns-2
-returns-2 c = λ d ds s l.
+returns-else-has : tie.Need-returns-else-has
+returns-else-has c = λ d ds s l.
     let h = c.before in
     let n = h.before.before in
     let w = n.before.before in
-    let r = w.before.before.before in
+    let r = w.before.before in
     let x = denoted r d s in
-    size_absent (digits_read x.reads.0.digest (sym x.reads.1 ∙ x.is)) _ n.digest-bytes.ensures.0 _ _ w.write.ensures ds _
-    (h.has.ensures ds l) c.if1.false
+    size_absent (digits_read x.reads.0.digest (sym x.reads.1 ∙ x.is)) _ n.digest_bytes-n.ensures.0 _ _ w.write.ensures ds _
+    (h.has.ensures ds l) c.if-has.false
 
-returns-3 : tie.Need-returns-3
-returns-3 c = λ d ds s l. stands_no_alias _ _ d s _ _ _ (rw c.enum_told.given.1 at c.before.before.read.ensures)
+returns-in-Alias : tie.Need-returns-in-Alias
+returns-in-Alias c = λ d ds s l. stands_no_alias _ _ d s _ _ _ (rw c.in-Alias.is at c.read.ensures)
 
-returns-4 : tie.Need-returns-4
-returns-4 c = λ d ds s l. stands_no_bad _ _ d s (rw c.enum-told2.given.1 at c.before.before.read.ensures)
+returns-in-Bad : tie.Need-returns-in-Bad
+returns-in-Bad c = λ d ds s l. stands_no_bad _ _ d s (rw c.in-Bad.is at c.read.ensures)
 
-pub size-if-present-spec : {M : Type 1} → statement M
-size-if-present-spec =
-    tie.close (tie.spec read-requires (λ c. search rules) (λ c. search rules) write-requires (λ c κs. search rules) array-share-prefix-bytes
-    slice-aggregate-has (λ c κs. search rules) (λ c. search rules) returns (λ c. search rules) (λ c. search rules) returns-2 returns-3 returns-4)
+pub size_if_present_spec : {M : Type 1} → statement M
+size_if_present_spec =
+    tie.close (tie.spec read-requires (λ c. search rules) (λ c. search rules) write-requires (λ c κs. search rules) slice_bounds-bytes-end
+    slice_bounds-has-end (λ c κs. search rules) (λ c. search rules) returns-then-has (λ c. search rules) (λ c. search rules) returns-else-has
+    returns-in-Alias returns-in-Bad)

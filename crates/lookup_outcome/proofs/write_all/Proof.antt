@@ -12,80 +12,80 @@ use Rattle.lookup_outcome.proofs.Writing.{entry_space, entry_lent, entry_fits}
 use Rattle.lookup_outcome.proofs.write_all.Statement.{statement}
 use Rattle.lookup_outcome.proofs.write_all.Tie as tie
 
-abbrev invariant-loop : tie.invariant-loop
+abbrev invariant-loop : tie.invariant-loop-k
 invariant-loop b keys numbers out₀ n₀ k₀ out n k =
     (k ≤ length numbers) × ((w : Writable b keys numbers (length out₀)) → WrittenTo w.digests k n out₀ out)
 
-abbrev decreases-loop : tie.decreases-loop
+abbrev decreases-loop : tie.decreases-loop-k
 decreases-loop b keys numbers out₀ n₀ k₀ out n k = length numbers - k
 
 -- a turn of the loop: the digest whose entry it writes
-module _ (t : tie.In-loop invariant-loop decreases-loop) where
+module _ (t : tie.In-loop-k invariant-loop decreases-loop) where
   abbrev start : tie.Start invariant-loop decreases-loop
   start = t.before.before.before.before.before.before
 
-  reached : t.before.loop.k < length start.args.numbers.now
-  reached = t.loop-test.taken
+  reached : t.loop-k.k < length start.args.numbers.now
+  reached = t.loop-k-test.true
 
   -- what is written before it
-  so_far : WrittenTo start.pre.digests t.before.loop.k t.before.loop.n start.args.out.now t.before.loop.out
-  so_far = t.before.loop.inv.1 start.pre
+  so_far : WrittenTo start.requires.digests t.loop-k.k t.loop-k.n start.args.out.now t.loop-k.out
+  so_far = t.loop-k.invariant.1 start.requires
 
-loop-holds : tie.Need-loop-init invariant-loop decreases-loop
-loop-holds c = (omega arith, λ w. written_none _ _)
+loop-k-init : tie.Need-loop-k-init invariant-loop decreases-loop
+loop-k-init c = (omega arith, λ w. written_none _ _)
 
-shared-slice-read-e : tie.Need-shared-slice-read-e invariant-loop decreases-loop
-shared-slice-read-e c = reached c.before
+bounds-numbers-k : tie.Need-bounds-numbers-k invariant-loop decreases-loop
+bounds-numbers-k c = reached c.before
 
-cast-e : tie.Need-overflow-cast-e invariant-loop decreases-loop
-cast-e c = omega (arith, number_within (start c.before).pre _ (reached c.before), (start c.before).good)
+overflow_cast-e : tie.Need-overflow_cast-e invariant-loop decreases-loop
+overflow_cast-e c = omega (arith, number_within (start c.before).requires _ (reached c.before), (start c.before).well_formed)
 
-mul-write-entry : tie.Need-overflow-mul-write-entry invariant-loop decreases-loop
-mul-write-entry c = omega (arith, number_within (start c.before).pre _ (reached c.before), (start c.before).good)
+offset_bounds-keys-e : tie.Need-offset_bounds-keys-e invariant-loop decreases-loop
+offset_bounds-keys-e c = omega (arith, number_within (start c.before).requires _ (reached c.before), (start c.before).well_formed)
 
-shared-slice-read-write-entry : tie.Need-shared-slice-read-write-entry invariant-loop decreases-loop
-shared-slice-read-write-entry c = number_within (start c.before.before).pre _ (reached c.before.before)
+bounds-keys-e : tie.Need-bounds-keys-e invariant-loop decreases-loop
+bounds-keys-e c = number_within (start c.before.before).requires _ (reached c.before.before)
 
-sub-write-entry : tie.Need-overflow-sub-write-entry invariant-loop decreases-loop
-sub-write-entry c =
+slice_bounds-write_entry-count : tie.Need-slice_bounds-write_entry-count invariant-loop decreases-loop
+slice_bounds-write_entry-count c =
     let t = c.before.before in
     omega (arith, entry_lent (start t).requires _ (reached t) refl (so_far t), Parts.same_length (so_far t).bytes)
 
-part-write-entry-start : tie.Need-slice-bounds-write-entry-start invariant-loop decreases-loop
-part-write-entry-start c = sub-write-entry c
+slice_bounds-write_entry-start : tie.Need-slice_bounds-write_entry-start invariant-loop decreases-loop
+slice_bounds-write_entry-start c = slice_bounds-write_entry-count c
 
-write-entry-requires : tie.Need-write-entry-requires invariant-loop decreases-loop
-write-entry-requires c κs =
+write_entry-n-requires : tie.Need-write_entry-n-requires invariant-loop decreases-loop
+write_entry-n-requires c κs =
     let t = c.before.before.before in
     entry_fits (start t).requires _ (reached t) refl (so_far t)
 
-add-n : tie.Need-overflow-add-n invariant-loop decreases-loop
-add-n c =
+overflow_add-n : tie.Need-overflow_add-n invariant-loop decreases-loop
+overflow_add-n c =
     let r = c.before.before in
     let t = r.before.before.before.before in
-    let e = r.write-entry.ensures _ (digest_here (start t).requires _ (reached t)) in
-    omega (arith, e.0, entry_space (start t).requires _ (reached t) refl (so_far t), (start t).well-formed)
+    let e = r.write_entry-n.ensures _ (digest_here (start t).requires _ (reached t)) in
+    omega (arith, e.0, entry_space (start t).requires _ (reached t) refl (so_far t), (start t).well_formed)
 
-loop-again : tie.Need-loop-preserved invariant-loop decreases-loop
-loop-again c =
+loop-k-preserved : tie.Need-loop-k-preserved invariant-loop decreases-loop
+loop-k-preserved c =
     let r = c.before.before in
     let t = r.before.before.before.before in (
       omega (arith, reached t),
-      λ w. let e = r.write-entry.ensures _ (digest_here w _ (reached t)) in
-          written_next w _ (reached t) refl (t.before.loop.invariant.1 w) _ _ e.0 e.1,
+      λ w. let e = r.write_entry-n.ensures _ (digest_here w _ (reached t)) in
+          written_next w _ (reached t) refl (t.loop-k.invariant.1 w) _ _ e.0 e.1,
     )
 
-same_length : tie.Need-same-length invariant-loop decreases-loop
-same_length c = Parts.same_length (c.before.loop.invariant.1 c.before.before.before.before.before.before.requires).bytes
+shape_of-out : tie.Need-shape_of-out invariant-loop decreases-loop
+shape_of-out c = Parts.same_length (c.loop-k.invariant.1 c.requires).bytes
 
 returns : tie.Need-returns invariant-loop decreases-loop
 returns c = λ refs ds s m.
-    let l = c.before.loop in
-    let p = c.before.before.before.before.before.before.requires in
-    written_all p l.k l.n _ _ (omega (arith, c.loop-test.false)) (l.invariant.1 p) refs ds s m
+    let l = c.loop-k in
+    let p = c.requires in
+    written_all p l.k l.n _ _ (omega (arith, c.loop-k-test.false)) (l.invariant.1 p) refs ds s m
 
-pub write-all-spec : {M : Type 1} → statement M
-write-all-spec =
-    tie.close (tie.spec invariant-loop decreases-loop loop-holds (λ c. search rules) shared-slice-read-e cast-e mul-write-entry shared-slice-read-write-entry
-    sub-write-entry part-write-entry-start (λ c. search rules) write-entry-requires add-n (λ c. search rules) (λ c. search rules) loop-again
-    same_length returns)
+pub write_all_spec : {M : Type 1} → statement M
+write_all_spec =
+    tie.close (tie.spec invariant-loop decreases-loop loop-k-init (λ c. search rules) bounds-numbers-k overflow_cast-e offset_bounds-keys-e
+    bounds-keys-e slice_bounds-write_entry-count slice_bounds-write_entry-start (λ c. search rules) write_entry-n-requires overflow_add-n
+    (λ c. search rules) (λ c. search rules) loop-k-preserved shape_of-out returns)

@@ -4,18 +4,18 @@ use borrow.Author.Rules.{rules}
 use Rattle.lookup_outcome.proofs.Failure.number.Statement.{statement}
 use Rattle.lookup_outcome.proofs.Failure.number.Tie as tie
 
-returns : tie.Need-returns
+returns-in-Undefined : tie.Need-returns-in-Undefined
 unfolding failure_number
-returns c = search rules
+returns-in-Undefined c = search rules
 
-returns-2 : tie.Need-returns-2
+returns-in-Endless : tie.Need-returns-in-Endless
 unfolding failure_number
-returns-2 c = search rules
+returns-in-Endless c = search rules
 
-returns-3 : tie.Need-returns-3
+returns-in-Absent : tie.Need-returns-in-Absent
 unfolding failure_number
-returns-3 c = search rules
+returns-in-Absent c = search rules
 
-pub number-spec : {M : Type 1} → statement M
-number-spec =
-    tie.close (tie.spec (λ c. search rules) (λ c. search rules) (λ c. search rules) returns returns-2 returns-3)
+pub number_spec : {M : Type 1} → statement M
+number_spec =
+    tie.close (tie.spec (λ c. search rules) (λ c. search rules) (λ c. search rules) returns-in-Undefined returns-in-Endless returns-in-Absent)
