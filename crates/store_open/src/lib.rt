@@ -1,4 +1,6 @@
 // Whether the bytes of a buffer are a well-formed store, and what is found on the way.
+#![tactic(auto)]
+
 ghost use Rattle.std.specs.Prelude.{◌≡◌, true, false, not, ◌||◌, ◌+◌, length};
 ghost use Rattle.laws.specs.Any.{any_of};
 ghost use Rattle.manifest.specs.Names.{NameSpace};

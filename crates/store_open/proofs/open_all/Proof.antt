@@ -15,139 +15,141 @@ use Rattle.store_open.proofs.Opening.{text_at, refused_unfit, other_unfit, good_
 use Rattle.store_open.proofs.open_all.Statement.{statement}
 use Rattle.store_open.proofs.open_all.Tie as tie
 
-abbrev invariant-loop : tie.invariant-loop
+abbrev invariant-loop : tie.invariant-loop-i
 invariant-loop b names₀ spare₀ v places₀ i₀ names spare places i = OpenedTo b v places i × (length names ≡ length names₀) × (length spare ≡ length spare₀)
 
-abbrev decreases-loop : tie.decreases-loop
+abbrev decreases-loop : tie.decreases-loop-i
 decreases-loop b names₀ spare₀ v places₀ i₀ names spare places i = v.count - i
 
-abbrev start : tie.At-loop invariant-loop decreases-loop → tie.Start invariant-loop decreases-loop
+abbrev start : tie.At-loop-i invariant-loop decreases-loop → tie.Start invariant-loop decreases-loop
 start l = l.before.before.before.before.before
 
-abbrev head : tie.After-r invariant-loop decreases-loop → tie.At-loop invariant-loop decreases-loop
+abbrev head : tie.After-r-1 invariant-loop decreases-loop → tie.At-loop-i invariant-loop decreases-loop
 head c = c.before.before
 
-abbrev at-record : tie.After-check-with invariant-loop decreases-loop → tie.After-r invariant-loop decreases-loop
+abbrev at-record : tie.After-check_with invariant-loop decreases-loop → tie.After-r-1 invariant-loop decreases-loop
 at-record k = k.before.before.before.before
 
-fits : (a : tie.Start invariant-loop decreases-loop) → a.args.t2.count ≤ length a.args.t2.records
-fits a = omega (arith, records_size a.args.t2 a.well-formed.1.0, a.requires.0.few)
+fits : (a : tie.Start invariant-loop decreases-loop) → a.args.v.count ≤ length a.args.v.records
+fits a = omega (arith, records_size a.args.v a.well_formed.1.0, a.requires.0.few)
 
 -- the record at the index
-abbrev the-record : tie.After-r invariant-loop decreases-loop → Record
-the-record c = get_or (start (head c)).args.t2.records (head c).loop.i no_record
+abbrev the-record : tie.After-r-1 invariant-loop decreases-loop → Record
+the-record c = get_or (start (head c)).args.v.records (head c).loop-i.i no_record
 
-is_in : (c : tie.After-r invariant-loop decreases-loop) → RecordIn (start (head c)).args.b.now (the-record c)
-is_in c = (start (head c)).pre.0.each (head c).loop.i c.before.loop-test.true
+is_in : (c : tie.After-r-1 invariant-loop decreases-loop) → RecordIn (start (head c)).args.b.now (the-record c)
+is_in c = (start (head c)).requires.0.each (head c).loop-i.i c.loop-i-test.true
 
-answers : (c : tie.After-check-with invariant-loop decreases-loop)
-    → let r = at-record c in Answers (text_at (start (head r)).args.b.now (the-record r)) c.check-with.result
+answers : (c : tie.After-check_with invariant-loop decreases-loop)
+    → let r = at-record c in Answers (text_at (start (head r)).args.b.now (the-record r)) c.check_with.result
 unfolding between
-answers c = c.check-with.ensures
+answers c = c.check_with.ensures
 
 -- a place is free
-free : (c : tie.Else1 invariant-loop decreases-loop) → (head (at-record c.before.before.before.before.before.before.before.before)).loop.i < 64
+free : (c : tie.Else-not-canonical invariant-loop decreases-loop) → (head (at-record c.before.before.before.before.before.before)).loop-i.i < 64
 free c =
-    let r = at-record c.before.before.before.before.before.before.before.before in
-    omega (arith, r.before.loop-test.taken, (start (head r)).pre.0.few)
+    let r = at-record c.before.before.before.before.before.before in
+    omega (arith, r.loop-i-test.true, (start (head r)).requires.0.few)
 
-loop-holds : tie.Need-loop-init invariant-loop decreases-loop
-loop-holds c = (nothing_opened _ _ _ refl, refl, refl)
+loop-i-init : tie.Need-loop-i-init invariant-loop decreases-loop
+loop-i-init c = (nothing_opened _ _ _ refl, refl, refl)
 
-mul-r : tie.Need-overflow-mul-r invariant-loop decreases-loop
-mul-r c = omega (arith, c.loop-test.true, (start c.before).pre.0.few)
+offset_bounds-v-i : tie.Need-offset_bounds-v-i invariant-loop decreases-loop
+offset_bounds-v-i c = omega (arith, c.loop-i-test.true, (start c.before).requires.0.few)
 
-element-copy-out-r : tie.Need-element-copy-out-r invariant-loop decreases-loop
-element-copy-out-r c = omega (arith, c.loop-test.true, (start c.before).pre.0.few)
+bounds-v-i : tie.Need-bounds-v-i invariant-loop decreases-loop
+bounds-v-i c = omega (arith, c.loop-i-test.true, (start c.before).requires.0.few)
 
-sub-check-with : tie.Need-overflow-sub-check-with invariant-loop decreases-loop
-sub-check-with c = (is_in c).text
+slice_bounds-check_with-count : tie.Need-slice_bounds-check_with-count invariant-loop decreases-loop
+slice_bounds-check_with-count c = (is_in c).text
 
-part-check-with-start : tie.Need-slice-bounds-check-with-start invariant-loop decreases-loop
-part-check-with-start c = (is_in c).text
+slice_bounds-check_with-start : tie.Need-slice_bounds-check_with-start invariant-loop decreases-loop
+slice_bounds-check_with-start c = (is_in c).text
 
-part-check-with-end : tie.Need-slice-bounds-check-with-end invariant-loop decreases-loop
-part-check-with-end c = (is_in c).within
+slice_bounds-check_with-end : tie.Need-slice_bounds-check_with-end invariant-loop decreases-loop
+slice_bounds-check_with-end c = (is_in c).within
 
-check-with-requires : tie.Need-check-with-requires invariant-loop decreases-loop
-check-with-requires c κs =
+check_with-requires : tie.Need-check_with-requires invariant-loop decreases-loop
+check_with-requires c κs =
     let l = head c.before.before.before in
-    let p = (start l).pre.1 in
-    record { space = omega (arith, l.loop.inv.1, p.space); sorting = omega (arith, l.loop.inv.1, l.loop.inv.2, p.sorting) }
+    let p = (start l).requires.1 in
+    record { space = omega (arith, l.loop-i.invariant.1, p.space); sorting = omega (arith, l.loop-i.invariant.1, l.loop-i.invariant.2, p.sorting) }
 
-same_length : tie.Need-same-length invariant-loop decreases-loop
-same_length c = let k = c.before.before.before.before.before.before in omega (arith, (head (at-record k)).loop.inv.1, k.check-with.auto.1.0)
+shape_of-names-in-Refused : tie.Need-shape_of-names-in-Refused invariant-loop decreases-loop
+shape_of-names-in-Refused c = let k = c.before.before.before.before.before in omega (arith, (head (at-record k)).loop-i.invariant.1, k.check_with.auto.names)
 
-same-length-2 : tie.Need-same-length-2 invariant-loop decreases-loop
-same-length-2 c = let k = c.before.before.before.before.before.before in omega (arith, (head (at-record k)).loop.inv.2, k.check-with.auto.1.1.0)
+shape_of-spare-in-Refused : tie.Need-shape_of-spare-in-Refused invariant-loop decreases-loop
+shape_of-spare-in-Refused c = let k = c.before.before.before.before.before in omega (arith, (head (at-record k)).loop-i.invariant.2, k.check_with.auto.spare)
 
-returns : tie.Need-returns invariant-loop decreases-loop
-returns c =
+returns-in-Refused : tie.Need-returns-in-Refused invariant-loop decreases-loop
+returns-in-Refused c =
+    let k = c.before.before.before.before.before in
+    let r = at-record k in
+    let l = head r in
+    let a = start l in
+    found_unfit a.args.b.now a.args.v (fits a) l.loop-i.places l.loop-i.i l.loop-i.invariant.0 r.loop-i-test.true
+    (refused_unfit _ _ (answers k) c.in-Refused.is)
+
+shape_of-names-then-not-canonical : tie.Need-shape_of-names-then-not-canonical invariant-loop decreases-loop
+shape_of-names-then-not-canonical c =
+    let k = c.before.before.before.before.before.before in
+    omega (arith, (head (at-record k)).loop-i.invariant.1, k.check_with.auto.names)
+
+shape_of-spare-then-not-canonical : tie.Need-shape_of-spare-then-not-canonical invariant-loop decreases-loop
+shape_of-spare-then-not-canonical c =
+    let k = c.before.before.before.before.before.before in
+    omega (arith, (head (at-record k)).loop-i.invariant.2, k.check_with.auto.spare)
+
+returns-then-not-canonical : tie.Need-returns-then-not-canonical invariant-loop decreases-loop
+returns-then-not-canonical c =
     let k = c.before.before.before.before.before.before in
     let r = at-record k in
     let l = head r in
     let a = start l in
-    found_unfit a.args.b.now a.args.t2 (fits a) l.loop.places l.loop.i l.loop.inv.0 r.before.loop-test.taken
-    (refused_unfit _ _ (answers k) c.enum_told.given.1)
+    found_unfit a.args.b.now a.args.v (fits a) l.loop-i.places l.loop-i.i l.loop-i.invariant.0 r.loop-i-test.true
+    (other_unfit _ _ (answers k) c.in-Good.is (not-true _ c.if-not-canonical.true-raw))
 
-same-length-3 : tie.Need-same-length-3 invariant-loop decreases-loop
-same-length-3 c =
-    let k = c.before.before.before.before.before.before.before.before in
-    omega (arith, (head (at-record k)).loop.inv.1, k.check-with.auto.1.0)
+offset_bounds-places-i : tie.Need-offset_bounds-places-i invariant-loop decreases-loop
+offset_bounds-places-i c = omega (arith, free c)
 
-same-length-4 : tie.Need-same-length-4 invariant-loop decreases-loop
-same-length-4 c =
-    let k = c.before.before.before.before.before.before.before.before in
-    omega (arith, (head (at-record k)).loop.inv.2, k.check-with.auto.1.1.0)
+bounds-places-i : tie.Need-bounds-places-i invariant-loop decreases-loop
+bounds-places-i c = free c
 
-returns-2 : tie.Need-returns-2 invariant-loop decreases-loop
-returns-2 c =
-    let k = c.before.before.before.before.before.before.before.before in
-    let r = at-record k in
-    let l = head r in
-    let a = start l in
-    found_unfit a.args.b.now a.args.t2 (fits a) l.loop.places l.loop.i l.loop.inv.0 r.before.loop-test.taken
-    (other_unfit _ _ (answers k) c.before.before.canonical.given.1 (not-true _ c.if1.true))
+overflow_add-i : tie.Need-overflow_add-i invariant-loop decreases-loop
+overflow_add-i c = omega (arith, free c)
 
-mul-places : tie.Need-overflow-mul-places invariant-loop decreases-loop
-mul-places c = omega (arith, free c)
+loop-i-smaller : tie.Need-loop-i-smaller invariant-loop decreases-loop
+loop-i-smaller c = omega (arith, (at-record c.before.before.before.before.before.before).loop-i-test.true)
 
-array-set-from-places : tie.Need-array-set-from-places invariant-loop decreases-loop
-array-set-from-places c = free c
-
-add-i : tie.Need-overflow-add-i invariant-loop decreases-loop
-add-i c = omega (arith, free c)
-
-loop-less : tie.Need-loop-smaller invariant-loop decreases-loop
-loop-less c = omega (arith, (at-record c.before.before.before.before.before.before.before.before).before.loop-test.taken)
-
-loop-again : tie.Need-loop-preserved invariant-loop decreases-loop
-loop-again c =
-    let k = c.before.before.before.before.before.before.before.before in
-    let g = c.before.before.canonical.given.1 in
+loop-i-preserved : tie.Need-loop-i-preserved invariant-loop decreases-loop
+loop-i-preserved c =
+    let k = c.before.before.before.before.before.before in
+    let g = c.in-Good.is in
     let r = at-record k in
     let l = head r in
     let a = start l in (
-      one_opened a.args.b.now a.args.t2 (fits a) l.loop.places l.loop.i l.loop.inv.0 r.before.loop-test.taken
-          (good_fit _ _ (answers k) g (not-false _ c.if1.false)) a.pre.0.few _ (good_opens _ (answers k) g),
-      omega (arith, l.loop.inv.1, k.check-with.auto.1.0),
-      omega (arith, l.loop.inv.2, k.check-with.auto.1.1.0),
+      one_opened a.args.b.now a.args.v (fits a) l.loop-i.places l.loop-i.i l.loop-i.invariant.0 r.loop-i-test.true
+          (good_fit _ _ (answers k) g (not-false _ c.if-not-canonical.false-raw)) a.requires.0.few _ (good_opens _ (answers k) g),
+      omega (arith, l.loop-i.invariant.1, k.check_with.auto.names),
+      omega (arith, l.loop-i.invariant.2, k.check_with.auto.spare),
     )
 
-same-length-5 : tie.Need-same-length-5 invariant-loop decreases-loop
-same-length-5 c = omega (arith, c.before.loop.invariant.1)
+shape_of-names : tie.Need-shape_of-names invariant-loop decreases-loop
+shape_of-names c = omega (arith, c.loop-i.invariant.1)
 
-same-length-6 : tie.Need-same-length-6 invariant-loop decreases-loop
-same-length-6 c = omega (arith, c.before.loop.invariant.2)
+shape_of-spare : tie.Need-shape_of-spare invariant-loop decreases-loop
+shape_of-spare c = omega (arith, c.loop-i.invariant.2)
 
-returns-3 : tie.Need-returns-3 invariant-loop decreases-loop
-returns-3 c =
+returns : tie.Need-returns invariant-loop decreases-loop
+returns c =
     let l = c.before in
     let a = start l in
-    all_opened a.args.b.now a.args.t2 (fits a) l.loop.places l.loop.i l.loop.invariant.0 a.pre.0 c.loop-test.false
+    all_opened a.args.b.now a.args.v (fits a) l.loop-i.places l.loop-i.i l.loop-i.invariant.0 a.requires.0 c.loop-i-test.false
 
-pub open-all-spec : {M : Type 1} → statement M
-open-all-spec =
-    tie.close (tie.spec invariant-loop decreases-loop (λ c κs. search rules) loop-holds mul-r element-copy-out-r sub-check-with part-check-with-start
-    part-check-with-end check-with-requires (λ c. search rules) same_length same-length-2 returns (λ c. search rules) same-length-3 same-length-4
-    returns-2 mul-places array-set-from-places add-i loop-less loop-again same-length-5 same-length-6 returns-3)
+pub open_all_spec : {M : Type 1} → statement M
+open_all_spec =
+    tie.close (tie.spec invariant-loop decreases-loop (λ c κs. search rules) loop-i-init offset_bounds-v-i bounds-v-i slice_bounds-check_with-count
+    slice_bounds-check_with-start slice_bounds-check_with-end check_with-requires (λ c. search rules) shape_of-names-in-Refused
+    shape_of-spare-in-Refused returns-in-Refused (λ c. search rules) shape_of-names-then-not-canonical shape_of-spare-then-not-canonical
+    returns-then-not-canonical offset_bounds-places-i bounds-places-i overflow_add-i loop-i-smaller loop-i-preserved shape_of-names shape_of-spare
+    returns)
