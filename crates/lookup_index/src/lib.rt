@@ -1,4 +1,6 @@
 // The names of the aliases among the references of a store in one index, so that each alias that an image defines is looked up once.
+#![tactic(auto)]
+
 ghost use Rattle.std.specs.Prelude.{◌≡◌, List, [], ℕ, ◌+◌, ◌≤◌, ◌<◌, length, get_or, take};
 ghost use Rattle.reference.specs.References.{Layer as LayerReference};
 ghost use Rattle.manifest_index.specs.Index.{NumberOf, NameIndex};

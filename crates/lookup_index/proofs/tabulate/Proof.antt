@@ -8,22 +8,22 @@ use Rattle.lookup_index.proofs.Indexing.{undefined_number, table_made}
 use Rattle.lookup_index.proofs.tabulate.Statement.{statement}
 use Rattle.lookup_index.proofs.tabulate.Tie as tie
 
-mark-all-requires : tie.Need-mark-all-requires
-mark-all-requires c κs = let p = c.before.before.before.before.before.before.before.requires in (p.0, p.1, omega (arith, p.2))
+mark_all-requires : tie.Need-mark_all-requires
+mark_all-requires c κs = let p = c.requires in (p.0, p.1, omega (arith, p.2))
 
 -- the references are marked
-module _ (k : tie.After-mark-all) where
+module _ (k : tie.After-mark_all) where
   abbrev start : tie.Start
   start = k.before.before.before.before.before.before.before.before
 
-  size : length k.mark-all.last.1.1.1.0 ≡ length start.args.keys.now
-  size = k.mark-all.kept.1.1.1.0 ∙ start.pre.2
+  size : length k.mark_all.new.next ≡ length start.args.keys.now
+  size = k.mark_all.auto.next ∙ start.requires.2
 
-index-refs-requires : tie.Need-index-refs-requires
-index-refs-requires c κs =
-    let k = c.before.before.before.before.before.before.before in
+index_refs-requires : tie.Need-index_refs-requires
+index_refs-requires c κs =
+    let k = c.before.before.before.before.before in
     let p = (start k).requires in
-    let w = k.mark-all.ensures p.0.refs p.0.stand in (
+    let w = k.mark_all.ensures p.0.refs p.0.stand in (
       undefined_number _ _ _ _ p.0.refs p.0.stand w.1 w.0 (size k ∙ stand_length p.0.stand),
       omega (arith, size k, p.0.few),
       omega (arith, size k, p.3),
@@ -31,14 +31,14 @@ index-refs-requires c κs =
 
 returns : tie.Need-returns
 returns c =
-    let k = c.before.before.before.before.before.before.before.before.before.before in
-    let e = c.before.before.index-refs.ensures in (
+    let k = c.before.before.before.before.before.before.before.before in
+    let e = c.index_refs.ensures in (
       omega (arith, e.0, size k),
       λ refs s.
-          let w = k.mark-all.ensures refs s in
+          let w = k.mark_all.ensures refs s in
           (w.0, table_made _ _ _ _ refs s w.1 w.0 (size k ∙ stand_length s) _ (start k).requires.0.few e.2),
     )
 
-pub tabulate-spec : {M : Type 1} → statement M
-tabulate-spec =
-    tie.close (tie.spec mark-all-requires index-refs-requires (λ c. search rules) (λ c. search rules) (λ c. search rules) returns)
+pub tabulate_spec : {M : Type 1} → statement M
+tabulate_spec =
+    tie.close (tie.spec mark_all-requires index_refs-requires (λ c. search rules) (λ c. search rules) (λ c. search rules) returns)
