@@ -1,4 +1,6 @@
 // The answer of resolve, once every reference is linked: the first layer that fails, or the digests written.
+#![tactic(auto)]
+
 ghost use Rattle.std.specs.Prelude.{◌≡◌, List, map, length, drop};
 ghost use Rattle.text.specs.Question.{lowest};
 ghost use Rattle.reference.specs.References.{Layer as LayerReference};
