@@ -1,4 +1,6 @@
 // Who accepts whom in a store, as a table: a row for each image, and the guards. The own aliases of all images stand in one index, which all rows use.
+#![tactic(auto)]
+
 ghost use Rattle.std.specs.Prelude.{◌≡◌, ◌+◌, ◌*◌, ◌^◌, ◌≤◌, ◌<◌, length};
 ghost use Rattle.policy_marks.specs.Words.{row_of, guards_in, rows_in};
 ghost use Rattle.store_record.specs.Reading.{images_in};
