@@ -1,4 +1,6 @@
 // Loading an image into a store: images in one buffer.
+#![tactic(auto)]
+
 ghost use Rattle.std.specs.Prelude.{◌≡◌, true, not, ◌||◌, ◌+◌, length};
 ghost use Rattle.laws.specs.Any.{any_of};
 ghost use Rattle.text.specs.Answer.{is_canonical, text_place};

@@ -10,22 +10,22 @@ use Rattle.store.proofs.are_apart.Statement.{statement}
 use Rattle.store.proofs.are_apart.Tie as tie
 
 fits : (a : tie.Start) → a.args.v.count ≤ length a.args.v.records
-fits a = omega (arith, records_size a.args.v a.well-formed.1.0, a.requires.0.fills.few)
+fits a = omega (arith, records_size a.args.v a.well_formed.1.0, a.requires.0.fills.few)
 
-returns : tie.Need-returns
-returns c =
+returns-then-v-lt2 : tie.Need-returns-then-v-lt2
+returns-then-v-lt2 c =
     let a = c.before.before.before.before.before in
-    few_apart a.args.b.now a.args.v (fits a) c.if1.true
+    few_apart a.args.b.now a.args.v (fits a) c.if-v-lt2.true
 
-are-apart-requires : tie.Need-are-apart-requires
-are-apart-requires c κs =
-    let p = c.before.before.before.before.before.before.before.before.before.before.requires in
+are_apart-requires : tie.Need-are_apart-requires
+are_apart-requires c κs =
+    let p = c.requires in
     (p.0, omega arith, clash_space p.1 (omega arith) (omega arith))
 
-returns-2 : tie.Need-returns-2
-returns-2 c = c.before.before.before.before.before.before.before.are-apart.ensures
+returns : tie.Need-returns
+returns c = c.are_apart.ensures
 
-pub are-apart-spec : {M : Type 1} → statement M
-are-apart-spec =
-    tie.close (tie.spec returns (λ c. search rules) (λ c. search rules) (λ c. search rules) are-apart-requires (λ c. search rules) (λ c. search rules)
-    returns-2)
+pub are_apart_spec : {M : Type 1} → statement M
+are_apart_spec =
+    tie.close (tie.spec returns-then-v-lt2 (λ c. search rules) (λ c. search rules) (λ c. search rules) are_apart-requires (λ c. search rules)
+    (λ c. search rules) returns)

@@ -14,50 +14,50 @@ use borrow.Author.Rules.{rules}
 use Rattle.store.proofs.load_image.Statement.{statement}
 use Rattle.store.proofs.load_image.Tie as tie
 
-abbrev begin : tie.After-number-in → tie.Start
-begin c = c.before.before.before.before.before.before.before.before.before.before.before
+abbrev begin : tie.After-number_in-number → tie.Start
+begin c = c.before.before.before.before.before.before.before.before.before.before
 
 abbrev its-image : tie.Start → Image
 its-image a = image_with a.args.a a.args.signer.now a.args.digest.now a.args.text.now
 
 -- the number that was found is that of questions 11 to 14
-asked : (c : tie.After-number-in) → let a = begin c in
-    c.number_in.result ≡ lowest (store_questions (length a.args.store.now) (held a.args.store.now a.args.used) (its-image a))
-asked c = c.number_in.ensures ∙ number_within _ (begin c).args.store.now (begin c).args.used c.before.before.before.before.if1.false _ refl
+asked : (c : tie.After-number_in-number) → let a = begin c in
+    c.number_in-number.result ≡ lowest (store_questions (length a.args.store.now) (held a.args.store.now a.args.used) (its-image a))
+asked c = c.number_in-number.ensures ∙ number_within _ (begin c).args.store.now (begin c).args.used c.if-store-used.false _ refl
 
-returns : tie.Need-returns
-returns c =
-    let a = c.before.before.before.before.before.before.before.before.before.before.before.args in
-    let r = c.before.before.refused.ensures in
-    refused_loads (sym (past_number _ a.store.now a.used c.before.before.before.before.if1.true)) (λ z. omega arith) r.0 r.1
+returns-then-store-used : tie.Need-returns-then-store-used
+returns-then-store-used c =
+    let a = c.args in
+    let r = c.refused.ensures in
+    refused_loads (sym (past_number _ a.store.now a.used c.if-store-used.true)) (λ z. omega arith) r.0 r.1
 
-slice-aggregate-number-in : tie.Need-slice-aggregate-number-in
-slice-aggregate-number-in c = sym (length-take-le _ _ c.before.if1.false)
+slice_bounds-number_in-end-2 : tie.Need-slice_bounds-number_in-end-2
+slice_bounds-number_in-end-2 c = sym (length-take-le _ _ c.if-store-used.false)
 
-returns-2 : tie.Need-returns-2
-returns-2 c =
+returns-then-number-ne0 : tie.Need-returns-then-number-ne0
+returns-then-number-ne0 c =
     let t = c.before.before.before.before in
-    let r = c.before.before.refused2.ensures in
-    refused_loads (asked t.before.before.before.before.before) t.if2.true r.0 r.1
+    let r = c.refused-then-number-ne0.ensures in
+    refused_loads (asked t.before.before.before.before.before) t.if-number-ne0.true r.0 r.1
 
 append-requires : tie.Need-append-requires
 append-requires c κs =
     let k = c.before.before.before.before.before.before in
     let a = begin k in
     record {
-      short = opened_short _ _ a.pre.0.opens;
-      digests = a.pre.1;
-      fits = fits _ a.args.store.now a.args.used k.before.before.before.before.if1.false
-          (λ j. (k.before.before.before.before.before.before.before.slice-known.given j).fits) (sym (asked k) ∙ c.before.if2.false);
+      short = opened_short _ _ a.requires.0.opens;
+      digests = a.requires.1;
+      fits = fits _ a.args.store.now a.args.used k.if-store-used.false
+          (λ j. (k.slice_known-1.given j).fits) (sym (asked k) ∙ c.if-number-ne0.false);
     }
 
-returns-3 : tie.Need-returns-3
-returns-3 c =
+returns : tie.Need-returns
+returns c =
     let e = c.before.before.before.before in
-    loads_as (sym e.if2.false ∙ asked e.before.before.before.before.before) c.before.before.append.ensures
+    loads_as (sym e.if-number-ne0.false ∙ asked e.before.before.before.before.before) c.append.ensures
 
-pub load-image-spec : {M : Type 1} → statement M
-load-image-spec =
-    tie.close (tie.spec (λ c κs. search rules) (λ c. search rules) returns (λ c. search rules) (λ c. search rules) slice-aggregate-number-in
-    (λ c κs. search rules) (λ c κs. search rules) (λ c. search rules) (λ c. search rules) (λ c. search rules) returns-2 append-requires
-    (λ c. search rules) (λ c. search rules) (λ c. search rules) returns-3)
+pub load_image_spec : {M : Type 1} → statement M
+load_image_spec =
+    tie.close (tie.spec (λ c κs. search rules) (λ c. search rules) returns-then-store-used (λ c. search rules) (λ c. search rules)
+    slice_bounds-number_in-end-2 (λ c κs. search rules) (λ c κs. search rules) (λ c. search rules) (λ c. search rules) (λ c. search rules)
+    returns-then-number-ne0 append-requires (λ c. search rules) (λ c. search rules) (λ c. search rules) returns)
