@@ -1,4 +1,6 @@
 // The lines of a report, each loaded into a store.
+#![tactic(auto)]
+
 ghost use Rattle.std.specs.Prelude.{◌≡◌};
 ghost use Rattle.report_lines.specs.Lines.{line_number, line_used, line_bytes};
 
