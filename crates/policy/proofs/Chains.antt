@@ -18,7 +18,7 @@ use Rattle.manifest.proofs.Accepting.{accepts_any}
 use Rattle.store_record.specs.Image.{Image}
 use Rattle.store_record.specs.Ids.{same_id, has_id, share_id, id_twice}
 use Rattle.store_record.specs.Record.{Shaped}
-use Rattle.store_record.specs.Store.{AllShaped, shaped}
+use Rattle.store_record.specs.Store.{AllShaped, none_shaped, shaped}
 use Rattle.policy_marks.specs.Marks.{mark}
 use Rattle.policy_marks.proofs.Closing.{Leads, one, more}
 use Rattle.policy.specs.Chain.{Accepts, by_rule, Chain, alone, onward, At, first, later}
@@ -31,7 +31,7 @@ module _ {A : Type 0} where
   at_in (later h) = In.tail (at_in h)
 
   -- What stands in a list stands at a place of it.
-  pub in_at : {xs : List A} {a : A} → In a xs → (k : ℕ) × At xs k a
+  pub in_at : {a : A} {xs : List A} → In a xs → (k : ℕ) × At xs k a
   in_at (In.head {x = x} {xs = xs} e) = (zero, subst (λ (y : A). At (x ∷ xs) zero y) (sym e) first)
   in_at (In.tail m) = let p = in_at m in (suc p.0, later p.1)
 
@@ -132,12 +132,17 @@ once_first x xs e = or_none (any_of (share_id x) xs) (any_pair share_id xs) e
 not_later : {x : Image} {xs : List Image} → Shaped x → id_twice (x ∷ xs) ≡ false → In x xs → ⊥
 not_later {x} {xs} s e m = false_true (sym (once_first x xs e).0 ∙ in_any (share_id x) m (shares_itself s))
 
+distinct_by :
+    {xs : List Image} → AllShaped xs → id_twice xs ≡ false → {i j : ℕ} {a b : Image} → At xs i a → At xs j b → a ≡ b → i ≡ j
+distinct_by (shaped s t) e first first q = refl
+distinct_by none_shaped e h g q = elim h [ ]
+distinct_by (shaped {xs = xs} s t) e first (later g) q = absurd (not_later s e (subst (λ (y : Image). In y xs) (sym q) (at_in g)))
+distinct_by (shaped {xs = xs} s t) e (later h) first q = absurd (not_later s e (subst (λ (y : Image). In y xs) q (at_in h)))
+distinct_by (shaped {x = x} {xs = xs} s t) e (later h) (later g) q = ap suc (distinct_by t (once_first x xs e).1 h g q)
+
 -- Where no ID stands in two images, an image stands at one place.
 pub distinct : {xs : List Image} → AllShaped xs → id_twice xs ≡ false → {i j : ℕ} {a : Image} → At xs i a → At xs j a → i ≡ j
-distinct (shaped s t) e first first = refl
-distinct (shaped s t) e first (later g) = absurd (not_later s e (at_in g))
-distinct (shaped s t) e (later h) first = absurd (not_later s e (at_in h))
-distinct (shaped {x = x} {xs = xs} s t) e (later h) (later g) = ap suc (distinct t (once_first x xs e).1 h g)
+distinct s e h g = distinct_by s e h g refl
 
 -- What a chain leads from is loaded.
 pub chain_start : {xs : List Image} {a b : Image} → Chain xs a b → In a xs

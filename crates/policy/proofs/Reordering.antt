@@ -15,7 +15,7 @@ use Rattle.laws.proofs.Permutations.{length_permuted, same_elements}
 use Rattle.store_record.specs.Image.{Image}
 use Rattle.store_record.specs.Ids.{share_id, id_twice}
 use Rattle.store_record.specs.Record.{record_of, Shaped}
-use Rattle.store_record.specs.Store.{most_images, store_of, AllShaped, shaped}
+use Rattle.store_record.specs.Store.{most_images, store_of, AllShaped, none_shaped, shaped}
 use Rattle.store_record.proofs.Sharing.{share_id_sym}
 use Rattle.store_keys.specs.Clash.{clash, any_clash}
 use Rattle.store_conflict.proofs.Clashing.{clash_sym}
@@ -41,6 +41,7 @@ id_twice_permuted q = pair_permuted share_id (λ x y m n. share_id_sym x y) q
 -- What stands among images as a record holds them is such an image.
 pub in_shaped : {xs : List Image} {x : Image} → AllShaped xs → In x xs → Shaped x
 in_shaped (shaped s t) (In.head e) = subst Shaped (sym e) s
+in_shaped none_shaped x6 = elim x6 [ ]
 in_shaped (shaped s t) (In.tail m) = in_shaped t m
 
 -- Images in another order clash exactly if the images do.

@@ -1,4 +1,6 @@
 // The launch policy of a store's images: the report on guards and the images that they do not reach by any chain.
+#![tactic(auto)]
+
 ghost use Rattle.std.specs.Prelude.{◌≡◌, length};
 ghost use Rattle.policy_marks.specs.Words.{Reports};
 ghost use Rattle.policy.specs.Judge.{judge_number, held_pairs};
