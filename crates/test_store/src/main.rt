@@ -7,6 +7,8 @@
 //                          pairs and what follows them as `show` does
 //   resolve PLACE N HEX    resolves the layers of the image at a place, with the layer list HEX, each byte as two hexadecimal digits, and an output
 //                          buffer of N bytes, each 0xEE; prints the number and the value, then the output and what follows it as `show` does
+#![tactic(auto)]
+
 ghost use Rattle.std.specs.Prelude.{◌≤◌, ◌*◌, length};
 
 use answer::TextAnswer;

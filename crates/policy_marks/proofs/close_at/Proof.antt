@@ -35,10 +35,10 @@ loop-i-preserved c =
     let inside : i < length rows = omega (arith, size a) in (
       omega arith,
       rw add-one (elim c.if-has.branch [
-          then-has w ↦ w.closed-is ∙ ap (λ (r : List ℕ). set r i (bit_or row next)) l.loop-i.invariant.1
-          ∙ ap (set (passed f i rows) i) (sym (joined_taken a.args.k next row (sym h ∙ w.if-has.true)))
-          ∙ passed_written f rows i inside
-          | else-has w ↦ w.closed-is ∙ l.loop-i.invariant.1 ∙ passed_kept f rows i inside (joined_left a.args.k next row (sym h ∙ w.if-has.false))
+        | then-has w ↦ w.closed-is ∙ ap (λ (r : List ℕ). set r i (bit_or row next)) l.loop-i.invariant.1
+            ∙ ap (set (passed f i rows) i) (sym (joined_taken a.args.k next row (sym h ∙ w.if-has.true)))
+            ∙ passed_written f rows i inside
+        | else-has w ↦ w.closed-is ∙ l.loop-i.invariant.1 ∙ passed_kept f rows i inside (joined_left a.args.k next row (sym h ∙ w.if-has.false))
       ]),
     )
 
