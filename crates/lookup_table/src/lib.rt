@@ -1,5 +1,7 @@
 // The references of a store in tables, and their links. References are the objects of all images, image by image, and then the layers of one image; each
 // has a number. The names of the aliases among them stand in one index, so that each alias that an image defines is looked up once.
+#![tactic(auto)]
+
 ghost use Rattle.std.specs.Prelude.{◌≡◌, List, [], ◌∷◌, ◌++◌, ℕ, ◌+◌, ◌≤◌, ◌<◌, length, get_or, take};
 ghost use Rattle.reference.specs.References.{Layer as LayerReference, no_layer};
 ghost use Rattle.manifest.specs.Manifest.{layers};

@@ -14,91 +14,91 @@ use Rattle.lookup_table.proofs.Linking.{relinked_none, relinked_all, relinked_se
 use Rattle.lookup_table.proofs.link.Statement.{statement}
 use Rattle.lookup_table.proofs.link.Tie as tie
 
-abbrev invariant-loop : tie.invariant-loop
+abbrev invariant-loop : tie.invariant-loop-i
 invariant-loop b keys chosen a signer number next₀ i₀ next i =
     (i ≤ length chosen) × (length next ≡ length next₀)
     × ((refs : List Layer) → AllStand b keys refs → Relinked a signer refs number (take i chosen) next₀ next)
 
-abbrev decreases-loop : tie.decreases-loop
+abbrev decreases-loop : tie.decreases-loop-i
 decreases-loop b keys chosen a signer number next₀ i₀ next i = length chosen - i
 
 -- a turn of the loop: the reference that it reaches
-module _ (t : tie.In-loop invariant-loop decreases-loop) where
+module _ (t : tie.In-loop-i invariant-loop decreases-loop) where
   abbrev start : tie.Start invariant-loop decreases-loop
   start = t.before.before.before.before.before.before.before
 
-  within : get_or start.args.chosen.now t.before.loop.i 0 < length start.args.keys.now
-  within = start.pre.1 t.before.loop.i t.loop-test.taken
+  within : get_or start.args.chosen.now t.loop-i.i 0 < length start.args.keys.now
+  within = start.requires.1 t.loop-i.i t.loop-i-test.true
 
   few : length start.args.keys.now ≤ 4160
-  few = start.pre.0.few
+  few = start.requires.0.few
 
-  space : get_or start.args.chosen.now t.before.loop.i 0 < length t.before.loop.next
-  space = omega (arith, within, start.pre.2, t.before.loop.inv.1)
+  space : get_or start.args.chosen.now t.loop-i.i 0 < length t.loop-i.next
+  space = omega (arith, within, start.requires.2, t.loop-i.invariant.1)
 
 -- the turn in which it was linked or not
-abbrev turn : tie.Joined1 invariant-loop decreases-loop → tie.In-loop invariant-loop decreases-loop
+abbrev turn : tie.Joined-is_alias_of invariant-loop decreases-loop → tie.In-loop-i invariant-loop decreases-loop
 turn c = c.before.before.before.before
 
-loop-holds : tie.Need-loop-init invariant-loop decreases-loop
-loop-holds c = (omega arith, refl, λ refs s. relinked_none _ _ refs _ _)
+loop-i-init : tie.Need-loop-i-init invariant-loop decreases-loop
+loop-i-init c = (omega arith, refl, λ refs s. relinked_none _ _ refs _ _)
 
-mul-e : tie.Need-overflow-mul-e invariant-loop decreases-loop
-mul-e c = omega (arith, c.loop-test.true)
+offset_bounds-chosen-i : tie.Need-offset_bounds-chosen-i invariant-loop decreases-loop
+offset_bounds-chosen-i c = omega (arith, c.loop-i-test.true)
 
-shared-slice-read-e : tie.Need-shared-slice-read-e invariant-loop decreases-loop
-shared-slice-read-e c = c.before.loop-test.true
+bounds-chosen-i : tie.Need-bounds-chosen-i invariant-loop decreases-loop
+bounds-chosen-i c = c.loop-i-test.true
 
-cast-e : tie.Need-overflow-cast-e invariant-loop decreases-loop
-cast-e c = omega (arith, within c.before, few c.before)
+overflow_cast-e : tie.Need-overflow_cast-e invariant-loop decreases-loop
+overflow_cast-e c = omega (arith, within c.before, few c.before)
 
-mul-is-alias-of : tie.Need-overflow-mul-is-alias-of invariant-loop decreases-loop
-mul-is-alias-of c = omega (arith, within c.before, few c.before)
+offset_bounds-keys-e : tie.Need-offset_bounds-keys-e invariant-loop decreases-loop
+offset_bounds-keys-e c = omega (arith, within c.before, few c.before)
 
-shared-slice-read-is-alias-of : tie.Need-shared-slice-read-is-alias-of invariant-loop decreases-loop
-shared-slice-read-is-alias-of c = within c.before.before
+bounds-keys-e : tie.Need-bounds-keys-e invariant-loop decreases-loop
+bounds-keys-e c = within c.before.before
 
-is-alias-of-requires : tie.Need-is-alias-of-requires invariant-loop decreases-loop
-is-alias-of-requires c κs = let t = c.before.before in some_stands (start t).requires.0.stand _ (within t)
+is_alias_of-requires : tie.Need-is_alias_of-requires invariant-loop decreases-loop
+is_alias_of-requires c κs = let t = c.before.before in some_stands (start t).requires.0.stand _ (within t)
 
-mul_next : tie.Need-overflow-mul-next invariant-loop decreases-loop
-mul_next c = let t = c.before.before.before.before in omega (arith, within t, few t)
+offset_bounds-next-e : tie.Need-offset_bounds-next-e invariant-loop decreases-loop
+offset_bounds-next-e c = let t = c.before.before.before.before in omega (arith, within t, few t)
 
-slice-write-next : tie.Need-slice-write-next invariant-loop decreases-loop
-slice-write-next c = space c.before.before.before.before
+bounds-next-e : tie.Need-bounds-next-e invariant-loop decreases-loop
+bounds-next-e c = space c.before.before.before.before
 
-add-i : tie.Need-overflow-add-i invariant-loop decreases-loop
-add-i c = omega (arith, (turn c).loop-test.true)
+overflow_add-i : tie.Need-overflow_add-i invariant-loop decreases-loop
+overflow_add-i c = omega (arith, (turn c).loop-i-test.true)
 
-loop-less : tie.Need-loop-smaller invariant-loop decreases-loop
-loop-less c = omega (arith, (turn c).loop-test.true)
+loop-i-smaller : tie.Need-loop-i-smaller invariant-loop decreases-loop
+loop-i-smaller c = omega (arith, (turn c).loop-i-test.true)
 
-loop-again : tie.Need-loop-preserved invariant-loop decreases-loop
-loop-again c =
+loop-i-preserved : tie.Need-loop-i-preserved invariant-loop decreases-loop
+loop-i-preserved c =
     let t = turn c in
-    let l = t.before.loop in
-    let x = c.before.is-alias-of.ensures in (
-      omega (arith, t.loop-test.taken),
-      ⊎_elim (λ w. ap length w.1 ∙ length-set l.next _ _ ∙ l.inv.1) (λ w. ap length w.1 ∙ l.inv.1) c.if1.branch,
+    let l = t.loop-i in
+    let x = c.is_alias_of.ensures in (
+      omega (arith, t.loop-i-test.true),
+      ⊎_elim (λ w. ap length w.next-is ∙ length-set l.next _ _ ∙ l.invariant.1) (λ w. ap length w.next-is ∙ l.invariant.1) c.if-is_alias_of.branch-raw,
       λ refs s.
-          let p = l.inv.2 refs s in
+          let p = l.invariant.2 refs s in
           let h = stand_at s _ (within t) in
           ⊎_elim
-          (λ w. rw w.1 (relinked_set _ _ refs _ _ _ l.i t.loop-test.taken l.next p (space t) (sym (x _ h) ∙ w.0.taken)))
-          (λ w. rw w.1 (relinked_kept _ _ refs _ _ _ l.i t.loop-test.taken l.next p (sym (x _ h) ∙ w.0.left)))
-          c.if1.branch,
+          (λ w. rw w.next-is (relinked_set _ _ refs _ _ _ l.i t.loop-i-test.true l.next p (space t) (sym (x _ h) ∙ w.if-is_alias_of.true)))
+          (λ w. rw w.next-is (relinked_kept _ _ refs _ _ _ l.i t.loop-i-test.true l.next p (sym (x _ h) ∙ w.if-is_alias_of.false)))
+          c.if-is_alias_of.branch-raw,
     )
 
-same_length : tie.Need-same-length invariant-loop decreases-loop
-same_length c = c.before.loop.invariant.1
+shape_of-next : tie.Need-shape_of-next invariant-loop decreases-loop
+shape_of-next c = c.loop-i.invariant.1
 
 returns : tie.Need-returns invariant-loop decreases-loop
 returns c = λ refs s.
-    let l = c.before.loop in
-    let a = c.before.before.before.before.before.before.before.args in
-    relinked_all _ _ refs _ a.chosen.now _ l.i (omega (arith, l.invariant.0, c.loop-test.false)) _ (l.invariant.2 refs s)
+    let l = c.loop-i in
+    let a = c.args in
+    relinked_all _ _ refs _ a.chosen.now _ l.i (omega (arith, l.invariant.0, c.loop-i-test.false)) _ (l.invariant.2 refs s)
 
-pub link-spec : {M : Type 1} → statement M
-link-spec =
-    tie.close (tie.spec invariant-loop decreases-loop loop-holds mul-e shared-slice-read-e cast-e mul-is-alias-of shared-slice-read-is-alias-of is-alias-of-requires
-    mul_next slice-write-next add-i loop-less loop-again same_length returns)
+pub link_spec : {M : Type 1} → statement M
+link_spec =
+    tie.close (tie.spec invariant-loop decreases-loop loop-i-init offset_bounds-chosen-i bounds-chosen-i overflow_cast-e offset_bounds-keys-e
+    bounds-keys-e is_alias_of-requires offset_bounds-next-e bounds-next-e overflow_add-i loop-i-smaller loop-i-preserved shape_of-next returns)

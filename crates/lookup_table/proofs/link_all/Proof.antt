@@ -15,76 +15,76 @@ use Rattle.lookup_table.proofs.Joining.{LinkedUpTo, linked_none, linked_all, lin
 use Rattle.lookup_table.proofs.link_all.Statement.{statement}
 use Rattle.lookup_table.proofs.link_all.Tie as tie
 
-abbrev invariant-loop : tie.invariant-loop
+abbrev invariant-loop : tie.invariant-loop-j
 invariant-loop b counts keys at order next₀ names₀ owners₀ v places first₀ j₀ next names owners first j =
     (j ≤ v.count) × (length names ≡ length names₀) × (length owners ≡ length owners₀) × LinkedUpTo b v keys at order next₀ j first next
 
-abbrev decreases-loop : tie.decreases-loop
+abbrev decreases-loop : tie.decreases-loop-j
 decreases-loop b counts keys at order next₀ names₀ owners₀ v places first₀ j₀ next names owners first j = v.count - j
 
 -- the array has room for all records
-all_here : (a : tie.Start invariant-loop decreases-loop) → a.args.t2.count ≤ length a.args.t2.records
-all_here a = omega (arith, records_size a.args.t2 a.well-formed.1.0, a.requires.opened.fills.few)
+all_here : (a : tie.Start invariant-loop decreases-loop) → a.args.v.count ≤ length a.args.v.records
+all_here a = omega (arith, records_size a.args.v a.well_formed.1.0, a.requires.opened.fills.few)
 
 -- a turn of the loop: the image that it links
-module _ (t : tie.In-loop invariant-loop decreases-loop) where
+module _ (t : tie.In-loop-j invariant-loop decreases-loop) where
   abbrev start : tie.Start invariant-loop decreases-loop
   start = t.before.before.before.before.before.before.before.before.before.before
 
-  few : t.before.loop.j < 64
-  few = omega (arith, t.loop-test.taken, start.pre.opened.fills.few)
+  few : t.loop-j.j < 64
+  few = omega (arith, t.loop-j-test.true, start.requires.opened.fills.few)
 
   -- the record of the image
   abbrev here : Record
-  here = get_or start.args.t2.records t.before.loop.j no_record
+  here = get_or start.args.v.records t.loop-j.j no_record
 
-  can : (d : Places) → LinkableImage start.args.b.now here (get_or start.args.t3 t.before.loop.j d) t.before.loop.first
-      start.args.keys.now start.args.at.now start.args.order.now t.before.loop.next t.before.loop.names t.before.loop.owners
+  can : (d : Places) → LinkableImage start.args.b.now here (get_or start.args.places t.loop-j.j d) t.loop-j.first
+      start.args.keys.now start.args.at.now start.args.order.now t.loop-j.next t.loop-j.names t.loop-j.owners
   can d =
-      let l = t.before.loop in
-      linkable _ _ _ _ _ _ (all_here start) l.j l.first l.next l.inv.3 t.loop-test.taken _ _ d _ _ _ _ start.pre l.inv.1 l.inv.2
+      let l = t.loop-j in
+      linkable _ _ _ _ _ _ (all_here start) l.j l.first l.next l.invariant.3 t.loop-j-test.true _ _ d _ _ _ _ start.requires l.invariant.1 l.invariant.2
 
-  count : get_or start.args.counts.now t.before.loop.j 0 ≡ length (objects (between start.args.b.now here.text here.end))
-  count = start.pre.counted.each t.before.loop.j t.loop-test.taken
+  count : get_or start.args.counts.now t.loop-j.j 0 ≡ length (objects (between start.args.b.now here.text here.end))
+  count = start.requires.counted.each t.loop-j.j t.loop-j-test.true
 
-  number : t.before.loop.first + get_or start.args.counts.now t.before.loop.j 0 ≤ 4160
-  number = omega (arith, (can no_places).within, count, start.pre.table.few)
+  number : t.loop-j.first + get_or start.args.counts.now t.loop-j.j 0 ≤ 4160
+  number = omega (arith, (can no_places).within, count, start.requires.table.few)
 
 -- the turn in which it was linked
-abbrev turn : tie.After-shared-slice-known6 invariant-loop decreases-loop → tie.In-loop invariant-loop decreases-loop
+abbrev turn : tie.After-shared_slice_known-in-loop-j-1 invariant-loop decreases-loop → tie.In-loop-j invariant-loop decreases-loop
 turn c = c.before.before.before.before.before.before.before.before.before.before.before.before.before
 
-loop-holds : tie.Need-loop-init invariant-loop decreases-loop
-loop-holds c = (omega arith, refl, refl, linked_none _ _ _ _ _ _)
+loop-j-init : tie.Need-loop-j-init invariant-loop decreases-loop
+loop-j-init c = (omega arith, refl, refl, linked_none _ _ _ _ _ _)
 
-mul-first : tie.Need-overflow-mul-first invariant-loop decreases-loop
-mul-first c = omega (arith, few c.before.before.before.before.before.before.before.before.before.before.before.before)
+offset_bounds-counts-j : tie.Need-offset_bounds-counts-j invariant-loop decreases-loop
+offset_bounds-counts-j c = omega (arith, few c.before.before.before.before.before.before.before.before.before.before.before.before)
 
-shared-slice-read-first : tie.Need-shared-slice-read-first invariant-loop decreases-loop
-shared-slice-read-first c = let t = turn c in omega (arith, few t, (start t).pre.counted.space)
+bounds-counts-j : tie.Need-bounds-counts-j invariant-loop decreases-loop
+bounds-counts-j c = let t = c.before.before.before.before.before.before.before.before.before.before.before.before.before in omega (arith, few t, (start t).requires.counted.space)
 
-loop-again : tie.Need-loop-preserved invariant-loop decreases-loop
-loop-again c =
+loop-j-preserved : tie.Need-loop-j-preserved invariant-loop decreases-loop
+loop-j-preserved c =
     let t = turn c in
-    let l = t.before.loop in
-    let f = c.before.before.before.before.before.before.before.link_image in
-    let k = f.auto.1.1.1.1.1.1.1 in (
-      omega (arith, t.loop-test.taken),
-      k.1.0 ∙ l.inv.1,
-      k.1.1.0 ∙ l.inv.2,
-      linked_next _ _ _ _ _ _ (all_here (start t)) l.j l.first l.next l.inv.3 t.loop-test.taken _ _ (count t) k.0 f.ensures,
+    let l = t.loop-j in
+    let f = c.link_image in
+    let k = f.auto in (
+      omega (arith, t.loop-j-test.true),
+      k.names ∙ l.invariant.1,
+      k.owners ∙ l.invariant.2,
+      linked_next _ _ _ _ _ _ (all_here (start t)) l.j l.first l.next l.invariant.3 t.loop-j-test.true _ _ (count t) k.next f.ensures,
     )
 
 returns : tie.Need-returns invariant-loop decreases-loop
 returns c = λ ls t p.
-    let l = c.before.loop in
+    let l = c.loop-j in
     let a = c.before.before.before.before.before.before.before.before.before.before in
-    linked_all _ _ _ _ _ _ (all_here a) l.j l.first l.next l.invariant.3 (omega (arith, l.invariant.0, c.loop-test.false)) ls t p
+    linked_all _ _ _ _ _ _ (all_here a) l.j l.first l.next l.invariant.3 (omega (arith, l.invariant.0, c.loop-j-test.false)) ls t p
 
-pub link-all-spec : {M : Type 1} → statement M
-link-all-spec =
-    tie.close (tie.spec invariant-loop decreases-loop loop-holds (λ c. omega (arith, few c)) (λ c. few c) (λ c. omega (arith, few c.before))
-    (λ c. few c.before) (λ c κs. can c.before.before.before.before.before _) mul-first shared-slice-read-first
+pub link_all_spec : {M : Type 1} → statement M
+link_all_spec =
+    tie.close (tie.spec invariant-loop decreases-loop loop-j-init (λ c. omega (arith, few c)) (λ c. few c) (λ c. omega (arith, few c.before))
+    (λ c. few c.before) (λ c κs. can c.before.before.before.before.before _) offset_bounds-counts-j bounds-counts-j
     (λ c. omega (arith, number (turn c))) (λ c. omega (arith, number (turn c))) (λ c. omega (arith, few (turn c)))
-    (λ c. omega (arith, (turn c).loop-test.true)) loop-again (λ c. c.before.loop.invariant.3.size) (λ c. c.before.loop.invariant.1)
-    (λ c. c.before.loop.invariant.2) returns)
+    (λ c. omega (arith, (turn c).loop-j-test.true)) loop-j-preserved (λ c. c.loop-j.invariant.3.size) (λ c. c.loop-j.invariant.1)
+    (λ c. c.loop-j.invariant.2) returns)

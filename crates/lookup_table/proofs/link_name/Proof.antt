@@ -7,16 +7,16 @@ use Rattle.lookup_table.proofs.Linking.{chosen_below, key_linked}
 use Rattle.lookup_table.proofs.link_name.Statement.{statement}
 use Rattle.lookup_table.proofs.link_name.Tie as tie
 
-find-requires : tie.Need-find-requires
-find-requires c κs = let p = c.before.before.before.before.before.before.requires in (p.0.table.index, p.1)
+find-r-requires : tie.Need-find-r-requires
+find-r-requires c κs = let p = c.requires in (p.0.table.index, p.1)
 
 -- where the numbers of the name stand
-module _ (c : tie.After-find) where
+module _ (c : tie.After-find-r) where
   abbrev start : tie.Start
   start = c.before.before.before.before.before.before.before
 
-  found : Named start.args.b.now start.args.at.now start.args.order.now start.pre.1.name c.find.result
-  found = c.find.ensures start.pre.1.name start.pre.1.stands
+  found : Named start.args.b.now start.args.at.now start.args.order.now start.requires.1.name c.find-r.result
+  found = c.find-r.ensures start.requires.1.name start.requires.1.stands
 
 link-requires : tie.Need-link-requires
 link-requires c κs =
@@ -31,9 +31,9 @@ link-requires c κs =
 returns : tie.Need-returns
 returns c = λ refs ks n t s h p.
     let k = c.before.before in
-    key_linked _ _ _ _ refs t _ _ n _ (k.before.before.before.find.ensures n s) _ h ks _ _ p (k.link.ensures refs t.stand)
+    key_linked _ _ _ _ refs t _ _ n _ (k.find-r.ensures n s) _ h ks _ _ p (k.link.ensures refs t.stand)
 
-pub link-name-spec : {M : Type 1} → statement M
-link-name-spec =
-    tie.close (tie.spec find-requires (λ c. omega (arith, (found c).rising, (found c).within)) (λ c. (found c).rising) (λ c. (found c).rising)
+pub link_name_spec : {M : Type 1} → statement M
+link_name_spec =
+    tie.close (tie.spec find-r-requires (λ c. omega (arith, (found c).rising, (found c).within)) (λ c. (found c).rising) (λ c. (found c).rising)
     (λ c. (found c).within) link-requires (λ c. search rules) returns)

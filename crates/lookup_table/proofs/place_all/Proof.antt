@@ -19,86 +19,86 @@ use Rattle.lookup_table.proofs.Placing.{PlacedTo, placed_none, placed_next}
 use Rattle.lookup_table.proofs.place_all.Statement.{statement}
 use Rattle.lookup_table.proofs.place_all.Tie as tie
 
-abbrev invariant-loop : tie.invariant-loop
+abbrev invariant-loop : tie.invariant-loop-i
 invariant-loop b keys₀ counts₀ v places n₀ i₀ keys counts n i = (i ≤ v.count) × PlacedTo b v i n keys₀ keys counts
 
-abbrev decreases-loop : tie.decreases-loop
+abbrev decreases-loop : tie.decreases-loop-i
 decreases-loop b keys₀ counts₀ v places n₀ i₀ keys counts n i = v.count - i
 
 -- the array has room for all records
-all_here : (a : tie.Start invariant-loop decreases-loop) → a.args.t2.count ≤ length a.args.t2.records
-all_here a = omega (arith, records_size a.args.t2 a.well-formed.1.0, a.requires.0.fills.few)
+all_here : (a : tie.Start invariant-loop decreases-loop) → a.args.v.count ≤ length a.args.v.records
+all_here a = omega (arith, records_size a.args.v a.well_formed.1.0, a.requires.0.fills.few)
 
 -- a turn of the loop: the image whose objects it places
-module _ (t : tie.In-loop invariant-loop decreases-loop) where
+module _ (t : tie.In-loop-i invariant-loop decreases-loop) where
   abbrev start : tie.Start invariant-loop decreases-loop
   start = t.before.before.before.before.before
 
-  few : t.before.loop.i < 64
-  few = omega (arith, t.loop-test.taken, start.pre.0.fills.few)
+  few : t.loop-i.i < 64
+  few = omega (arith, t.loop-i-test.true, start.requires.0.fills.few)
 
-  fits : t.before.loop.n + 64 ≤ length t.before.loop.keys
-  fits = omega (arith, few, t.before.loop.inv.1.few, t.before.loop.inv.1.size, start.pre.1)
+  fits : t.loop-i.n + 64 ≤ length t.loop-i.keys
+  fits = omega (arith, few, t.loop-i.invariant.1.few, t.loop-i.invariant.1.size, start.requires.1)
 
-  lent : length (mid_of t.before.loop.n (length t.before.loop.keys - t.before.loop.n) t.before.loop.keys)
-      ≡ length t.before.loop.keys - t.before.loop.n
-  lent = mid_len t.before.loop.n (length t.before.loop.keys) t.before.loop.keys (omega arith)
+  lent : length (mid_of t.loop-i.n (length t.loop-i.keys - t.loop-i.n) t.loop-i.keys)
+      ≡ length t.loop-i.keys - t.loop-i.n
+  lent = mid_len t.loop-i.n (length t.loop-i.keys) t.loop-i.keys (omega arith)
 
 -- the turn in which they were placed
-abbrev turn : tie.After-slice-known3 invariant-loop decreases-loop → tie.In-loop invariant-loop decreases-loop
+abbrev turn : tie.After-slice_known-in-loop-i-1 invariant-loop decreases-loop → tie.In-loop-i invariant-loop decreases-loop
 turn c = c.before.before.before.before.before.before
 
-loop-holds : tie.Need-loop-init invariant-loop decreases-loop
-loop-holds c = (omega arith, placed_none _ _ _ _ c.before.before.before.requires.2)
+loop-i-init : tie.Need-loop-i-init invariant-loop decreases-loop
+loop-i-init c = (omega arith, placed_none _ _ _ _ c.requires.2)
 
-mul-place-objects : tie.Need-overflow-mul-place-objects invariant-loop decreases-loop
-mul-place-objects c = omega (arith, fits c.before.before, few c.before.before, c.before.before.before.loop.invariant.1.few)
+offset_bounds-keys-n : tie.Need-offset_bounds-keys-n invariant-loop decreases-loop
+offset_bounds-keys-n c = omega (arith, fits c.before.before, few c.before.before, c.loop-i.invariant.1.few)
 
-place-objects-requires : tie.Need-place-objects-requires invariant-loop decreases-loop
+place_objects-m-requires : tie.Need-place_objects-m-requires invariant-loop decreases-loop
 unfolding between
-place-objects-requires c κs =
+place_objects-m-requires c κs =
     let t = c.before.before.before in
     let o = (start t).requires.0 in
-    let r = o.fills.each _ t.loop-test.true in
-    (r.text, r.within, opened_at _ _ _ o _ t.loop-test.true _, omega (arith, lent t, fits t))
+    let r = o.fills.each _ t.loop-i-test.true in
+    (r.text, r.within, opened_at _ _ _ o _ t.loop-i-test.true _, omega (arith, lent t, fits t))
 
-slice-write-counts : tie.Need-slice-write-counts invariant-loop decreases-loop
-slice-write-counts c = omega (arith, few (turn c), (turn c).before.loop.invariant.1.counted.space)
+bounds-counts-i : tie.Need-bounds-counts-i invariant-loop decreases-loop
+bounds-counts-i c = omega (arith, few (turn c), (turn c).loop-i.invariant.1.counted.space)
 
-add-n : tie.Need-overflow-add-n invariant-loop decreases-loop
-add-n c = let t = turn c in omega (arith, c.before.before.place-objects.ensures.0, few t, t.before.loop.inv.1.few)
+overflow_add-n : tie.Need-overflow_add-n invariant-loop decreases-loop
+overflow_add-n c = let t = turn c in omega (arith, c.place_objects-m.ensures.0, few t, t.loop-i.invariant.1.few)
 
-loop-again : tie.Need-loop-preserved invariant-loop decreases-loop
+loop-i-preserved : tie.Need-loop-i-preserved invariant-loop decreases-loop
 unfolding between
-loop-again c =
+loop-i-preserved c =
     let t = turn c in
-    let l = t.before.loop in
-    let e = c.before.before.place-objects.ensures in
-    let m = c.before.before.place-objects.result in (
-      omega (arith, t.loop-test.taken),
-      placed_next _ _ (all_here (start t)) l.i l.n _ l.keys l.counts l.inv.1 t.loop-test.taken (few t) (omega (arith, fits t)) m e.0 _
+    let l = t.loop-i in
+    let e = c.place_objects-m.ensures in
+    let m = c.place_objects-m.result in (
+      omega (arith, t.loop-i-test.true),
+      placed_next _ _ (all_here (start t)) l.i l.n _ l.keys l.counts l.invariant.1 t.loop-i-test.true (few t) (omega (arith, fits t)) m e.0 _
           (e.1 ∙ lent t) e.3 (length-take-le m _ (omega (arith, e.0, e.1, lent t, fits t))),
     )
 
-same-length-2 : tie.Need-same-length-2 invariant-loop decreases-loop
-same-length-2 c = c.before.loop.invariant.1.counted.space ∙ sym c.before.before.before.before.before.requires.2
+shape_of-counts : tie.Need-shape_of-counts invariant-loop decreases-loop
+shape_of-counts c = c.loop-i.invariant.1.counted.space ∙ sym c.requires.2
 
 returns : tie.Need-returns invariant-loop decreases-loop
 returns c =
-    let l = c.before.loop in
+    let l = c.loop-i in
     let a = c.before.before.before.before.before in
-    let e : l.i ≡ a.args.t2.count = omega (arith, l.invariant.0, c.loop-test.false) in
+    let e : l.i ≡ a.args.v.count = omega (arith, l.invariant.0, c.loop-i-test.false) in
     let p = l.invariant.1 in (
       omega (arith, p.few, a.requires.0.fills.few),
       rw e at p.counted,
-      subst (λ (xs : List Image). AllStand a.args.b.now (take l.n l.keys) (objects_of xs)) (all_images _ a.args.t2 (all_here a) l.i e)
+      subst (λ (xs : List Image). AllStand a.args.b.now (take l.n l.keys) (objects_of xs)) (all_images _ a.args.v (all_here a) l.i e)
           p.stand,
     )
 
-pub place-all-spec : {M : Type 1} → statement M
-place-all-spec =
-    tie.close (tie.spec invariant-loop decreases-loop loop-holds (λ c. omega (arith, few c)) (λ c. few c) (λ c. omega (arith, few c.before))
-    (λ c. few c.before) mul-place-objects (λ c. omega (arith, fits c.before.before)) (λ c. omega (arith, fits c.before.before))
-    (λ c. search rules) place-objects-requires (λ c. omega (arith, c.before.before.place-objects.ensures.0)) (λ c. omega (arith, few (turn c)))
-    slice-write-counts add-n (λ c. omega (arith, few (turn c))) (λ c. omega (arith, (turn c).loop-test.true)) loop-again
-    (λ c. c.before.loop.invariant.1.size) same-length-2 returns)
+pub place_all_spec : {M : Type 1} → statement M
+place_all_spec =
+    tie.close (tie.spec invariant-loop decreases-loop loop-i-init (λ c. omega (arith, few c)) (λ c. few c) (λ c. omega (arith, few c.before))
+    (λ c. few c.before) offset_bounds-keys-n (λ c. omega (arith, fits c.before.before)) (λ c. omega (arith, fits c.before.before)) (λ c. search rules)
+    place_objects-m-requires (λ c. omega (arith, c.place_objects-m.ensures.0)) (λ c. omega (arith, few (turn c))) bounds-counts-i overflow_add-n
+    (λ c. omega (arith, few (turn c))) (λ c. omega (arith, (turn c).loop-i-test.true)) loop-i-preserved (λ c. c.loop-i.invariant.1.size)
+    shape_of-counts returns)

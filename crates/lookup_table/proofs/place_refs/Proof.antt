@@ -19,99 +19,100 @@ use Rattle.lookup_table.proofs.Placing.{stand_behind}
 use Rattle.lookup_table.proofs.place_refs.Statement.{statement}
 use Rattle.lookup_table.proofs.place_refs.Tie as tie
 
-place-all-requires : tie.Need-place-all-requires
-place-all-requires c κs = let p = c.before.before.before.before.before.requires in (p.0, omega (arith, p.2), p.3)
+place_all-objects-requires : tie.Need-place_all-objects-requires
+place_all-objects-requires c κs = let p = c.requires in (p.0, omega (arith, p.2), p.3)
 
 -- the objects were placed
-module _ (p : tie.After-place-all) where
+module _ (p : tie.After-place_all-objects) where
   abbrev start : tie.Start
   start = p.before.before.before.before.before.before
 
   abbrev keys : List ℕ
-  keys = p.place-all.last.1.1.1.0
+  keys = p.place_all-objects.new.keys
 
   abbrev placed : ℕ
-  placed = p.place-all.result
+  placed = p.place_all-objects.result
 
   few : start.args.i.0 < 64
-  few = omega (arith, start.pre.1, start.pre.0.fills.few)
+  few = omega (arith, start.requires.1, start.requires.0.fills.few)
 
   abbrev reached : Record
-  reached = get_or start.args.t2.records start.args.i.0 no_record
+  reached = get_or start.args.v.records start.args.i.0 no_record
 
   inside : RecordIn start.args.b.now reached
-  inside = start.pre.0.fills.each _ start.pre.1
+  inside = start.requires.0.fills.each _ start.requires.1
 
-  opened : (d : Places) → Opens (between start.args.b.now reached.text reached.end) (get_or start.args.t3 start.args.i.0 d)
-  opened = opened_at _ _ _ start.pre.0 _ start.pre.1
+  opened : (d : Places) → Opens (between start.args.b.now reached.text reached.end) (get_or start.args.places start.args.i.0 d)
+  opened = opened_at _ _ _ start.requires.0 _ start.requires.1
 
   size : length keys ≡ 4160
-  size = p.place-all.kept.1.1.1.0 ∙ start.pre.2
+  size = p.place_all-objects.auto.keys ∙ start.requires.2
 
   fits : placed + 64 ≤ length keys
-  fits = omega (arith, size, p.place-all.ensures.0)
+  fits = omega (arith, size, p.place_all-objects.ensures.0)
 
   lent : length (mid_of placed (length keys - placed) keys) ≡ length keys - placed
   lent = mid_len placed (length keys) keys (omega arith)
 
-mul-r : tie.Need-overflow-mul-r
-mul-r c = omega (arith, few c.before.before.before.before)
+offset_bounds-v-k : tie.Need-offset_bounds-v-k
+offset_bounds-v-k c = omega (arith, few c.before.before.before.before)
 
-element-copy-out-r : tie.Need-element-copy-out-r
-element-copy-out-r c = few c.before.before.before.before
+bounds-v-k : tie.Need-bounds-v-k
+bounds-v-k c = few c.before.before.before.before
 
-mul-q : tie.Need-overflow-mul-q
-mul-q c = omega (arith, few c.before.before.before.before.before)
+offset_bounds-places-k : tie.Need-offset_bounds-places-k
+offset_bounds-places-k c = omega (arith, few c.before.before.before.before.before)
 
-array-copy-out-q : tie.Need-array-copy-out-q
-array-copy-out-q c = few c.before.before.before.before.before
+bounds-places-k : tie.Need-bounds-places-k
+bounds-places-k c = few c.before.before.before.before.before
 
 -- the objects that were placed before the image's fields were read
-abbrev objects-of : tie.After-q → tie.After-place-all
+abbrev objects-of : tie.After-q-1 → tie.After-place_all-objects
 objects-of c = c.before.before.before.before.before.before
 
-mul-place-layers : tie.Need-overflow-mul-place-layers
-mul-place-layers c = omega (arith, (objects-of c).place-all.ensures.0)
+offset_bounds-keys-objects : tie.Need-offset_bounds-keys-objects
+offset_bounds-keys-objects c = omega (arith, (objects-of c).place_all-objects.ensures.0)
 
-sub-place-layers : tie.Need-overflow-sub-place-layers
-sub-place-layers c = omega (arith, fits (objects-of c))
+slice_bounds-place_layers-count : tie.Need-slice_bounds-place_layers-count
+slice_bounds-place_layers-count c = omega (arith, fits (objects-of c))
 
-part-place-layers-start : tie.Need-slice-bounds-place-layers-start
-part-place-layers-start c = omega (arith, fits (objects-of c))
+slice_bounds-place_layers-start : tie.Need-slice_bounds-place_layers-start
+slice_bounds-place_layers-start c = omega (arith, fits (objects-of c))
 
-place-layers-requires : tie.Need-place-layers-requires
+place_layers-m-requires : tie.Need-place_layers-m-requires
 unfolding between
-place-layers-requires c κs =
+place_layers-m-requires c κs =
     let p = objects-of c.before in
     ((inside p).text, (inside p).within, opened p _, omega (arith, lent p, fits p))
 
-add-t22 : tie.Need-overflow-add-t22
-add-t22 c = let f = c.before.before in omega (arith, (objects-of f.before.before).place-all.ensures.0, f.place-layers.ensures.0)
+overflow_add-result : tie.Need-overflow_add-result
+overflow_add-result c = let f = c.before.before in omega (arith, (objects-of f.before.before).place_all-objects.ensures.0, f.place_layers-m.ensures.0)
 
-same_length : tie.Need-same-length
-same_length c =
+shape_of-keys : tie.Need-shape_of-keys
+shape_of-keys c =
     let f = c.before.before in
     let p = objects-of f.before.before in
-    back_size (placed p) (keys p) f.place-layers.new.1.1.1.1.0 (omega (arith, fits p)) (f.place-layers.ensures.1 ∙ lent p)
-    ∙ p.place-all.kept.1.1.1.0
+    back_size (placed p) (keys p) f.place_layers-m.new.keys (omega (arith, fits p)) (f.place_layers-m.ensures.1 ∙ lent p)
+    ∙ p.place_all-objects.auto.keys
 
-same-length-2 : tie.Need-same-length-2
-same-length-2 c = (objects-of c.before.before.before.before).place-all.auto.1.1.1.1.0
+shape_of-counts : tie.Need-shape_of-counts
+shape_of-counts c = (objects-of c.before.before.before.before).place_all-objects.auto.counts
 
 returns : tie.Need-returns
 unfolding between held_in
 returns c =
     let f = c.before.before in
     let p = objects-of f.before.before in
-    let e = p.place-all.ensures in
-    let g = f.place-layers.ensures in (
+    let e = p.place_all-objects.ensures in
+    let g = f.place_layers-m.ensures in (
       sym (length-take-le (placed p) (keys p) (omega (arith, fits p))) ∙ stand_length e.2 ∙ objects_counted _,
       omega (arith, e.0, g.0),
       e.1,
-      stand_behind (placed p) (keys p) _ (omega (arith, fits p)) f.place-layers.result e.2 g.3,
+      stand_behind (placed p) (keys p) _ (omega (arith, fits p)) f.place_layers-m.result e.2 g.3,
     )
 
-pub place-refs-spec : {M : Type 1} → statement M
-place-refs-spec =
-    tie.close (tie.spec place-all-requires mul-r element-copy-out-r mul-q array-copy-out-q mul-place-layers sub-place-layers part-place-layers-start
-    (λ c. search rules) place-layers-requires add-t22 same_length same-length-2 returns)
+pub place_refs_spec : {M : Type 1} → statement M
+place_refs_spec =
+    tie.close (tie.spec place_all-objects-requires offset_bounds-v-k bounds-v-k offset_bounds-places-k bounds-places-k offset_bounds-keys-objects
+    slice_bounds-place_layers-count slice_bounds-place_layers-start (λ c. search rules) place_layers-m-requires overflow_add-result shape_of-keys
+    shape_of-counts returns)
