@@ -52,6 +52,7 @@ layers_at_few (x ∷ xs) (suc i) e = layers_at_few xs i (or_none (is_unfit x) (a
 
 in_sized : {d : LayerDigest} {ds : List LayerDigest} → AllSized ds → In d ds → length d.bytes ≡ digest_bytes d.algorithm
 in_sized {d} (sized e h) (In.head q) = subst (λ (x : LayerDigest). length x.bytes ≡ digest_bytes x.algorithm) (sym q) e
+in_sized none_sized x3 = elim x3 [ ]
 in_sized (sized e h) (In.tail m) = in_sized h m
 
 -- Layers of a list whose digests have the lengths of their algorithms have digests of such lengths.

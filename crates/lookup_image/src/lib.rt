@@ -1,4 +1,6 @@
 // The layers of one image of an opened store: all references of the store are placed and linked, and those of the image followed.
+#![tactic(auto)]
+
 ghost use Rattle.std.specs.Prelude.{List, ◌++◌, length};
 ghost use Rattle.text.specs.Question.{lowest};
 ghost use Rattle.reference.specs.References.{Layer as LayerReference};

@@ -24,29 +24,29 @@ use Rattle.lookup_image.proofs.resolve_in.Statement.{statement}
 use Rattle.lookup_image.proofs.resolve_in.Tie as tie
 
 -- the references are placed
-module _ (p : tie.After-place-refs) where
+module _ (p : tie.After-place_refs-n) where
   abbrev start : tie.Start
   start = p.before.before.before.before.before.before.before.before.before.before
 
   abbrev keys : List ℕ
-  keys = p.place-refs.last.1.1.1.1.0
+  keys = p.place_refs-n.new.keys
 
   abbrev total : ℕ
-  total = p.place-refs.result.total
+  total = p.place_refs-n.result.total
 
   -- the layers of the image
   abbrev its_layers : List Layer
   its_layers = layers (held_in start.args.b.now (get_or start.args.v.records start.args.i.0 no_record)).text
 
   within : total ≤ length keys
-  within = omega (arith, p.place-refs.kept.1.1.1.1.0, p.place-refs.ensures.1)
+  within = omega (arith, p.place_refs-n.auto.keys, p.place_refs-n.ensures.1)
 
   size : length (take total keys) ≡ total
   size = length-take-le total keys within
 
 -- and linked
-module _ (f : tie.After-link-refs) where
-  abbrev placed : tie.After-place-refs
+module _ (f : tie.After-link_refs) where
+  abbrev placed : tie.After-place_refs-n
   placed = f.before.before.before.before.before.before.before.before.before.before
 
   abbrev room : List Image
@@ -56,27 +56,27 @@ module _ (f : tie.After-link-refs) where
   refs = objects_of room ++ its_layers placed
 
   linked :
-      Resolving (start placed).args.b.now (take (total placed) (keys placed)) f.link-refs.last.1.1.1.1.1.1.1.0
-      (start placed).args.present.now placed.place-refs.result.objects room refs (start placed).pre.list.layers
+      Resolving (start placed).args.b.now (take (total placed) (keys placed)) f.link_refs.new.next
+      (start placed).args.present.now placed.place_refs-n.result.objects room refs (start placed).requires.list.layers
   linked =
-      let e = placed.place-refs.ensures in
-      let q = (start placed).pre in
-      resolving _ _ _ q.opened _ q.within q.apart e.3 (f.link-refs.ensures (its_layers placed) e.3) e.0 q.list
+      let e = placed.place_refs-n.ensures in
+      let q = (start placed).requires in
+      resolving _ _ _ q.opened _ q.within q.apart e.3 (f.link_refs.ensures (its_layers placed) e.3) e.0 q.list
 
-place-refs-requires : tie.Need-place-refs-requires
-place-refs-requires c κs = let q = c.before.before.before.before.before.before.before.before.before.requires in (q.opened, q.within, refl, refl)
+place_refs-n-requires : tie.Need-place_refs-n-requires
+place_refs-n-requires c κs = let q = c.requires in (q.opened, q.within, refl, refl)
 
-array-share-prefix-keys : tie.Need-array-share-prefix-keys
-array-share-prefix-keys c = within c.before.before.before
+slice_bounds-keys-end : tie.Need-slice_bounds-keys-end
+slice_bounds-keys-end c = within c.before.before.before
 
-slice-aggregate-link-refs-2 : tie.Need-slice-aggregate-link-refs-2
-slice-aggregate-link-refs-2 c = sym (size c.before.before.before.before)
+slice_bounds-link_refs-end-2 : tie.Need-slice_bounds-link_refs-end-2
+slice_bounds-link_refs-end-2 c = sym (size c.before.before.before.before)
 
-link-refs-requires : tie.Need-link-refs-requires
-link-refs-requires c κs =
+link_refs-requires : tie.Need-link_refs-requires
+link_refs-requires c κs =
     let p = c.before.before.before.before.before.before.before.before.before in
     let q = (start p).requires in
-    let e = p.place-refs.ensures in
+    let e = p.place_refs-n.ensures in
     let few : length (take (total p) (keys p)) ≤ 4160 = omega (arith, size p, e.1) in
     record {
       opened = q.opened;
@@ -92,33 +92,33 @@ link-refs-requires c κs =
     }
 
 -- the links from which the layers are followed
-abbrev linked-at : tie.After-slice-known9 → tie.After-link-refs
+abbrev linked-at : tie.After-slice_known-9-1 → tie.After-link_refs
 linked-at c = c.before.before.before.before.before.before.before.before.before
 
-array-share-prefix-keys-2 : tie.Need-array-share-prefix-keys-2
-array-share-prefix-keys-2 c = within (placed (linked-at c))
+slice_bounds-keys-end-2 : tie.Need-slice_bounds-keys-end-2
+slice_bounds-keys-end-2 c = within (placed (linked-at c))
 
-slice-aggregate-write-layers : tie.Need-slice-aggregate-write-layers
-slice-aggregate-write-layers c = sym (size (placed (linked-at c.before)))
+slice_bounds-write_layers-end : tie.Need-slice_bounds-write_layers-end
+slice_bounds-write_layers-end c = sym (size (placed (linked-at c.before)))
 
-write-layers-requires : tie.Need-write-layers-requires
-write-layers-requires c κs = let f = linked-at c.before.before.before in record { room = room f; refs = refs f; layers = _; is = linked f }
+write_layers-requires : tie.Need-write_layers-requires
+write_layers-requires c κs = let f = linked-at c.before.before.before in record { room = room f; refs = refs f; layers = _; is = linked f }
 
 returns : tie.Need-returns
 returns c =
     let f = linked-at c.before.before.before.before.before.before in
     let p = placed f in
     let a = start p in
-    let q = a.pre in
+    let q = a.requires in
     let v = a.args.v in
-    let fits : v.count ≤ length v.records = omega (arith, records_size v a.good.1.0, q.opened.fills.few) in
+    let fits : v.count ≤ length v.records = omega (arith, records_size v a.well_formed.1.0, q.opened.fills.few) in
     let l = image_layers _ v fits _ q.within in
-    let o = outcome_after (room f) (its_layers p) a.args.i.0 _ _ _ p.place-refs.ensures.0 l q.list.is in
+    let o = outcome_after (room f) (its_layers p) a.args.i.0 _ _ _ p.place_refs-n.ensures.0 l q.list.is in
     resolves_as (ap (λ (x : Outcome). lowest (layer_questions x (length a.args.out.now))) o) o
-    (c.before.before.write-layers.ensures (room f) (refs f) _ (linked f))
+    (c.write_layers.ensures (room f) (refs f) _ (linked f))
 
-pub resolve-in-spec : {M : Type 1} → statement M
-resolve-in-spec =
-    tie.close (tie.spec (λ c. refl) (λ c. refl) place-refs-requires (λ c. search rules) array-share-prefix-keys slice-aggregate-link-refs-2
-    (λ c. refl) link-refs-requires array-share-prefix-keys-2 slice-aggregate-write-layers (λ c. search rules) write-layers-requires
-    (λ c. search rules) (λ c. search rules) (λ c. search rules) (λ c. search rules) (λ c. search rules) returns)
+pub resolve_in_spec : {M : Type 1} → statement M
+resolve_in_spec =
+    tie.close (tie.spec (λ c. refl) (λ c. refl) place_refs-n-requires (λ c. search rules) slice_bounds-keys-end slice_bounds-link_refs-end-2
+    (λ c. refl) link_refs-requires slice_bounds-keys-end-2 slice_bounds-write_layers-end (λ c. search rules) write_layers-requires (λ c. search rules)
+    (λ c. search rules) (λ c. search rules) (λ c. search rules) (λ c. search rules) returns)
