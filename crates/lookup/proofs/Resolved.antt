@@ -98,6 +98,7 @@ module _ {room : List Image} {present : List LayerDigest} where
   -- Every digest that is met stands in the layer list.
   pub met_present : {ls : List Layer} {ds : List LayerDigest} {d : LayerDigest} → AllMeet room present ls ds → In d ds → In d present
   met_present (meets_too h m k) (In.head e) = subst (λ (x : LayerDigest). In x present) (sym e) m
+  met_present none_meets x4 = elim x4 [ ]
   met_present (meets_too h m k) (In.tail i) = met_present k i
 
   -- There are as many digests as layers.

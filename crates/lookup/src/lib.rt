@@ -1,4 +1,6 @@
 // Resolve: the layers of one image of a store as digests, each found by following aliases through the store's images.
+#![tactic(auto)]
+
 ghost use Rattle.std.specs.Prelude.{◌≡◌, true, not, length};
 ghost use Rattle.store_record.specs.Store.{most_images, read_records};
 ghost use Rattle.store_names.specs.Opened.{OpenedStore};

@@ -6,11 +6,11 @@ use borrow.Author.Rules.{rules}
 use Rattle.lookup.proofs.open_store.Statement.{statement}
 use Rattle.lookup.proofs.open_store.Tie as tie
 
-slice-aggregate-open : tie.Need-slice-aggregate-open
-slice-aggregate-open c = let s = c.before.before.before.before.before.before in sym (length-take-le 4096 s.args.at.now (omega (arith, s.requires.0)))
+slice_bounds-open-end-2 : tie.Need-slice_bounds-open-end-2
+slice_bounds-open-end-2 c = let s = c.before.before.before.before.before.before in sym (length-take-le 4096 s.args.at.now (omega (arith, s.requires.0)))
 
-slice-aggregate-open-2 : tie.Need-slice-aggregate-open-2
-slice-aggregate-open-2 c =
+slice_bounds-open-end-4 : tie.Need-slice_bounds-open-end-4
+slice_bounds-open-end-4 c =
     let s = c.before.before.before.before.before.before.before in
     sym (length-take-le 4096 s.args.order.now (omega (arith, s.requires.1)))
 
@@ -27,7 +27,7 @@ open-requires c κs =
       },
     )
 
-pub open-store-spec : {M : Type 1} → statement M
-open-store-spec =
-    tie.close (tie.spec (λ c. search rules) slice-aggregate-open (λ c. search rules) slice-aggregate-open-2 (λ c. search rules) open-requires
+pub open_store_spec : {M : Type 1} → statement M
+open_store_spec =
+    tie.close (tie.spec (λ c. search rules) slice_bounds-open-end-2 (λ c. search rules) slice_bounds-open-end-4 (λ c. search rules) open-requires
     (λ c. search rules) (λ c. search rules) (λ c. search rules) (λ c. search rules) (λ c. search rules))

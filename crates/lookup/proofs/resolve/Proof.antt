@@ -21,115 +21,116 @@ use Rattle.lookup.proofs.resolve.Statement.{statement}
 use Rattle.lookup.proofs.resolve.Tie as tie
 
 -- where the bytes in use were opened
-module _ (o : tie.After-open-store) where
+module _ (o : tie.After-open_store-opened) where
   abbrev start : tie.Start
-  start = o.before.before.before.before.before.before.before.before.before.before
+  start = o.before.before.before.before.before.before.before.before.before
 
   abbrev bytes : List ℕ
   bytes = take start.args.used start.args.store.now
 
   within : start.args.used ≤ length start.args.store.now
-  within = o.before.before.before.before.before.before.if1.left
+  within = o.if-store-used.false
 
   small : (k : ℕ) → get_or start.args.store.now k 0 < 256
-  small k = omega (arith, o.before.before.before.before.before.before.before.before.before.shared-slice-known.given k)
+  small k = omega (arith, o.shared_slice_known-1.given k)
 
 -- 11 does not apply
-module _ (e : tie.Else2) where
-  abbrev opening : tie.After-open-store
+module _ (e : tie.Else-not-opened) where
+  abbrev opening : tie.After-open_store-opened
   opening = e.before.before.before.before.before.before
 
-  opened : OpenedStore (bytes opening) opening.open-store.result.survey opening.open-store.result.places
-  opened = opening.open-store.ensures.1 (not-false _ e.if2.left)
+  opened : OpenedStore (bytes opening) opening.open_store-opened.result.survey opening.open_store-opened.result.places
+  opened = opening.open_store-opened.ensures.1 (not-false _ e.if-not-opened.false)
 
   sound : is_broken (length (bytes opening)) (read_records most_images (bytes opening)) ≡ false
-  sound = not-true _ (sym opening.open-store.ensures.0 ∙ not-false _ e.if2.left)
+  sound = not-true _ (sym opening.open_store-opened.ensures.0 ∙ not-false _ e.if-not-opened.false)
 
-  count : length (images_in (bytes opening) opening.open-store.result.survey) ≡ opening.open-store.result.survey.count
+  count : length (images_in (bytes opening) opening.open_store-opened.result.survey) ≡ opening.open_store-opened.result.survey.count
   count =
-      let v = opening.open-store.result.survey in
-      images_length (bytes opening) v (omega (arith, records_size v opening.open-store.ok.1.1.1.0, opened.fills.few))
+      let v = opening.open_store-opened.result.survey in
+      images_length (bytes opening) v (omega (arith, records_size v opening.open_store-opened.type_inv.1.1.1.0, opened.fills.few))
 
 -- nor does 15
-module _ (e : tie.Else3) where
-  abbrev store_is : tie.Else2
+module _ (e : tie.Else-not-is_list) where
+  abbrev store_is : tie.Else-not-opened
   store_is = e.before.before
 
   given : is_list (start (opening store_is)).args.layers.now ≡ true
-  given = sym e.before.is-list.ensures ∙ not-false _ e.if3.left
+  given = sym e.is_list.ensures ∙ e.if-not-is_list.false
 
-returns : tie.Need-returns
-returns c =
+returns-then-store-used : tie.Need-returns-then-store-used
+returns-then-store-used c =
     let t = c.before.before.before.before in
-    let r = c.before.before.refused.ensures in
-    refused_resolves (number_past _ _ _ _ _ t.if1.true) (λ z. omega arith) (λ f z. omega (arith, failure_bounds f)) r.0 r.1
+    let r = c.refused.ensures in
+    refused_resolves (number_past _ _ _ _ _ t.if-store-used.true) (λ z. omega arith) (λ f z. omega (arith, failure_bounds f)) r.0 r.1
 
-slice-aggregate-b : tie.Need-slice-aggregate-b
-slice-aggregate-b c = sym (length-take-le _ _ c.before.if1.false)
+slice_bounds-b-end : tie.Need-slice_bounds-b-end
+slice_bounds-b-end c = sym (length-take-le _ _ c.if-store-used.false)
 
-open-store-requires : tie.Need-open-store-requires
-open-store-requires c κs = (refl, refl, refl, refl)
+open_store-opened-requires : tie.Need-open_store-opened-requires
+open_store-opened-requires c κs = (refl, refl, refl, refl)
 
-returns-2 : tie.Need-returns-2
-returns-2 c =
+returns-then-not-opened : tie.Need-returns-then-not-opened
+returns-then-not-opened c =
     let t = c.before.before.before.before in
     let o = t.before.before.before.before.before.before in
-    let r = c.before.before.refused2.ensures in
-    let b = not-false _ (sym o.open-store.ensures.0 ∙ not-true _ t.if2.true) in
+    let r = c.refused-then-not-opened.ensures in
+    let b = not-false _ (sym o.open_store-opened.ensures.0 ∙ not-true _ t.if-not-opened.true) in
     refused_resolves (number_broken _ _ _ _ _ (within o) (small o) b) (λ z. omega arith) (λ f z. omega (arith, failure_bounds f)) r.0 r.1
 
-returns-3 : tie.Need-returns-3
-returns-3 c =
+returns-then-not-is_list : tie.Need-returns-then-not-is_list
+returns-then-not-is_list c =
     let t = c.before.before.before.before in
     let e = t.before.before in
     let o = opening e in
-    let r = c.before.before.refused3.ensures in
-    let n = sym t.before.is-list.ensures ∙ not-true _ t.if3.true in
+    let r = c.refused-then-not-is_list.ensures in
+    let n = sym t.is_list.ensures ∙ not-true _ t.if-not-is_list.true-raw in
     refused_resolves (number_unlisted _ _ _ _ _ (within o) (small o) (sound e) n) (λ z. omega arith) (λ f z. omega (arith, failure_bounds f)) r.0 r.1
 
-returns-4 : tie.Need-returns-4
-returns-4 c =
+returns-then-image-survey : tie.Need-returns-then-image-survey
+returns-then-image-survey c =
     let t = c.before.before.before.before in
     let l = t.before.before.before.before in
     let e = store_is l in
     let o = opening e in
-    let r = c.before.before.refused4.ensures in
+    let r = c.refused-then-image-survey.ensures in
     refused_resolves
-    (number_missing _ _ _ _ _ (within o) (small o) (sound e) (given l) _ (opened e).fills.images (omega (arith, count e, t.if4.true)))
+    (number_missing _ _ _ _ _ (within o) (small o) (sound e) (given l) _ (opened e).fills.images (omega (arith, count e, t.if-image-survey.true)))
     (λ z. omega arith) (λ f z. omega (arith, failure_bounds f)) r.0 r.1
 
-resolve-in-requires : tie.Need-resolve-in-requires
-resolve-in-requires c κs =
+resolve_in-requires : tie.Need-resolve_in-requires
+resolve_in-requires c κs =
     let f = c.before.before.before.before.before.before in
     let l = f.before.before.before.before in
     let e = store_is l in
-    let n = (opening e).open-store.kept.1 in
+    let n = (opening e).open_store-opened.auto in
     record {
       opened = opened e;
       apart = unbroken_apart _ _ _ (opened e).fills.images (sound e);
-      within = f.if4.false;
+      within = f.if-image-survey.false;
       list = some_list _ (given l);
-      at_space = n.0;
-      order_space = n.1.0;
-      names_space = omega (arith, n.1.1.0);
-      owners_space = omega (arith, n.1.1.1.0);
+      at_space = n.at;
+      order_space = n.order;
+      names_space = omega (arith, n.names);
+      owners_space = omega (arith, n.keys);
     }
 
-returns-5 : tie.Need-returns-5
-returns-5 c =
+returns : tie.Need-returns
+returns c =
     let f = c.before.before.before.before.before.before.before.before.before.before.before.before.before in
     let l = f.before.before.before.before in
     let e = store_is l in
     let o = opening e in
     let i = (opened e).fills.images in
     resolves_as
-    (number_layers _ _ _ _ _ (within o) (small o) (sound e) (given l) _ i (omega (arith, count e, f.if4.false)))
+    (number_layers _ _ _ _ _ (within o) (small o) (sound e) (given l) _ i (omega (arith, count e, f.if-image-survey.false)))
     (outcome_held _ _ (within o) _ i _ _)
-    c.before.before.before.before.before.before.resolve-in.ensures
+    c.resolve_in.ensures
 
-pub resolve-spec : {M : Type 1} → statement M
-resolve-spec =
-    tie.close (tie.spec (λ c κs. search rules) (λ c. search rules) returns slice-aggregate-b (λ c. search rules) (λ c. search rules)
-    (λ c. search rules) (λ c. search rules) open-store-requires (λ c κs. search rules) (λ c. search rules) returns-2 (λ c κs. search rules)
-    (λ c κs. search rules) (λ c. search rules) returns-3 (λ c κs. search rules) (λ c. search rules) returns-4 (λ c. search rules) (λ c. search rules)
-    (λ c. search rules) (λ c. search rules) resolve-in-requires (λ c. search rules) returns-5)
+pub resolve_spec : {M : Type 1} → statement M
+resolve_spec =
+    tie.close (tie.spec (λ c κs. search rules) (λ c. search rules) returns-then-store-used slice_bounds-b-end (λ c. search rules) (λ c. search rules)
+    (λ c. search rules) (λ c. search rules) open_store-opened-requires (λ c κs. search rules) (λ c. search rules) returns-then-not-opened
+    (λ c κs. search rules) (λ c κs. search rules) (λ c. search rules) returns-then-not-is_list (λ c κs. search rules) (λ c. search rules)
+    returns-then-image-survey (λ c. search rules) (λ c. search rules) (λ c. search rules) (λ c. search rules) resolve_in-requires (λ c. search rules)
+    returns)
