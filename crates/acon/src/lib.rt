@@ -1,4 +1,6 @@
 // The calls that the host, written in C, makes. They only pack the numbers of an answer; include/acon.h declares them.
+#![tactic(auto)]
+
 ghost use Rattle.std.specs.Prelude.{◌≡◌, ◌<◌, length};
 ghost use Rattle.text.specs.Answer.{canonical_number, canonical_length, canonical_bytes, text_place};
 ghost use Rattle.store.specs.Load.{load_number, load_used, load_bytes};

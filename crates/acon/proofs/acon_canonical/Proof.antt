@@ -9,8 +9,8 @@ use Rattle.acon.proofs.acon_canonical.Tie as tie
 
 pack-requires : tie.Need-pack-requires
 pack-requires c κs =
-    let a = c.before.before.before.before.before.before.args in
-    let e = c.before.before.canonical.ensures in
+    let a = c.args in
+    let e = c.canonical-a.ensures in
     omega (
       arith,
       e.0,
@@ -22,8 +22,8 @@ pack-requires c κs =
     )
 
 returns : tie.Need-returns
-returns c = let e = c.before.before.before.canonical.ensures in (packed_same c.pack.ensures e.0 e.1.0 e.1.1.1, e.1.1.0)
+returns c = let e = c.canonical-a.ensures in (packed_same c.pack.ensures e.0 e.1.0 e.1.1.1, e.1.1.0)
 
-pub acon-canonical-spec : {M : Type 1} → statement M
-acon-canonical-spec =
+pub acon_canonical_spec : {M : Type 1} → statement M
+acon_canonical_spec =
     tie.close (tie.spec (λ c κs. search rules) pack-requires (λ c. search rules) returns)

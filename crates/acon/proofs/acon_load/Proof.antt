@@ -9,8 +9,8 @@ use Rattle.acon.proofs.acon_load.Tie as tie
 
 pack-requires : tie.Need-pack-requires
 pack-requires c κs =
-    let a = c.before.before.before.before.before.before.before.args in
-    let e = c.before.before.load.ensures in
+    let a = c.args in
+    let e = c.load-a.ensures in
     let i = a.id.now in
     let m = a.manifest.now in
     let b = a.buffer.now in
@@ -21,12 +21,12 @@ pack-requires c κs =
       e.1.1.1,
       place_small m,
       load_number_small i m b a.used,
-      load_used_small i m b a.used (λ k. (c.before.before.before.before.slice-known.given k).fits),
+      load_used_small i m b a.used (λ k. (c.slice_known-1.given k).fits),
     )
 
 returns : tie.Need-returns
-returns c = let e = c.before.before.before.load.ensures in (packed_same c.pack.ensures e.0 e.1.0 e.1.1.1, e.1.1.0)
+returns c = let e = c.load-a.ensures in (packed_same c.pack.ensures e.0 e.1.0 e.1.1.1, e.1.1.0)
 
-pub acon-load-spec : {M : Type 1} → statement M
-acon-load-spec =
+pub acon_load_spec : {M : Type 1} → statement M
+acon_load_spec =
     tie.close (tie.spec (λ c κs. search rules) pack-requires (λ c. search rules) returns)

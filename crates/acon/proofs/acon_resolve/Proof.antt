@@ -12,8 +12,8 @@ use Rattle.acon.proofs.acon_resolve.Tie as tie
 pack-requires : tie.Need-pack-requires
 unfolding resolve_value
 pack-requires c κs =
-    let a = c.before.before.before.before.before.before.before.args in
-    let e = c.before.before.resolve.ensures in
+    let a = c.args in
+    let e = c.resolve-a.ensures in
     let s = a.store.now in
     let l = a.layers.now in
     let n = length a.out.now in
@@ -21,8 +21,8 @@ pack-requires c κs =
 
 returns : tie.Need-returns
 unfolding resolve_value resolve_bytes
-returns c = let e = c.before.before.before.resolve.ensures in (packed_same c.pack.ensures e.number e.value refl, e.bytes)
+returns c = let e = c.resolve-a.ensures in (packed_same c.pack.ensures e.number e.value refl, e.bytes)
 
-pub acon-resolve-spec : {M : Type 1} → statement M
-acon-resolve-spec =
+pub acon_resolve_spec : {M : Type 1} → statement M
+acon_resolve_spec =
     tie.close (tie.spec (λ c κs. search rules) pack-requires (λ c. search rules) returns)
