@@ -92,21 +92,21 @@ link_refs-requires c κs =
     }
 
 -- the links from which the layers are followed
-abbrev linked-at : tie.After-slice_known-9-1 → tie.After-link_refs
-linked-at c = c.before.before.before.before.before.before.before.before.before
+abbrev linked_at : tie.After-slice_known-9-1 → tie.After-link_refs
+linked_at c = c.before.before.before.before.before.before.before.before.before
 
 slice_bounds-keys-end-2 : tie.Need-slice_bounds-keys-end-2
-slice_bounds-keys-end-2 c = within (placed (linked-at c))
+slice_bounds-keys-end-2 c = within (placed (linked_at c))
 
 slice_bounds-write_layers-end : tie.Need-slice_bounds-write_layers-end
-slice_bounds-write_layers-end c = sym (size (placed (linked-at c.before)))
+slice_bounds-write_layers-end c = sym (size (placed (linked_at c.before)))
 
 write_layers-requires : tie.Need-write_layers-requires
-write_layers-requires c κs = let f = linked-at c.before.before.before in record { room = room f; refs = refs f; layers = _; is = linked f }
+write_layers-requires c κs = let f = linked_at c.before.before.before in record { room = room f; refs = refs f; layers = _; is = linked f }
 
 returns : tie.Need-returns
 returns c =
-    let f = linked-at c.before.before.before.before.before.before in
+    let f = linked_at c.before.before.before.before.before.before in
     let p = placed f in
     let a = start p in
     let q = a.requires in

@@ -75,25 +75,25 @@ module _ (a : tie.After-list_aliases-n invariant-loop decreases-loop) where
 
 -- a turn of the loop: the alias that it links
 module _ (t : tie.In-loop-k invariant-loop decreases-loop) where
-  abbrev linked-from : tie.After-list_aliases-n invariant-loop decreases-loop
-  linked-from = t.before.before.before.before.before.before
+  abbrev linked_from : tie.After-list_aliases-n invariant-loop decreases-loop
+  linked_from = t.before.before.before.before.before.before
 
-  alias_at : AliasAt (text linked-from) (get_or (names linked-from) t.loop-k.k 0) (get_or (owners linked-from) t.loop-k.k 0)
-      (get_or (contents (text linked-from)) t.loop-k.k no_alias)
-  alias_at = alias_here _ _ _ _ (names_fit linked-from) (listed linked-from) t.loop-k.k t.loop-k-test.true
+  alias_at : AliasAt (text linked_from) (get_or (names linked_from) t.loop-k.k 0) (get_or (owners linked_from) t.loop-k.k 0)
+      (get_or (contents (text linked_from)) t.loop-k.k no_alias)
+  alias_at = alias_here _ _ _ _ (names_fit linked_from) (listed linked_from) t.loop-k.k t.loop-k-test.true
 
-  stands : NameStands (start linked-from).args.b.now ((start linked-from).args.r.text + get_or (names linked-from) t.loop-k.k 0 + 1)
-      (get_or (contents (text linked-from)) t.loop-k.k no_alias).name
-  stands = name_stands (start linked-from).args.b.now (start linked-from).args.r.text
-      ((start linked-from).args.r.end - (start linked-from).args.r.text) _ _ _ alias_at
+  stands : NameStands (start linked_from).args.b.now ((start linked_from).args.r.text + get_or (names linked_from) t.loop-k.k 0 + 1)
+      (get_or (contents (text linked_from)) t.loop-k.k no_alias).name
+  stands = name_stands (start linked_from).args.b.now (start linked_from).args.r.text
+      ((start linked_from).args.r.end - (start linked_from).args.r.text) _ _ _ alias_at
 
-  name_inside : get_or (names linked-from) t.loop-k.k 0 + 1 < length (text linked-from)
+  name_inside : get_or (names linked_from) t.loop-k.k 0 + 1 < length (text linked_from)
   name_inside = name_within _ _ _ _ alias_at
 
-  number_within : (start linked-from).args.first + get_or (owners linked-from) t.loop-k.k 0 < 4160
+  number_within : (start linked_from).args.first + get_or (owners linked_from) t.loop-k.k 0 < 4160
   unfolding between
   number_within =
-      let p = (start linked-from).requires in
+      let p = (start linked_from).requires in
       omega (arith, alias_at.within, p.within, p.table.table.few)
 
 -- the turn in which it was linked
@@ -106,27 +106,27 @@ loop-k-init c =
     (omega arith, refl, λ refs ks t o p. keys_none _ _ _ _ (names_fit a) (listed a) (start a).args.r.algorithm (signer a) refs _ o ks _ p)
 
 offset_bounds-names-k : tie.Need-offset_bounds-names-k invariant-loop decreases-loop
-offset_bounds-names-k c = let a = linked-from c in omega (arith, c.loop-k-test.true, a.list_aliases-n.ensures.0)
+offset_bounds-names-k c = let a = linked_from c in omega (arith, c.loop-k-test.true, a.list_aliases-n.ensures.0)
 
 bounds-names-k : tie.Need-bounds-names-k invariant-loop decreases-loop
-bounds-names-k c = let t = c.before in omega (arith, t.loop-k-test.true, names_fit (linked-from t))
+bounds-names-k c = let t = c.before in omega (arith, t.loop-k-test.true, names_fit (linked_from t))
 
 overflow_cast-p : tie.Need-overflow_cast-p invariant-loop decreases-loop
-overflow_cast-p c = let t = c.before in omega (arith, name_inside t, text_end (linked-from t), (start (linked-from t)).requires.is_in.within)
+overflow_cast-p c = let t = c.before in omega (arith, name_inside t, text_end (linked_from t), (start (linked_from t)).requires.is_in.within)
 
 overflow_add-p : tie.Need-overflow_add-p invariant-loop decreases-loop
-overflow_add-p c = let t = c.before in omega (arith, name_inside t, text_end (linked-from t), (start (linked-from t)).requires.is_in.within)
+overflow_add-p c = let t = c.before in omega (arith, name_inside t, text_end (linked_from t), (start (linked_from t)).requires.is_in.within)
 
 overflow_add-p-in-loop-k : tie.Need-overflow_add-p-in-loop-k invariant-loop decreases-loop
-overflow_add-p-in-loop-k c = let t = c.before in omega (arith, name_inside t, text_end (linked-from t), (start (linked-from t)).requires.is_in.within)
+overflow_add-p-in-loop-k c = let t = c.before in omega (arith, name_inside t, text_end (linked_from t), (start (linked_from t)).requires.is_in.within)
 
 offset_bounds-owners-k : tie.Need-offset_bounds-owners-k invariant-loop decreases-loop
-offset_bounds-owners-k c = let t = c.before in let a = linked-from t in omega (arith, t.loop-k-test.true, a.list_aliases-n.ensures.0)
+offset_bounds-owners-k c = let t = c.before in let a = linked_from t in omega (arith, t.loop-k-test.true, a.list_aliases-n.ensures.0)
 
 bounds-owners-k : tie.Need-bounds-owners-k invariant-loop decreases-loop
 bounds-owners-k c =
     let t = c.before.before in
-    let a = linked-from t in omega (arith, t.loop-k-test.true, a.list_aliases-n.ensures.0, a.list_aliases-n.ensures.2, (start a).requires.owners_space)
+    let a = linked_from t in omega (arith, t.loop-k-test.true, a.list_aliases-n.ensures.0, a.list_aliases-n.ensures.2, (start a).requires.owners_space)
 
 overflow_cast-number : tie.Need-overflow_cast-number invariant-loop decreases-loop
 overflow_cast-number c = omega (arith, number_within c.before.before)
@@ -135,13 +135,13 @@ overflow_add-number : tie.Need-overflow_add-number invariant-loop decreases-loop
 overflow_add-number c = omega (arith, number_within c.before.before)
 
 slice_bounds-link_name-count : tie.Need-slice_bounds-link_name-count invariant-loop decreases-loop
-slice_bounds-link_name-count c = let r = (start (linked-from c.before.before)).requires.is_in in omega (arith, r.signer)
+slice_bounds-link_name-count c = let r = (start (linked_from c.before.before)).requires.is_in in omega (arith, r.signer)
 
 slice_bounds-link_name-start : tie.Need-slice_bounds-link_name-start invariant-loop decreases-loop
-slice_bounds-link_name-start c = let r = (start (linked-from c.before.before)).requires.is_in in omega (arith, r.signer)
+slice_bounds-link_name-start c = let r = (start (linked_from c.before.before)).requires.is_in in omega (arith, r.signer)
 
 slice_bounds-link_name-end : tie.Need-slice_bounds-link_name-end invariant-loop decreases-loop
-slice_bounds-link_name-end c = let r = (start (linked-from c.before.before)).requires.is_in in omega (arith, r.manifest, r.text, r.within)
+slice_bounds-link_name-end c = let r = (start (linked_from c.before.before)).requires.is_in in omega (arith, r.manifest, r.text, r.within)
 
 overflow_cast-number-in-loop-k : tie.Need-overflow_cast-number-in-loop-k invariant-loop decreases-loop
 overflow_cast-number-in-loop-k c = omega (arith, number_within c.before.before.before)
@@ -149,11 +149,11 @@ overflow_cast-number-in-loop-k c = omega (arith, number_within c.before.before.b
 link_name-requires : tie.Need-link_name-requires invariant-loop decreases-loop
 link_name-requires c κs =
     let t = c.before.before.before.before in
-    let p = (start (linked-from t)).requires in
+    let p = (start (linked_from t)).requires in
     (p.table, record { name = _; stands = stands t }, omega (arith, p.space, t.loop-k.invariant.1))
 
 overflow_add-k : tie.Need-overflow_add-k invariant-loop decreases-loop
-overflow_add-k c = let t = turn c in omega (arith, t.loop-k-test.true, (linked-from t).list_aliases-n.ensures.0)
+overflow_add-k c = let t = turn c in omega (arith, t.loop-k-test.true, (linked_from t).list_aliases-n.ensures.0)
 
 loop-k-smaller : tie.Need-loop-k-smaller invariant-loop decreases-loop
 loop-k-smaller c = omega (arith, (turn c).loop-k-test.true)
@@ -161,7 +161,7 @@ loop-k-smaller c = omega (arith, (turn c).loop-k-test.true)
 loop-k-preserved : tie.Need-loop-k-preserved invariant-loop decreases-loop
 loop-k-preserved c =
     let t = turn c in
-    let a = linked-from t in
+    let a = linked_from t in
     let l = t.loop-k in
     let f = c.link_name in (
       omega (arith, t.loop-k-test.true),

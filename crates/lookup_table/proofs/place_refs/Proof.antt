@@ -67,42 +67,42 @@ bounds-places-k : tie.Need-bounds-places-k
 bounds-places-k c = few c.before.before.before.before.before
 
 -- the objects that were placed before the image's fields were read
-abbrev objects-of : tie.After-q-1 → tie.After-place_all-objects
-objects-of c = c.before.before.before.before.before.before
+abbrev objects_of : tie.After-q-1 → tie.After-place_all-objects
+objects_of c = c.before.before.before.before.before.before
 
 offset_bounds-keys-objects : tie.Need-offset_bounds-keys-objects
-offset_bounds-keys-objects c = omega (arith, (objects-of c).place_all-objects.ensures.0)
+offset_bounds-keys-objects c = omega (arith, (objects_of c).place_all-objects.ensures.0)
 
 slice_bounds-place_layers-count : tie.Need-slice_bounds-place_layers-count
-slice_bounds-place_layers-count c = omega (arith, fits (objects-of c))
+slice_bounds-place_layers-count c = omega (arith, fits (objects_of c))
 
 slice_bounds-place_layers-start : tie.Need-slice_bounds-place_layers-start
-slice_bounds-place_layers-start c = omega (arith, fits (objects-of c))
+slice_bounds-place_layers-start c = omega (arith, fits (objects_of c))
 
 place_layers-m-requires : tie.Need-place_layers-m-requires
 unfolding between
 place_layers-m-requires c κs =
-    let p = objects-of c.before in
+    let p = objects_of c.before in
     ((inside p).text, (inside p).within, opened p _, omega (arith, lent p, fits p))
 
 overflow_add-result : tie.Need-overflow_add-result
-overflow_add-result c = let f = c.before.before in omega (arith, (objects-of f.before.before).place_all-objects.ensures.0, f.place_layers-m.ensures.0)
+overflow_add-result c = let f = c.before.before in omega (arith, (objects_of f.before.before).place_all-objects.ensures.0, f.place_layers-m.ensures.0)
 
 shape_of-keys : tie.Need-shape_of-keys
 shape_of-keys c =
     let f = c.before.before in
-    let p = objects-of f.before.before in
+    let p = objects_of f.before.before in
     back_size (placed p) (keys p) f.place_layers-m.new.keys (omega (arith, fits p)) (f.place_layers-m.ensures.1 ∙ lent p)
     ∙ p.place_all-objects.auto.keys
 
 shape_of-counts : tie.Need-shape_of-counts
-shape_of-counts c = (objects-of c.before.before.before.before).place_all-objects.auto.counts
+shape_of-counts c = (objects_of c.before.before.before.before).place_all-objects.auto.counts
 
 returns : tie.Need-returns
 unfolding between held_in
 returns c =
     let f = c.before.before in
-    let p = objects-of f.before.before in
+    let p = objects_of f.before.before in
     let e = p.place_all-objects.ensures in
     let g = f.place_layers-m.ensures in (
       sym (length-take-le (placed p) (keys p) (omega (arith, fits p))) ∙ stand_length e.2 ∙ objects_counted _,

@@ -15,10 +15,10 @@ use Rattle.store.proofs.append.Tie as tie
 abbrev begin : tie.After-head_size → tie.Start
 begin c = c.before.before.before.before.before
 
-abbrev its-image : tie.Start → Image
-its-image a = image_with a.args.a a.args.signer.now a.args.digest.now a.args.text.now
+abbrev its_image : tie.Start → Image
+its_image a = image_with a.args.a a.args.signer.now a.args.digest.now a.args.text.now
 
-needed : (c : tie.After-head_size) → length (record_of (its-image (begin c))) ≡ c.head_size.result + length (begin c).args.text.now
+needed : (c : tie.After-head_size) → length (record_of (its_image (begin c))) ≡ c.head_size.result + length (begin c).args.text.now
 needed c =
     let a = begin c in
     record_size a.args.a a.args.signer.now a.args.digest.now a.args.text.now a.requires.digests

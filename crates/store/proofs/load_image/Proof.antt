@@ -17,12 +17,12 @@ use Rattle.store.proofs.load_image.Tie as tie
 abbrev begin : tie.After-number_in-number → tie.Start
 begin c = c.before.before.before.before.before.before.before.before.before.before
 
-abbrev its-image : tie.Start → Image
-its-image a = image_with a.args.a a.args.signer.now a.args.digest.now a.args.text.now
+abbrev its_image : tie.Start → Image
+its_image a = image_with a.args.a a.args.signer.now a.args.digest.now a.args.text.now
 
 -- the number that was found is that of questions 11 to 14
 asked : (c : tie.After-number_in-number) → let a = begin c in
-    c.number_in-number.result ≡ lowest (store_questions (length a.args.store.now) (held a.args.store.now a.args.used) (its-image a))
+    c.number_in-number.result ≡ lowest (store_questions (length a.args.store.now) (held a.args.store.now a.args.used) (its_image a))
 asked c = c.number_in-number.ensures ∙ number_within _ (begin c).args.store.now (begin c).args.used c.if-store-used.false _ refl
 
 returns-then-store-used : tie.Need-returns-then-store-used

@@ -40,8 +40,8 @@ size a = length (bytes a) + a.args.left
 abbrev images : tie.Start → Option (List Image)
 images a = read_records most_images (bytes a)
 
-abbrev its-image : tie.Start → Image
-its-image a = image_with a.args.a a.args.signer.now a.args.digest.now (text a)
+abbrev its_image : tie.Start → Image
+its_image a = image_with a.args.a a.args.signer.now a.args.digest.now (text a)
 
 small : (o : tie.After-of-survey) (j : ℕ) → get_or (bytes (begin o)) j 0 < 256
 small o j = omega (arith, o.shared_slice_known-4-1.given j)
@@ -54,7 +54,7 @@ returns-then-not-survey : tie.Need-returns-then-not-survey
 returns-then-not-survey c =
     let o = c.before.before in
     let a = begin o in
-    number_11 (size a) (images a) (its-image a) (unread_broken (bytes a) (size a) (o.of-survey.ensures.1 (not-true _ c.if-not-survey.true)))
+    number_11 (size a) (images a) (its_image a) (unread_broken (bytes a) (size a) (o.of-survey.ensures.1 (not-true _ c.if-not-survey.true)))
 
 -- or they do, and the manifests are opened
 abbrev surveyed : tie.After-open_all-fit → tie.Else-not-survey
@@ -79,7 +79,7 @@ returns-then-not-fit c =
     let o = survey k in
     let a = begin o in
     let u = unfit_sound (bytes a) (small o) _ (fills (surveyed k)) _ k.open_all-fit.ensures (not-true _ c.if-not-fit.true) in
-    number_11 (size a) (images a) (its-image a) (same_broken o ∙ not-false _ (sym u.0))
+    number_11 (size a) (images a) (its_image a) (same_broken o ∙ not-false _ (sym u.0))
 
 -- or all are
 abbrev opening : tie.Else-not-fit → tie.After-open_all-fit
@@ -113,7 +113,7 @@ returns-then-not-are_apart c =
     let k = c.before.before.before.before.before in
     let o = survey (opening (fit k)) in
     let a = begin o in
-    number_11 (size a) (images a) (its-image a) (same_broken o ∙ not-false _ (sym (sounding k).0 ∙ not-true _ c.if-not-are_apart.true-raw))
+    number_11 (size a) (images a) (its_image a) (same_broken o ∙ not-false _ (sym (sounding k).0 ∙ not-true _ c.if-not-are_apart.true-raw))
 
 -- 11 does not apply
 abbrev apart : tie.Else-not-are_apart → tie.Else-not-fit
@@ -137,20 +137,20 @@ is_held-requires : tie.Need-is_held-requires
 is_held-requires c κs = (opened (apart c)).fills
 
 -- 12 and 13 are answered by the calls
-asked_12 : (c : tie.After-is_held) → let a = started (apart c.before) in any_of (share_id (its-image a)) (among (images a)) ≡ c.is_held.result
+asked_12 : (c : tie.After-is_held) → let a = started (apart c.before) in any_of (share_id (its_image a)) (among (images a)) ≡ c.is_held.result
 asked_12 c =
     let e = apart c.before in
     let a = started e in
-    ap (any_of (share_id (its-image a))) (held e)
+    ap (any_of (share_id (its_image a))) (held e)
     ∙ shares_held a.args.a a.args.signer.now a.args.digest.now (text a) _ ∙ sym c.is_held.ensures
 
 returns-then-is_held : tie.Need-returns-then-is_held
 returns-then-is_held c =
     let e = c.before.before in
     let a = started (apart e) in
-    number_12 (size a) (images a) (its-image a) (sound e) (asked_12 c.before ∙ c.if-is_held.true)
+    number_12 (size a) (images a) (its_image a) (sound e) (asked_12 c.before ∙ c.if-is_held.true)
 
-other : (c : tie.Else-is_held) → let a = started (apart c.before.before) in any_of (share_id (its-image a)) (among (images a)) ≡ false
+other : (c : tie.Else-is_held) → let a = started (apart c.before.before) in any_of (share_id (its_image a)) (among (images a)) ≡ false
 other c = asked_12 c.before ∙ c.if-is_held.false
 
 clashes-clashing-requires : tie.Need-clashes-clashing-requires
@@ -171,11 +171,11 @@ abbrev known : tie.After-clashes-clashing → tie.Else-is_held
 known c = c.before.before.before
 
 asked_13 : (c : tie.After-clashes-clashing) → let a = started (apart (known c).before.before) in
-    any_of (clash (its-image a)) (among (images a)) ≡ c.clashes-clashing.result
+    any_of (clash (its_image a)) (among (images a)) ≡ c.clashes-clashing.result
 asked_13 c =
     let e = apart (known c).before.before in
     let a = started e in
-    ap (any_of (clash (its-image a))) (held e)
+    ap (any_of (clash (its_image a))) (held e)
     ∙ clashes_held a.args.a a.args.signer.now a.args.digest.now (text a) a.requires.0 (bytes a) _ ∙ sym c.clashes-clashing.ensures
 
 short : (a : tie.Start) → length (text a) ≤ 16384
@@ -192,7 +192,7 @@ returns c =
     let e = (known k).before.before in
     let f = apart e in
     let a = started f in
-    number_rest (bytes a) (small (survey (opening f))) _ (opened f).fills.images a.args.left (its-image a) (sound e) (other (known k)) (asked_13 k)
+    number_rest (bytes a) (small (survey (opening f))) _ (opened f).fills.images a.args.left (its_image a) (sound e) (other (known k)) (asked_13 k)
     _ _ _ (record_size a.args.a a.args.signer.now a.args.digest.now (text a) a.requires.1) (count f) (opened f).fills.few
     c.number_left.ensures
 

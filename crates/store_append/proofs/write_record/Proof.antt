@@ -27,13 +27,13 @@ text a = a.args.text.now
 abbrev head : tie.Start → List ℕ
 head a = head_of (image_id a.args.a a.args.signer.now a.args.digest.now) (length (text a))
 
-abbrev its-image : tie.Start → Image
-its-image a = image_with a.args.a a.args.signer.now a.args.digest.now (text a)
+abbrev its_image : tie.Start → Image
+its_image a = image_with a.args.a a.args.signer.now a.args.digest.now (text a)
 
 abbrev first : tie.Start → List ℕ
 first a = take a.args.used (buffer a)
 
-is_record : (a : tie.Start) → record_of (its-image a) ≡ head a ++ text a
+is_record : (a : tie.Start) → record_of (its_image a) ≡ head a ++ text a
 is_record a = record_parts a.args.a a.args.signer.now a.args.digest.now (text a)
 
 space : (a : tie.Start) → a.args.used + length (head a) + length (text a) ≤ length (buffer a)
@@ -48,13 +48,13 @@ abbrev begin : tie.After-write_head-head → tie.Start
 begin c = c.before.before.before.before.before.before
 
 -- the buffer with the head
-abbrev with-head : tie.After-write_head-head → List ℕ
-with-head c = let a = begin c in put_mid a.args.used (length (buffer a) - a.args.used) (buffer a) c.write_head-head.new.out
+abbrev with_head : tie.After-write_head-head → List ℕ
+with_head c = let a = begin c in put_mid a.args.used (length (buffer a) - a.args.used) (buffer a) c.write_head-head.new.out
 
 abbrev at : tie.After-write_head-head → ℕ
 at c = (begin c).args.used + c.write_head-head.result
 
-head_written : (c : tie.After-write_head-head) → Writes (buffer (begin c)) (with-head c) (first (begin c) ++ head (begin c))
+head_written : (c : tie.After-write_head-head) → Writes (buffer (begin c)) (with_head c) (first (begin c) ++ head (begin c))
 head_written c =
     let a = begin c in
     let w = a.requires.fits.within in
@@ -71,7 +71,7 @@ at_length c =
     let a = begin c in
     omega (arith, c.write_head-head.ensures.0, length-append (first a) (head a), first_length (buffer a) a.args.used a.requires.fits.within)
 
-text_fits : (c : tie.After-write_head-head) → length (text (begin c)) ≤ length (mid_of (at c) (length (with-head c) - at c) (with-head c))
+text_fits : (c : tie.After-write_head-head) → length (text (begin c)) ≤ length (mid_of (at c) (length (with_head c) - at c) (with_head c))
 text_fits c = omega (arith, lent_length (head_written c) (at c) (at_length c), space (begin c), c.write_head-head.ensures.0)
 
 -- the buffer with the manifest
@@ -79,7 +79,7 @@ abbrev headed : tie.After-copy → tie.After-write_head-head
 headed c = c.before.before.before.before
 
 abbrev whole : tie.After-copy → List ℕ
-whole c = let h = headed c in put_mid (at h) (length (with-head h) - at h) (with-head h) c.copy.new.out
+whole c = let h = headed c in put_mid (at h) (length (with_head h) - at h) (with_head h) c.copy.new.out
 
 all_written : (c : tie.After-copy) → let a = begin (headed c) in Writes (buffer a) (whole c) ((first a ++ head a) ++ text a)
 all_written c =

@@ -27,28 +27,28 @@ start l = l.before.before.before.before.before
 abbrev head : tie.After-r-1 invariant-loop decreases-loop → tie.At-loop-i invariant-loop decreases-loop
 head c = c.before.before
 
-abbrev at-record : tie.After-check_with invariant-loop decreases-loop → tie.After-r-1 invariant-loop decreases-loop
-at-record k = k.before.before.before.before
+abbrev at_record : tie.After-check_with invariant-loop decreases-loop → tie.After-r-1 invariant-loop decreases-loop
+at_record k = k.before.before.before.before
 
 fits : (a : tie.Start invariant-loop decreases-loop) → a.args.v.count ≤ length a.args.v.records
 fits a = omega (arith, records_size a.args.v a.well_formed.1.0, a.requires.0.few)
 
 -- the record at the index
-abbrev the-record : tie.After-r-1 invariant-loop decreases-loop → Record
-the-record c = get_or (start (head c)).args.v.records (head c).loop-i.i no_record
+abbrev the_record : tie.After-r-1 invariant-loop decreases-loop → Record
+the_record c = get_or (start (head c)).args.v.records (head c).loop-i.i no_record
 
-is_in : (c : tie.After-r-1 invariant-loop decreases-loop) → RecordIn (start (head c)).args.b.now (the-record c)
+is_in : (c : tie.After-r-1 invariant-loop decreases-loop) → RecordIn (start (head c)).args.b.now (the_record c)
 is_in c = (start (head c)).requires.0.each (head c).loop-i.i c.loop-i-test.true
 
 answers : (c : tie.After-check_with invariant-loop decreases-loop)
-    → let r = at-record c in Answers (text_at (start (head r)).args.b.now (the-record r)) c.check_with.result
+    → let r = at_record c in Answers (text_at (start (head r)).args.b.now (the_record r)) c.check_with.result
 unfolding between
 answers c = c.check_with.ensures
 
 -- a place is free
-free : (c : tie.Else-not-canonical invariant-loop decreases-loop) → (head (at-record c.before.before.before.before.before.before)).loop-i.i < 64
+free : (c : tie.Else-not-canonical invariant-loop decreases-loop) → (head (at_record c.before.before.before.before.before.before)).loop-i.i < 64
 free c =
-    let r = at-record c.before.before.before.before.before.before in
+    let r = at_record c.before.before.before.before.before.before in
     omega (arith, r.loop-i-test.true, (start (head r)).requires.0.few)
 
 loop-i-init : tie.Need-loop-i-init invariant-loop decreases-loop
@@ -76,15 +76,15 @@ check_with-requires c κs =
     record { space = omega (arith, l.loop-i.invariant.1, p.space); sorting = omega (arith, l.loop-i.invariant.1, l.loop-i.invariant.2, p.sorting) }
 
 shape_of-names-in-Refused : tie.Need-shape_of-names-in-Refused invariant-loop decreases-loop
-shape_of-names-in-Refused c = let k = c.before.before.before.before.before in omega (arith, (head (at-record k)).loop-i.invariant.1, k.check_with.auto.names)
+shape_of-names-in-Refused c = let k = c.before.before.before.before.before in omega (arith, (head (at_record k)).loop-i.invariant.1, k.check_with.auto.names)
 
 shape_of-spare-in-Refused : tie.Need-shape_of-spare-in-Refused invariant-loop decreases-loop
-shape_of-spare-in-Refused c = let k = c.before.before.before.before.before in omega (arith, (head (at-record k)).loop-i.invariant.2, k.check_with.auto.spare)
+shape_of-spare-in-Refused c = let k = c.before.before.before.before.before in omega (arith, (head (at_record k)).loop-i.invariant.2, k.check_with.auto.spare)
 
 returns-in-Refused : tie.Need-returns-in-Refused invariant-loop decreases-loop
 returns-in-Refused c =
     let k = c.before.before.before.before.before in
-    let r = at-record k in
+    let r = at_record k in
     let l = head r in
     let a = start l in
     found_unfit a.args.b.now a.args.v (fits a) l.loop-i.places l.loop-i.i l.loop-i.invariant.0 r.loop-i-test.true
@@ -93,17 +93,17 @@ returns-in-Refused c =
 shape_of-names-then-not-canonical : tie.Need-shape_of-names-then-not-canonical invariant-loop decreases-loop
 shape_of-names-then-not-canonical c =
     let k = c.before.before.before.before.before.before in
-    omega (arith, (head (at-record k)).loop-i.invariant.1, k.check_with.auto.names)
+    omega (arith, (head (at_record k)).loop-i.invariant.1, k.check_with.auto.names)
 
 shape_of-spare-then-not-canonical : tie.Need-shape_of-spare-then-not-canonical invariant-loop decreases-loop
 shape_of-spare-then-not-canonical c =
     let k = c.before.before.before.before.before.before in
-    omega (arith, (head (at-record k)).loop-i.invariant.2, k.check_with.auto.spare)
+    omega (arith, (head (at_record k)).loop-i.invariant.2, k.check_with.auto.spare)
 
 returns-then-not-canonical : tie.Need-returns-then-not-canonical invariant-loop decreases-loop
 returns-then-not-canonical c =
     let k = c.before.before.before.before.before.before in
-    let r = at-record k in
+    let r = at_record k in
     let l = head r in
     let a = start l in
     found_unfit a.args.b.now a.args.v (fits a) l.loop-i.places l.loop-i.i l.loop-i.invariant.0 r.loop-i-test.true
@@ -119,13 +119,13 @@ overflow_add-i : tie.Need-overflow_add-i invariant-loop decreases-loop
 overflow_add-i c = omega (arith, free c)
 
 loop-i-smaller : tie.Need-loop-i-smaller invariant-loop decreases-loop
-loop-i-smaller c = omega (arith, (at-record c.before.before.before.before.before.before).loop-i-test.true)
+loop-i-smaller c = omega (arith, (at_record c.before.before.before.before.before.before).loop-i-test.true)
 
 loop-i-preserved : tie.Need-loop-i-preserved invariant-loop decreases-loop
 loop-i-preserved c =
     let k = c.before.before.before.before.before.before in
     let g = c.in-Good.is in
-    let r = at-record k in
+    let r = at_record k in
     let l = head r in
     let a = start l in (
       one_opened a.args.b.now a.args.v (fits a) l.loop-i.places l.loop-i.i l.loop-i.invariant.0 r.loop-i-test.true

@@ -10,14 +10,14 @@ use Rattle.store_record.proofs.body.Statement.{statement}
 use Rattle.store_record.proofs.body.Tie as tie
 
 -- what the algorithm was read from, and the byte that it has
-abbrev read-from : tie.After-digest_bytes-n → tie.After-from_byte
-read-from n = n.before.before
+abbrev read_from : tie.After-digest_bytes-n → tie.After-from_byte
+read_from n = n.before.before
 
 abbrev entry : tie.After-digest_bytes-n → tie.Start
-entry n = (read-from n).before.before.before.before
+entry n = (read_from n).before.before.before.before
 
 known : (n : tie.After-digest_bytes-n) → numbered (get_or (entry n).args.s.now (entry n).args.i 0) ≡ Is n.in-Is.algorithm
-known n = sym (read-from n).from_byte.ensures ∙ n.in-Is.is
+known n = sym (read_from n).from_byte.ensures ∙ n.in-Is.is
 
 returns-then-i-end : tie.Need-returns-then-i-end
 returns-then-i-end c =
@@ -27,7 +27,7 @@ returns-then-end-signer : tie.Need-returns-then-end-signer
 returns-then-end-signer c =
     let n = c.before in
     let a = entry n in
-    cut_body a.args.s.now a.args.i a.args.end a.requires.0 a.requires.1 (read-from n).if-i-end.false _ (known n) _
+    cut_body a.args.s.now a.args.i a.args.end a.requires.0 a.requires.1 (read_from n).if-i-end.false _ (known n) _
     n.digest_bytes-n.ensures.0 (omega (arith, c.if-end-signer.true))
 
 returns-in-Unknown : tie.Need-returns-in-Unknown
@@ -42,7 +42,7 @@ returns-else-end-signer : tie.Need-returns-else-end-signer
 returns-else-end-signer c =
     let n = c.before in
     let a = entry n in
-    whole_body a.args.s.now a.args.i a.args.end a.requires.0 a.requires.1 (read-from n).if-i-end.false _ (known n) _
+    whole_body a.args.s.now a.args.i a.args.end a.requires.0 a.requires.1 (read_from n).if-i-end.false _ (known n) _
     n.digest_bytes-n.ensures.0 (omega (arith, c.if-end-signer.false))
 
 pub body_spec : {M : Type 1} → statement M

@@ -138,12 +138,12 @@ write-array-sub-read-item t c = omega (arith, c.loop-value.invariant.0.some)
 write-array-read-item-requires : (t : ℕ) → In-array t write-array-lts.Need-read_item-requires
 write-array-read-item-requires t c κs = Arrays.items_left c.loop-value.invariant.0
 
-abbrev array-entry : (t : ℕ) → In-array t write-array-lts.At-loop-value → In-array t write-array-lts.Start
-array-entry t l = l.before.before.before.before.before
+abbrev array_entry : (t : ℕ) → In-array t write-array-lts.At-loop-value → In-array t write-array-lts.Start
+array_entry t l = l.before.before.before.before.before
 
 -- what is left is an element and others
 element_given : (t : ℕ) (c : In-array t write-array-lts.In-At)
-    → let l = c.before.before in let a = (array-entry t l).args in let g = c.in-At in
+    → let l = c.before.before in let a = (array_entry t l).args in let g = c.in-At in
     GivesItem a.s.now l.loop-value.i (a.depth - 1) false l.loop-value.invariant.0.trees l.loop-value.invariant.0.rest (At g.first g.value g.next)
 element_given t c =
     let d = c.before in
@@ -179,7 +179,7 @@ write-array-write-value-requires t c κs =
     let p = l.loop-value.invariant.0 in
     let w = d.separate-n.ensures.1 _ _ p.size p.written in
     let e = Arrays.element p _ _ _ (element_given t k) _ _ d.separate-n.ensures.0 w in
-    (omega (arith, (array-entry t l).requires.0, p.some), e _ _ l.loop-value.invariant.1 l.loop-value.invariant.2)
+    (omega (arith, (array_entry t l).requires.0, p.some), e _ _ l.loop-value.invariant.1 l.loop-value.invariant.2)
 
 write-array-add-n : (t : ℕ) → In-array t write-array-lts.Need-overflow_add-n
 write-array-add-n t c =
@@ -188,7 +188,7 @@ write-array-add-n t c =
     let k = d.before.before in
     let l = k.before.before in
     let p = l.loop-value.invariant.0 in
-    let b = array-entry t l in
+    let b = array_entry t l in
     let w = d.separate-n.ensures.1 _ _ p.size p.written in
     let f = Arrays.next_fits p _ _ _ (element_given t k) _ _ d.separate-n.ensures.0 w _ _ e.write_value-n.ensures in
     omega (arith, f, length-set b.args.out.now 0 0x5B, b.well_formed)
@@ -215,7 +215,7 @@ write-array-loop-again t c =
 
 -- nothing is left
 elements_ended : (t : ℕ) (c : In-array t write-array-lts.In-End)
-    → let l = c.before.before in let a = (array-entry t l).args in
+    → let l = c.before.before in let a = (array_entry t l).args in
     GivesItem a.s.now l.loop-value.i (a.depth - 1) false l.loop-value.invariant.0.trees l.loop-value.invariant.0.rest (End c.in-End.field-0)
 elements_ended t c =
     let d = c.before in
@@ -231,13 +231,13 @@ write-array-add-result : (t : ℕ) → In-array t write-array-lts.Need-overflow_
 write-array-add-result t c =
     let l = c.before.before in
     let p = l.loop-value.invariant.0 in
-    let b = array-entry t l in
+    let b = array_entry t l in
     omega (arith, Arrays.end_fits p _ (elements_ended t c), Written.same_length p.written, length-set b.args.out.now 0 0x5B, b.well_formed)
 
 write-array-same-length : (t : ℕ) → In-array t write-array-lts.Need-shape_of-out-in-End
 write-array-same-length t c =
     let l = c.before.before in
-    simp length-set (Written.same_length l.loop-value.invariant.0.written ∙ length-set (array-entry t l).args.out.now 0 0x5B)
+    simp length-set (Written.same_length l.loop-value.invariant.0.written ∙ length-set (array_entry t l).args.out.now 0 0x5B)
 
 write-array-same-length-2 : (t : ℕ) → In-array t write-array-lts.Need-shape_of-keys-in-End
 write-array-same-length-2 t c = c.loop-value.invariant.1
@@ -335,13 +335,13 @@ write-members-slice-write-out t c = Objects.mark_fits c.requires.1
 write-members-loop-holds : (t : ℕ) → In-members t write-members-lts.Need-loop-i-init
 write-members-loop-holds t c = (Objects.started c.requires.1, omega arith, refl)
 
-abbrev members-entry : (t : ℕ) → In-members t write-members-lts.At-loop-i → In-members t write-members-lts.Start
-members-entry t l = l.before.before.before.before.before
+abbrev members_entry : (t : ℕ) → In-members t write-members-lts.At-loop-i → In-members t write-members-lts.Start
+members_entry t l = l.before.before.before.before.before
 
 write-members-mul-key : (t : ℕ) → In-members t write-members-lts.Need-offset_bounds-keys-i
 write-members-mul-key t c =
     let l = c.before in
-    omega (arith, l.loop-i.invariant.0.within, l.loop-i.invariant.0.same, (members-entry t l).well_formed)
+    omega (arith, l.loop-i.invariant.0.within, l.loop-i.invariant.0.same, (members_entry t l).well_formed)
 
 write-members-slice-read-key : (t : ℕ) → In-members t write-members-lts.Need-bounds-keys-i
 write-members-slice-read-key t c = omega (arith, c.loop-i.invariant.0.within)
@@ -372,7 +372,7 @@ write-members-part-write-member-start t c = write-members-sub-write-member-2 t c
 write-members-mul-write-member : (t : ℕ) → In-members t write-members-lts.Need-offset_bounds-keys-count
 write-members-mul-write-member t c =
     let l = c.before.before.before.before.before.before.before in
-    omega (arith, l.loop-i.invariant.0.within, l.loop-i.invariant.0.same, (members-entry t l).well_formed)
+    omega (arith, l.loop-i.invariant.0.within, l.loop-i.invariant.0.same, (members_entry t l).well_formed)
 
 write-members-sub-write-member-3 : (t : ℕ) → In-members t write-members-lts.Need-slice_bounds-write_member-count-in-loop-i
 write-members-sub-write-member-3 t c = c.loop-i.invariant.0.within
@@ -388,7 +388,7 @@ write-members-write-member-requires t c κs =
     let p = l.loop-i.invariant.0 in
     let w = d.separate-n.ensures.1 _ _ p.size p.written in
     let e = Objects.member p n.loop-i-test.true _ _ d.separate-n.ensures.0 w in
-    (omega (arith, (members-entry t l).requires.0, p.some), e _ l.loop-i.invariant.2)
+    (omega (arith, (members_entry t l).requires.0, p.some), e _ l.loop-i.invariant.2)
 
 write-members-add-n : (t : ℕ) → In-members t write-members-lts.Need-overflow_add-n
 write-members-add-n t c =
@@ -397,7 +397,7 @@ write-members-add-n t c =
     let n = d.before.before.before in
     let l = n.before in
     let p = l.loop-i.invariant.0 in
-    let b = members-entry t l in
+    let b = members_entry t l in
     let w = d.separate-n.ensures.1 _ _ p.size p.written in
     let f = Objects.next_fits p n.loop-i-test.true _ _ d.separate-n.ensures.0 w _ _ e.write_member-n.ensures in
     omega (arith, f, length-set b.args.out.now 0 0x7B, b.well_formed)
@@ -405,7 +405,7 @@ write-members-add-n t c =
 write-members-add-i : (t : ℕ) → In-members t write-members-lts.Need-overflow_add-i
 write-members-add-i t c =
     let l = c.before.before.before.before.before.before.before.before.before.before.before.before.before.before.before.before in
-    omega (arith, l.loop-i.invariant.0.within, l.loop-i.invariant.0.same, (members-entry t l).well_formed)
+    omega (arith, l.loop-i.invariant.0.within, l.loop-i.invariant.0.same, (members_entry t l).well_formed)
 
 write-members-loop-less : (t : ℕ) → In-members t write-members-lts.Need-loop-i-smaller
 write-members-loop-less t c =
@@ -432,12 +432,12 @@ write-members-slice-write-out-2 t c = Objects.end_fits c.loop-i.invariant.0 c.lo
 write-members-add-result : (t : ℕ) → In-members t write-members-lts.Need-overflow_add-result
 write-members-add-result t c =
     let p = c.loop-i.invariant.0 in
-    let b = members-entry t c.before in
+    let b = members_entry t c.before in
     omega (arith, Objects.end_fits p c.loop-i-test.false, Written.same_length p.written, length-set b.args.out.now 0 0x7B, b.well_formed)
 
 write-members-same-length : (t : ℕ) → In-members t write-members-lts.Need-shape_of-out
 write-members-same-length t c =
-    let b = members-entry t c.before in
+    let b = members_entry t c.before in
     simp length-set (Written.same_length c.loop-i.invariant.0.written ∙ length-set b.args.out.now 0 0x7B)
 
 write-members-same-length-2 : (t : ℕ) → In-members t write-members-lts.Need-shape_of-keys

@@ -161,19 +161,19 @@ array-loop-holds t c =
     let h = c.stands.ensures.1 c.if-stands.false in
     (arrays.start a.s.now a.at a.depth _ c.skip_spaces-i.ensures h, refl, refl)
 
-abbrev array-entry : (t : ℕ) → In-array t array-lts.At-loop-f → In-array t array-lts.Start
-array-entry t l = l.before.before.before.before.before.before.before
+abbrev array_entry : (t : ℕ) → In-array t array-lts.At-loop-f → In-array t array-lts.Start
+array_entry t l = l.before.before.before.before.before.before.before
 
-abbrev value-loop : (t : ℕ) → In-array t array-lts.After-inner → In-array t array-lts.At-loop-f
-value-loop t v = v.before.before.before
+abbrev value_loop : (t : ℕ) → In-array t array-lts.After-inner → In-array t array-lts.At-loop-f
+value_loop t v = v.before.before.before
 
-abbrev told-loop : (t : ℕ) → In-array t array-lts.In-Value → In-array t array-lts.At-loop-f
-told-loop t k = k.before.before.before.before.before.before.before.before
+abbrev told_loop : (t : ℕ) → In-array t array-lts.In-Value → In-array t array-lts.At-loop-f
+told_loop t k = k.before.before.before.before.before.before.before.before
 
 array-inner-requires : (t : ℕ) → In-array t array-lts.Need-inner-requires
 array-inner-requires t c κs =
     let l = c.before.before in
-    let b = (array-entry t l).requires in
+    let b = (array_entry t l).requires in
     let p = l.loop-f.invariant in (
       omega (arith, b.0),
       record {
@@ -185,10 +185,10 @@ array-inner-requires t c κs =
     )
 
 -- both arrays of keys are as long as they were
-array_kept : (t : ℕ) (v : In-array t array-lts.After-inner) → let a = (array-entry t (value-loop t v)).args in
+array_kept : (t : ℕ) (v : In-array t array-lts.After-inner) → let a = (array_entry t (value_loop t v)).args in
     (length v.inner.new.keys ≡ length a.keys.now) × (length v.inner.new.spare ≡ length a.spare.now)
 array_kept t v =
-    let p = (value-loop t v).loop-f.invariant in
+    let p = (value_loop t v).loop-f.invariant in
     (v.inner.auto.keys ∙ p.1, v.inner.auto.spare ∙ p.2)
 
 array-same-length : (t : ℕ) → In-array t array-lts.Need-shape_of-keys-in-Stuck
@@ -200,22 +200,22 @@ array-same-length-2 t c = (array_kept t c.before.before.before.before.before).1
 array-returns-2 : (t : ℕ) → In-array t array-lts.Need-returns-in-Stuck
 array-returns-2 t c =
     let v = c.before.before.before.before.before in
-    arrays.stuck_element (value-loop t v).loop-f.invariant.0 _ (rw c.in-Stuck.is at v.inner.ensures)
+    arrays.stuck_element (value_loop t v).loop-f.invariant.0 _ (rw c.in-Stuck.is at v.inner.ensures)
 
 -- the element that was read
-element : (t : ℕ) (c : In-array t array-lts.In-Value) → let l = told-loop t c in let a = (array-entry t l).args in
+element : (t : ℕ) (c : In-array t array-lts.In-Value) → let l = told_loop t c in let a = (array_entry t l).args in
     IsValue a.s.now (read a.depth (drop l.loop-f.i a.s.now)) c.in-Value.f
 element t c =
-    let l = told-loop t c in
-    let a = (array-entry t l).args in
+    let l = told_loop t c in
+    let a = (array_entry t l).args in
     scans_value a.s.now (read a.depth (drop l.loop-f.i a.s.now)) c.in-Value.f
     (rw c.in-Value.is at c.inner.ensures)
 
 array-added-requires : (t : ℕ) → In-array t array-lts.Need-added-sum-requires
 array-added-requires t c κs =
     let k = c.before in
-    let l = told-loop t k in
-    omega (arith, arrays.fits l.loop-f.invariant.0 (element t k), (element t k).within, (array-entry t l).requires.1.short)
+    let l = told_loop t k in
+    omega (arith, arrays.fits l.loop-f.invariant.0 (element t k), (element t k).within, (array_entry t l).requires.1.short)
 
 array-after-item-requires : (t : ℕ) → In-array t array-lts.Need-after_item-requires
 array-after-item-requires t c κs = (element t c.before.before).within
@@ -223,8 +223,8 @@ array-after-item-requires t c κs = (element t c.before.before).within
 array-returns-3 : (t : ℕ) → In-array t array-lts.Need-returns-in-End
 array-returns-3 t c =
     let k = c.before.before.before.before in
-    let l = told-loop t k in
-    let a = (array-entry t l).args in
+    let l = told_loop t k in
+    let a = (array_entry t l).args in
     let x = read_array a.depth (drop a.at a.s.now) in
     let e = c.added-sum.ensures in
     subst (λ (y : Summary). ScansValue a.s.now x (Value (record { end = c.in-End.end; count = 0; sum = y }))) (sym e)
@@ -234,13 +234,13 @@ array-loop-less : (t : ℕ) → In-array t array-lts.Need-loop-f-smaller
 array-loop-less t c =
     let k = c.before.before.before.before in
     let w = rw c.in-More.is at c.after_item.ensures in
-    omega (arith, arrays.later (told-loop t k).loop-f.invariant.0 (element t k), w.0, w.1)
+    omega (arith, arrays.later (told_loop t k).loop-f.invariant.0 (element t k), w.0, w.1)
 
 array-loop-again : (t : ℕ) → In-array t array-lts.Need-loop-f-preserved
 array-loop-again t c =
     let k = c.before.before.before.before in
-    let l = told-loop t k in
-    let a = (array-entry t l).args in
+    let l = told_loop t k in
+    let a = (array_entry t l).args in
     let w = rw c.in-More.is at c.after_item.ensures in
     let p = arrays.goes_on l.loop-f.invariant.0 (element t k) _ w in
     let m = array_kept t c.before.before.before.before.before.before.before.before.before in
@@ -249,7 +249,7 @@ array-loop-again t c =
 array-returns-4 : (t : ℕ) → In-array t array-lts.Need-returns-in-Stuck-after_item
 array-returns-4 t c =
     let k = c.before.before.before.before in
-    arrays.sticks (told-loop t k).loop-f.invariant.0 (element t k) _ (rw c.in-Stuck-after_item.is at c.after_item.ensures)
+    arrays.sticks (told_loop t k).loop-f.invariant.0 (element t k) _ (rw c.in-Stuck-after_item.is at c.after_item.ensures)
 
 abbrev object-Inv-loop : object-lts.invariant-loop-end
 object-Inv-loop s at depth keys₀ spare₀ i₀ sum₀ n₀ keys spare i sum n =
@@ -303,48 +303,48 @@ object-returns-2 t c =
     let k = rw c.in-NoToken.is at c.key.ensures in
     (objects.stuck_key c.loop-end.invariant.0 _ k.1, tt)
 
-abbrev object-entry : (t : ℕ) → In-object t object-lts.At-loop-end → In-object t object-lts.Start
-object-entry t l = l.before.before.before.before.before.before.before
+abbrev object_entry : (t : ℕ) → In-object t object-lts.At-loop-end → In-object t object-lts.Start
+object_entry t l = l.before.before.before.before.before.before.before
 
-abbrev name-loop : (t : ℕ) → In-object t object-lts.After-mark → In-object t object-lts.At-loop-end
-name-loop t m = m.before.before.before
+abbrev name_loop : (t : ℕ) → In-object t object-lts.After-mark → In-object t object-lts.At-loop-end
+name_loop t m = m.before.before.before
 
-abbrev stored-loop : (t : ℕ) → In-object t object-lts.After-inner → In-object t object-lts.At-loop-end
-stored-loop t v = v.before.before.before.before.before.before
+abbrev stored_loop : (t : ℕ) → In-object t object-lts.After-inner → In-object t object-lts.At-loop-end
+stored_loop t v = v.before.before.before.before.before.before
 
-abbrev part-mark : (t : ℕ) → In-object t object-lts.In-Value → In-object t object-lts.After-mark
-part-mark t k = k.before.before.before.before.before.before.before.before
+abbrev part_mark : (t : ℕ) → In-object t object-lts.In-Value → In-object t object-lts.After-mark
+part_mark t k = k.before.before.before.before.before.before.before.before
 
 -- the keys so far are few: a member has four bytes at least
 few_keys : (t : ℕ) (l : In-object t object-lts.At-loop-end) → l.loop-end.n ≤ 4096
 few_keys t l =
     let p = l.loop-end.invariant.0 in
-    omega (arith, length-take-le l.loop-end.n l.loop-end.keys l.loop-end.invariant.1, p.from, p.within, (object-entry t l).requires.1.0.short)
+    omega (arith, length-take-le l.loop-end.n l.loop-end.keys l.loop-end.invariant.1, p.from, p.within, (object_entry t l).requires.1.0.short)
 
 -- the array of keys is as long as at the start
-space_left : (t : ℕ) (l : In-object t object-lts.At-loop-end) → let a = (object-entry t l).args in
+space_left : (t : ℕ) (l : In-object t object-lts.At-loop-end) → let a = (object_entry t l).args in
     length a.s.now < a.at + 4 * length l.loop-end.keys
-space_left t l = omega (arith, (object-entry t l).requires.1.1, l.loop-end.invariant.2)
+space_left t l = omega (arith, (object_entry t l).requires.1.1, l.loop-end.invariant.2)
 
 -- the key that was read
-name : (t : ℕ) (m : In-object t object-lts.After-mark) → let l = name-loop t m in let g = m.in-Token in
-    objects.IsName (object-entry t l).args.s.now l.loop-end.i g.end m.mark.result g.size
+name : (t : ℕ) (m : In-object t object-lts.After-mark) → let l = name_loop t m in let g = m.in-Token in
+    objects.IsName (object_entry t l).args.s.now l.loop-end.i g.end m.mark.result g.size
 name t m =
-    let l = name-loop t m in
+    let l = name_loop t m in
     let k = rw m.in-Token.is at m.key.ensures in
-    objects.token_name (object-entry t l).args.s.now l.loop-end.i _ _ _ _ k.0 k.1 m.mark.ensures
+    objects.token_name (object_entry t l).args.s.now l.loop-end.i _ _ _ _ k.0 k.1 m.mark.ensures
 
 -- there is a place for it
-free : (t : ℕ) (m : In-object t object-lts.After-mark) → (name-loop t m).loop-end.n < length (name-loop t m).loop-end.keys
+free : (t : ℕ) (m : In-object t object-lts.After-mark) → (name_loop t m).loop-end.n < length (name_loop t m).loop-end.keys
 free t m =
-    let l = name-loop t m in
+    let l = name_loop t m in
     let k = objects.key_space l.loop-end.invariant.0 (name t m) (length l.loop-end.keys) (space_left t l) in
     omega (arith, length-take-le l.loop-end.n l.loop-end.keys l.loop-end.invariant.1, k)
 
 object-cast-keys : (t : ℕ) → In-object t object-lts.Need-overflow_cast-keys
 object-cast-keys t c =
-    let l = name-loop t c in
-    omega (arith, l.loop-end.invariant.0.within, (object-entry t l).requires.1.0.short)
+    let l = name_loop t c in
+    omega (arith, l.loop-end.invariant.0.within, (object_entry t l).requires.1.0.short)
 
 object-mul-keys : (t : ℕ) → In-object t object-lts.Need-offset_bounds-keys-n
 object-mul-keys t c = omega (arith, few_keys t c.before.before.before)
@@ -367,8 +367,8 @@ object-part-inner-start t c = simp length-set (omega (arith, free t c))
 object-inner-requires : (t : ℕ) → In-object t object-lts.Need-inner-requires
 object-inner-requires t c κs =
     let m = c.before.before in
-    let l = name-loop t m in
-    let b = (object-entry t l).requires in
+    let l = name_loop t m in
+    let b = (object_entry t l).requires in
     let n = length-take-le l.loop-end.n l.loop-end.keys l.loop-end.invariant.1 in
     let e = objects.lent_length l.loop-end.keys l.loop-end.n l.loop-end.i (free t m) in (
       omega (arith, b.0),
@@ -381,34 +381,34 @@ object-inner-requires t c κs =
     )
 
 -- the array of keys once the member's value was read
-abbrev keys-after : (t : ℕ) → In-object t object-lts.After-inner → List ℕ
-keys-after t v = let l = (stored-loop t v).loop-end in objects.with_key l.keys l.n l.i v.inner.new.keys
+abbrev keys_after : (t : ℕ) → In-object t object-lts.After-inner → List ℕ
+keys_after t v = let l = (stored_loop t v).loop-end in objects.with_key l.keys l.n l.i v.inner.new.keys
 
 -- both arrays of keys are as long as they were
-keys_kept : (t : ℕ) (v : In-object t object-lts.After-inner) → length (keys-after t v) ≡ length (stored-loop t v).loop-end.keys
+keys_kept : (t : ℕ) (v : In-object t object-lts.After-inner) → length (keys_after t v) ≡ length (stored_loop t v).loop-end.keys
 keys_kept t v =
-    let l = (stored-loop t v).loop-end in
+    let l = (stored_loop t v).loop-end in
     objects.stored_length l.keys l.n l.i (free t v.before.before.before) v.inner.new.keys v.inner.auto.keys
 
-object_kept : (t : ℕ) (v : In-object t object-lts.After-inner) → let a = (object-entry t (stored-loop t v)).args in
-    (length (keys-after t v) ≡ length a.keys.now) × (length v.inner.new.spare ≡ length a.spare.now)
+object_kept : (t : ℕ) (v : In-object t object-lts.After-inner) → let a = (object_entry t (stored_loop t v)).args in
+    (length (keys_after t v) ≡ length a.keys.now) × (length v.inner.new.spare ≡ length a.spare.now)
 object_kept t v =
-    let p = (stored-loop t v).loop-end.invariant in
+    let p = (stored_loop t v).loop-end.invariant in
     (keys_kept t v ∙ p.2, v.inner.auto.spare ∙ p.3)
 
 -- the keys so far are those before, and the member's
-keys_stored : (t : ℕ) (v : In-object t object-lts.After-inner) → let l = (stored-loop t v).loop-end in
-    take (l.n + 1) (keys-after t v) ≡ take l.n l.keys ++ (l.i ∷ [])
+keys_stored : (t : ℕ) (v : In-object t object-lts.After-inner) → let l = (stored_loop t v).loop-end in
+    take (l.n + 1) (keys_after t v) ≡ take l.n l.keys ++ (l.i ∷ [])
 keys_stored t v =
-    let l = (stored-loop t v).loop-end in
+    let l = (stored_loop t v).loop-end in
     objects.stored_keys l.keys l.n l.i (free t v.before.before.before) v.inner.new.keys v.inner.auto.keys
 
 -- how many they are
-count_stored : (t : ℕ) (v : In-object t object-lts.After-inner) → let l = (stored-loop t v).loop-end in
-    length (take (l.n + 1) (keys-after t v)) ≡ l.n + 1
+count_stored : (t : ℕ) (v : In-object t object-lts.After-inner) → let l = (stored_loop t v).loop-end in
+    length (take (l.n + 1) (keys_after t v)) ≡ l.n + 1
 count_stored t v =
-    let l = (stored-loop t v).loop-end in
-    length-take-le (l.n + 1) (keys-after t v) (omega (arith, keys_kept t v, free t v.before.before.before))
+    let l = (stored_loop t v).loop-end in
+    length-take-le (l.n + 1) (keys_after t v) (omega (arith, keys_kept t v, free t v.before.before.before))
 
 object-same-length-3 : (t : ℕ) → In-object t object-lts.Need-shape_of-keys-in-Stuck
 object-same-length-3 t c = (object_kept t c.before.before.before.before.before).0
@@ -419,32 +419,32 @@ object-same-length-4 t c = (object_kept t c.before.before.before.before.before).
 object-returns-3 : (t : ℕ) → In-object t object-lts.Need-returns-in-Stuck
 object-returns-3 t c =
     let v = c.before.before.before.before.before in
-    (objects.stuck_value (stored-loop t v).loop-end.invariant.0 (name t v.before.before.before) _ (rw c.in-Stuck.is at v.inner.ensures), tt)
+    (objects.stuck_value (stored_loop t v).loop-end.invariant.0 (name t v.before.before.before) _ (rw c.in-Stuck.is at v.inner.ensures), tt)
 
 -- the member's value that was read
 part : (t : ℕ) (c : In-object t object-lts.In-Value)
-    → let m = part-mark t c in let a = (object-entry t (name-loop t m)).args in
+    → let m = part_mark t c in let a = (object_entry t (name_loop t m)).args in
     IsValue a.s.now (read a.depth (drop m.in-Token.end a.s.now)) c.in-Value.f
 part t c =
-    let m = part-mark t c in
-    let a = (object-entry t (name-loop t m)).args in
+    let m = part_mark t c in
+    let a = (object_entry t (name_loop t m)).args in
     scans_value a.s.now (read a.depth (drop m.in-Token.end a.s.now)) c.in-Value.f
     (rw c.in-Value.is at c.inner.ensures)
 
 object-member-requires : (t : ℕ) → In-object t object-lts.Need-member-requires
 object-member-requires t c κs =
     let k = c.before in
-    let m = part-mark t k in
-    let l = name-loop t m in
-    omega (arith, objects.fits l.loop-end.invariant.0 (name t m) (part t k), (part t k).within, (object-entry t l).requires.1.0.short)
+    let m = part_mark t k in
+    let l = name_loop t m in
+    omega (arith, objects.fits l.loop-end.invariant.0 (name t m) (part t k), (part t k).within, (object_entry t l).requires.1.0.short)
 
 object-added-requires : (t : ℕ) → In-object t object-lts.Need-added-sum-requires
 object-added-requires t c κs =
     let k = c.before.before in
-    let m = part-mark t k in
-    let l = name-loop t m in
+    let m = part_mark t k in
+    let l = name_loop t m in
     let n = objects.member_size _ _ _ _ c.member.ensures in
-    omega (arith, n, objects.fits l.loop-end.invariant.0 (name t m) (part t k), (part t k).within, (object-entry t l).requires.1.0.short)
+    omega (arith, n, objects.fits l.loop-end.invariant.0 (name t m) (part t k), (part t k).within, (object_entry t l).requires.1.0.short)
 
 object-after-item-requires : (t : ℕ) → In-object t object-lts.Need-after_item-requires
 object-after-item-requires t c κs = (part t c.before.before.before).within
@@ -462,8 +462,8 @@ object-slice-aggregate-closed t c =
 object-closed-requires : (t : ℕ) → In-object t object-lts.Need-closed-requires
 object-closed-requires t c κs =
     let v = c.before.before.before.before.before.before.before.before.before.before.before.before in
-    let l = stored-loop t v in
-    let b = object-entry t l in (
+    let l = stored_loop t v in
+    let b = object_entry t l in (
       subst (KeysAt b.args.s.now) (sym (keys_stored t v)) (objects.keys_now l.loop-end.invariant.0 (name t v.before.before.before)),
       omega (arith, count_stored t v, free t v.before.before.before, (object_kept t v).1, l.loop-end.invariant.2, b.requires.1.0.sorting),
     )
@@ -472,7 +472,7 @@ object-same-length-5 : (t : ℕ) → In-object t object-lts.Need-shape_of-keys-i
 object-same-length-5 t c =
     let d = c.before.before.before.before in
     let v = d.before.before.before.before.before.before.before.before.before.before.before.before.before in
-    length_front _ d.closed.new.keys ((stored-loop t v).loop-end.n + 1) d.closed.auto.keys ∙ (object_kept t v).0
+    length_front _ d.closed.new.keys ((stored_loop t v).loop-end.n + 1) d.closed.auto.keys ∙ (object_kept t v).0
 
 object-same-length-6 : (t : ℕ) → In-object t object-lts.Need-shape_of-spare-in-End
 object-same-length-6 t c =
@@ -484,9 +484,9 @@ object-returns-4 : (t : ℕ) → In-object t object-lts.Need-returns-in-End
 object-returns-4 t c =
     let d = c.closed in
     let k = c.before.before.before.before.before.before.before.before.before.before.before.before in
-    let m = part-mark t k in
-    let l = name-loop t m in
-    let a = (object-entry t l).args in
+    let m = part_mark t k in
+    let l = name_loop t m in
+    let a = (object_entry t l).args in
     let p = l.loop-end.invariant.0 in
     let x = read_object a.depth (drop a.at a.s.now) in
     let e = keys_stored t k.before.before.before.before.before in
@@ -501,17 +501,17 @@ object-returns-4 t c =
 object-loop-less : (t : ℕ) → In-object t object-lts.Need-loop-end-smaller
 object-loop-less t c =
     let k = c.before.before.before.before.before in
-    let m = part-mark t k in
+    let m = part_mark t k in
     let w = rw c.in-More.is at c.after_item.ensures in
-    omega (arith, objects.later (name-loop t m).loop-end.invariant.0 (name t m) (part t k), (name t m).later, w.0, w.1)
+    omega (arith, objects.later (name_loop t m).loop-end.invariant.0 (name t m) (part t k), (name t m).later, w.0, w.1)
 
 object-loop-again : (t : ℕ) → In-object t object-lts.Need-loop-end-preserved
 object-loop-again t c =
     let k = c.before.before.before.before.before in
     let v = k.before.before.before.before.before in
-    let m = part-mark t k in
-    let l = name-loop t m in
-    let a = (object-entry t l).args in
+    let m = part_mark t k in
+    let l = name_loop t m in
+    let a = (object_entry t l).args in
     let w = rw c.in-More.is at c.after_item.ensures in
     let sum = c.added-sum.ensures ∙ ap (plus l.loop-end.sum) c.member.ensures in (
       subst₂ (objects.ObjectScanned a.s.now a.at a.depth _) (sym (keys_stored t v)) (sym sum)
@@ -524,9 +524,9 @@ object-loop-again t c =
 object-returns-5 : (t : ℕ) → In-object t object-lts.Need-returns-in-Stuck-after_item
 object-returns-5 t c =
     let k = c.before.before.before.before.before in
-    let m = part-mark t k in
+    let m = part_mark t k in
     let w = rw c.in-Stuck-after_item.is at c.after_item.ensures in
-    (objects.sticks (name-loop t m).loop-end.invariant.0 (name t m) (part t k) _ w, tt)
+    (objects.sticks (name_loop t m).loop-end.invariant.0 (name t m) (part t k) _ w, tt)
 
 -- a need or a place of `inner`, at the measure t
 abbrev In-inner : ℕ → (inner-lts.Claims → In 3 inner-kinds.ps → Out 3 inner-kinds.ps inner-kinds.r → Type 0) → Type 0
