@@ -16,7 +16,8 @@ INNER = re.compile(r"text_\w+")
 def crates(lines):
     """The crates of crates.txt, each with those that its line names."""
     named = (line.split("#")[0].split(":") for line in lines if line.split("#")[0].strip())
-    return {name.strip(): deps.split() for name, deps in named}
+    # a static library has that word after its name
+    return {name.split()[0]: deps.split() for name, deps in named}
 
 
 def definitions(specs):
@@ -33,7 +34,7 @@ def faults(listed, texts, shut):
             if INNER.fullmatch(dep):
                 yield "%s: crates.txt names %s, which is inside the text part" % (name, dep)
         for path, text in texts.get(name, {}).items():
-            for inner in re.findall(r"Rattle·(text_\w+)", text):
+            for inner in re.findall(r"Rattle\.(text_\w+)", text):
                 yield "%s: imports from %s, which is inside the text part" % (path, inner)
             for opened in re.findall(r"^\s*unfolding (.*)$", text, re.M):
                 for definition in set(opened.split()) & shut:
@@ -53,7 +54,7 @@ def selftest():
     shut = definitions(["unfoldable pub form : List\nform s = s\n"])
     assert shut == {"form"}
     listed = crates(["# layers", "store: text manifest"])
-    for text, count in (("use Rattle·text.specs.Answer.{form}", 0), ("use Rattle·text_json.specs.Read.{read}", 1), ("  unfolding all form", 1)):
+    for text, count in (("use Rattle.text.specs.Answer.{form}", 0), ("use Rattle.text_json.specs.Read.{read}", 1), ("  unfolding all form", 1)):
         assert len(list(faults(listed, {"store": {"a.antt": text}}, shut))) == count
     assert len(list(faults(crates(["policy: store text_json"]), {}, shut))) == 1
     assert not list(faults(crates(["manifest: text_json"]), {}, shut))
