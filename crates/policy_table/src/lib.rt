@@ -2,6 +2,8 @@
 #![tactic(auto)]
 
 ghost use Rattle.std.specs.Prelude.{◌≡◌, ◌+◌, ◌*◌, ◌^◌, ◌≤◌, ◌<◌, length};
+ghost use Rattle.manifest.specs.Opened.{Opens};
+ghost use Rattle.manifest.specs.Manifest.{rejects as rejects_by};
 ghost use Rattle.policy_marks.specs.Words.{row_of, guards_in, rows_in};
 ghost use Rattle.store_record.specs.Reading.{images_in};
 ghost use Rattle.store_names.specs.Opened.{OpenedStore};
@@ -11,6 +13,14 @@ use manifest::Places;
 use policy_marks::Table;
 use reference::ImageIndex;
 use store_record::{MOST_IMAGES, Survey};
+
+// The image of a manifest is a guard.
+fn rejects(manifest: &[u8], q: Places) -> bool
+    requires { Opens manifest.now q }
+    ensures { result ≡ rejects_by manifest.now }
+{
+    manifest::rejects(manifest, q)
+}
 
 // The guards, as a row of marks.
 fn guards(b: &[u8], v: Survey, places: [Places; MOST_IMAGES]) -> u64
@@ -27,7 +37,7 @@ fn guards(b: &[u8], v: Survey, places: [Places; MOST_IMAGES]) -> u64
         let end = y.end;
         let q = places[j];
         word *= 2;
-        if manifest::rejects(&b[start..end], q) {
+        if rejects(&b[start..end], q) {
             word += 1;
         }
     }

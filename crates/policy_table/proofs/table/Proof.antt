@@ -73,7 +73,7 @@ row-requires c κs =
     let t = c in
     let k = indexed t.before.before in
     let names = (placed k).place_all in
-    ((start t).requires.0, record { counts = names.new.counts; placed = names.ensures; index = k.index_all-n.ensures.2 }, t.loop-i-test.true)
+    ((start t).requires.0, record { counts = names.new.counts; placed = names.ensures; index = k.index_all-n.ensures.2 }, omega (arith, t.loop-i-test.true))
 
 offset_bounds-rows-i : tie.Need-offset_bounds-rows-i invariant-loop decreases-loop
 offset_bounds-rows-i c = omega (arith, few c.before)
