@@ -18,7 +18,8 @@ pub fn judge(store: &[u8], used: usize, report: &mut [u8]) -> Answer
     ensures { Reports (judge_number store.now used (length report.old)) (held_pairs store.now used)
         report.old result report.new }
 {
-    if store.len() < used {
+    let is_past = store.len() < used;
+    if is_past {
         return answer::refused(report, BROKEN);
     }
     let b = &store[..used];

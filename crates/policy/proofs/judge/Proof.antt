@@ -19,7 +19,7 @@ module _ (o : tie.After-open-opened) where
   start = o.before.before.before.before.before.before.before.before.before
 
   -- there are as many bytes as are said to be in use
-  abbrev within : tie.Else-store-used
+  abbrev within : tie.Else-is_past
   within = o.before.before.before.before.before.before
 
   small : (k : ℕ) → get_or start.args.store.now k 0 < 256
@@ -35,15 +35,15 @@ opening c = c.before.before.before.before.before.before.before
 opened : (c : tie.Else-not-opened) → let o = opening c in OpenedStore (bytes o) o.open-opened.result.survey o.open-opened.result.places
 opened c = (opening c).open-opened.ensures.1 (not-false _ c.if-not-opened.false)
 
-returns-then-store-used : tie.Need-returns-then-store-used
-returns-then-store-used c =
+returns-then-is_past : tie.Need-returns-then-is_past
+returns-then-is_past c =
     let t = c.before.before.before.before in
     let a = t.args in
     let r = c.refused.ensures in
-    refused_reports (sym (judge_past a.store.now a.used _ t.if-store-used.true)) (λ z. omega arith) r.0 r.1
+    refused_reports (sym (judge_past a.store.now a.used _ t.if-is_past.true)) (λ z. omega arith) r.0 r.1
 
 slice_bounds-b-end : tie.Need-slice_bounds-b-end
-slice_bounds-b-end c = sym (length-take-le _ _ c.if-store-used.false)
+slice_bounds-b-end c = sym (length-take-le _ _ c.if-is_past.false)
 
 open-opened-requires : tie.Need-open-opened-requires
 open-opened-requires c κs = (refl, record { names = record { space = omega arith; sorting = omega arith }; heads_space = omega arith; keys_space = omega arith })
@@ -54,7 +54,7 @@ returns-then-not-opened c =
     let o = t.before.before.before.before.before.before.before in
     let r = c.refused-then-not-opened.ensures in
     let b = not-false _ (sym o.open-opened.ensures.0 ∙ not-true _ t.if-not-opened.true) in
-    refused_reports (sym (judge_broken _ _ (within o).if-store-used.false (small o) _ b)) (λ z. omega arith) r.0 r.1
+    refused_reports (sym (judge_broken _ _ (within o).if-is_past.false (small o) _ b)) (λ z. omega arith) r.0 r.1
 
 table-table-requires : tie.Need-table-table-requires
 table-table-requires c κs =
@@ -72,7 +72,7 @@ returns c =
     let t = c.before.before.before.before.before.before.before in
     let e = t.before.before.before.before.before.before in
     let o = opening e in
-    let h = (within o).if-store-used.false in
+    let h = (within o).if-is_past.false in
     let i = (opened e).fills.images in
     let p = table_pairs t.table-table.result _ t.table-table.ensures.1 t.table-table.ensures.2 in
     reports_as
@@ -82,6 +82,6 @@ returns c =
 
 pub judge_spec : {M : Type 1} → statement M
 judge_spec =
-    tie.close (tie.spec (λ c κs. search rules) (λ c. search rules) returns-then-store-used slice_bounds-b-end (λ c. search rules) (λ c. search rules)
+    tie.close (tie.spec (λ c κs. search rules) (λ c. search rules) returns-then-is_past slice_bounds-b-end (λ c. search rules) (λ c. search rules)
     (λ c. search rules) (λ c. search rules) (λ c. search rules) open-opened-requires (λ c κs. search rules) (λ c. search rules) returns-then-not-opened
     (λ c. search rules) (λ c. search rules) (λ c. search rules) table-table-requires judge_table-requires (λ c. search rules) returns)

@@ -27,7 +27,7 @@ run_start-start-requires c κs = ((start c).requires.0, c.loop-m-test.true, c.lo
 meets-requires : tie.Need-meets-requires invariant-loop decreases-loop
 meets-requires c κs =
     let p = (start c.before).requires in
-    (λ i h. omega (arith, index_number p.0.index i h, p.1), p.2, c.run_start-start.ensures.within, c.loop-m-test.true)
+    (λ i h. omega (arith, index_number p.0.index i h, p.1), p.2, omega (arith, c.run_start-start.ensures.within), c.loop-m-test.true)
 
 returns-then-meets : tie.Need-returns-then-meets invariant-loop decreases-loop
 returns-then-meets c =
