@@ -3,7 +3,8 @@
 
 ghost use Rattle.std.specs.Prelude.{◌≡◌};
 
-// The number of document 01's table, 0 where the call is done; and the call's first value, as the length of its output.
+// The number of document 01's table, 0 where the call is done; and the call's first value, as the length of its output. A number and
+// no enum, since C is given it.
 #[derive(Clone, Copy)]
 pub struct Answer {
     pub number: usize,

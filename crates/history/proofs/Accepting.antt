@@ -1,9 +1,9 @@
 -- A good call whose image makes a sound store with those before it is accepted. Assumes nothing.
+use Rattle.std.specs.Prelude.{Some}
 use Prim.Native.Nat.{ℕ, ◌-◌, ◌≤◌, ◌<◌}
 use mathlib.Core.Path.{◌≡◌, refl, sym, ap, ◌∙◌}
 use mathlib.Core.List.{List, [], ◌∷◌, ◌++◌}
 use mathlib.Core.Bool.{Bool, false, ◌||◌}
-use mathlib.Core.Option.{some}
 use native.Mathlib.Omega.{arith}
 use borrow.Author.Tests.{lt-leb, le-ltb}
 use lib.ListN.{length, length-append}
@@ -88,6 +88,6 @@ module _ (size : ℕ) (xs : List Image) (c : Call) (g : Good c) (h : AllShaped x
   pub number_good : ledger_number size xs c ≡ 0
   unfolding ledger_number load_questions image_questions store_questions is_broken among
   number_good =
-      asked_after c.manifest (image_questions size (some xs) c.id c.manifest) g.manifest
+      asked_after c.manifest (image_questions size (Some xs) c.id c.manifest) g.manifest
       ∙ asked_none _ _ g.known
       (asked_none _ _ (sound_first size xs (image c ∷ []) e) (asked_none _ _ image_new (asked_none _ _ image_apart (asked_none _ _ image_fits nothing_asked))))

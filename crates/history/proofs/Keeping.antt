@@ -1,8 +1,8 @@
 -- A list of loads: the numbers are the ledger's, and the buffer keeps what the ledger has. Assumes nothing.
+use Rattle.std.specs.Prelude.{Some}
 use Prim.Native.Nat.{ℕ}
 use mathlib.Core.Path.{◌≡◌, refl}
 use mathlib.Core.List.{List, [], ◌∷◌}
-use mathlib.Core.Option.{some}
 use native.Mathlib.Omega.{arith}
 use lib.ListN.{length}
 use Rattle.laws.specs.Any.{any_of, any_pair}
@@ -54,7 +54,7 @@ module _ (lent : List ℕ) where
     stands_run = stands_from (start lent) [] stands_start calls
 
     -- The images that a buffer holds after a list of calls are the ledger.
-    pub run_held : held (run lent calls).buffer (run lent calls).used ≡ some (ledger (length lent) calls)
+    pub run_held : held (run lent calls).buffer (run lent calls).used ≡ Some (ledger (length lent) calls)
     run_held = stands_held lent (run lent calls) (ledger (length lent) calls) stands_run
 
     -- What a buffer keeps after a list of calls is what the ledger has, in a well-formed store.

@@ -1,9 +1,9 @@
 -- One load on a buffer that holds what the ledger has: its number is the ledger's, and so is what the buffer holds after it. Assumes nothing.
+use Rattle.std.specs.Prelude.{Some}
 use Prim.Native.Nat.{ℕ, ◌+◌, ◌≤◌}
 use mathlib.Core.Path.{◌≡◌, sym, ap, ◌∙◌}
 use mathlib.Core.List.{List, [], ◌∷◌, ◌++◌}
 use mathlib.Core.Bool.{false}
-use mathlib.Core.Option.{some}
 use native.Mathlib.Omega.{arith}
 use borrow.Author.Tests.{eqb-true, eqb-false, eq-eqb, ne_eqb}
 use lib.Dec.{eqb}
@@ -67,7 +67,7 @@ pub record Stands (lent : List ℕ) (s : State) (xs : List Image) : Type 0 where
 
 module _ (lent : List ℕ) (s : State) (xs : List Image) (h : Stands lent s xs) where
   -- Such a buffer is read as these images.
-  pub stands_held : held s.buffer s.used ≡ some xs
+  pub stands_held : held s.buffer s.used ≡ Some xs
   stands_held = holds_held s.buffer s.used xs h.holds
 
   module _ (c : Call) where

@@ -1,7 +1,6 @@
 -- The ledger of document 01 ("Demand 3, word by word"): a plain list of images, empty at first. It is fed the buffer's length and each call's
 -- Image ID and manifest, and no answers; no buffer and no record is in it.
-use Rattle.std.specs.Prelude.{ℕ, true, false, List, [], ◌∷◌, ◌++◌, eqb}
-use Rattle.std.proofs.Math.Option.{some}
+use Rattle.std.specs.Prelude.{ℕ, true, false, List, [], ◌∷◌, ◌++◌, eqb, Some}
 use Rattle.text.specs.Question.{lowest}
 use Rattle.store_record.specs.Image.{Image}
 use Rattle.store.specs.Load.{image_of, load_questions}
@@ -9,7 +8,7 @@ use Rattle.history.specs.Calls.{Call}
 
 -- the table gives the call a number, asked of a store of that length which holds just these images
 unfoldable pub ledger_number : ℕ → List Image → Call → ℕ
-ledger_number size xs c = lowest (load_questions size (some xs) c.id c.manifest)
+ledger_number size xs c = lowest (load_questions size (Some xs) c.id c.manifest)
 
 -- at 0 the image goes to the end; at any other number the ledger stays
 unfoldable pub ledger_after : ℕ → List Image → Call → List Image

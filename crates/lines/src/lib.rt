@@ -4,17 +4,16 @@
 ghost use Rattle.std.specs.Prelude.{◌≤◌, length};
 ghost use Rattle.lines.specs.First.{FirstFrom};
 
-// Where the first such byte is, from `at` on; the length where there is none.
+// Where the first such byte is, from `at` on. Where there is none a last line or word ends with the bytes, so the length is the
+// answer, and no Option whose None each caller would turn into it.
 pub fn find(s: &[u8], at: usize, mark: u8) -> usize
     requires { at ≤ length s.now }
     ensures { FirstFrom s.now at mark result }
 {
-    let mut i = at;
-    while i < s.len() {
+    for i in at..s.len() {
         if s[i] == mark {
             return i;
         }
-        i += 1;
     }
-    i
+    s.len()
 }

@@ -1,9 +1,9 @@
 -- The questions of resolve one after the other, of a buffer whose bytes in use were opened. Assumes nothing.
+use Rattle.std.specs.Prelude.{Option, None, Some}
 use Prim.Native.Nat.{ℕ, ◌≤◌, ◌<◌}
 use mathlib.Core.Path.{◌≡◌, refl, sym, ap, ◌∙◌}
 use mathlib.Core.Bool.{true, false, not}
 use mathlib.Core.List.{List}
-use mathlib.Core.Option.{Option, none, some}
 use borrow.Author.Tests.{le-leb, lt-leb}
 use lib.Dec.{leb}
 use lib.ListN.{length, take, get_or}
@@ -27,16 +27,16 @@ unfolding is_list is_given
 some_list list e = by_layers (layers_in list) refl
   where
     by_layers : (o : Option (List LayerDigest)) → layers_in list ≡ o → SomeList list
-    by_layers none q = false_true (sym (ap is_given q) ∙ e)
-    by_layers (some ds) q = record { layers = ds; is = q }
+    by_layers None q = false_true (sym (ap is_given q) ∙ e)
+    by_layers (Some ds) q = record { layers = ds; is = q }
 
 -- The images of a store that is not broken do not clash.
-pub unbroken_apart : (size : ℕ) (o : Option (List Image)) (xs : List Image) → o ≡ some xs → is_broken size o ≡ false → any_clash xs ≡ false
+pub unbroken_apart : (size : ℕ) (o : Option (List Image)) (xs : List Image) → o ≡ Some xs → is_broken size o ≡ false → any_clash xs ≡ false
 unfolding is_broken
 unbroken_apart size o xs q e = (sound_parts size xs (sym (ap (is_broken size) q) ∙ e)).names
 
 -- the images that are read in the bytes in use of a buffer
-module _ (buffer : List ℕ) (used : ℕ) (h : used ≤ length buffer) (xs : List Image) (reads : read_records most_images (take used buffer) ≡ some xs) where
+module _ (buffer : List ℕ) (used : ℕ) (h : used ≤ length buffer) (xs : List Image) (reads : read_records most_images (take used buffer) ≡ Some xs) where
   its_images : among (held buffer used) ≡ xs
   unfolding among
   its_images = ap among (held_in_use buffer used h ∙ reads)
@@ -68,7 +68,7 @@ module _ (buffer : List ℕ) (used : ℕ) (list : List ℕ) (place space : ℕ) 
       unfolding resolve_number resolve_questions is_list
       number_unlisted e = sym (asked_next _ _ whole ∙ asked_first _ _ (ap not e))
 
-      module _ (given : is_list list ≡ true) (xs : List Image) (reads : read_records most_images (take used buffer) ≡ some xs) where
+      module _ (given : is_list list ≡ true) (xs : List Image) (reads : read_records most_images (take used buffer) ≡ Some xs) where
         -- A place without an image is refused.
         pub number_missing : length xs ≤ place → 16 ≡ resolve_number buffer used list place space
         unfolding resolve_number resolve_questions is_list

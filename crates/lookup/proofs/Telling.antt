@@ -1,10 +1,10 @@
 -- What the answers of resolve tell of the image's layers, and when they are given. Assumes nothing.
+use Rattle.std.specs.Prelude.{Option, None, Some}
 use Prim.Native.Nat.{ℕ, ◌≤◌, ◌<◌}
 use mathlib.Core.Path.{◌≡◌, refl, sym, ap, ap₂, subst, ◌∙◌}
 use mathlib.Core.Logic.{◌↔◌}
 use mathlib.Core.Bool.{true, false, not}
 use mathlib.Core.List.{List, ◌∷◌}
-use mathlib.Core.Option.{Option, none, some}
 use native.Mathlib.Omega.{arith}
 use native.Mathlib.Decide.{dec_le}
 use borrow.Author.Tests.{leb-false, lt-leb, eq-eqb, not-true, not-false}
@@ -91,9 +91,9 @@ module _ (buffer : List ℕ) (used : ℕ) (list : List ℕ) (place space : ℕ) 
   asked p = by_both (held buffer used) refl (layers_in list) refl
     where
       by_both : (o : Option (List Image)) → held buffer used ≡ o → (q : Option (List LayerDigest)) → layers_in list ≡ q → Asked buffer used list place
-      by_both none e q f = false_true (sym p.sound ∙ ap (is_broken (length buffer)) e)
-      by_both (some xs) e none f = false_true (sym (ap is_given f) ∙ p.given)
-      by_both (some xs) e (some ds) f =
+      by_both None e q f = false_true (sym p.sound ∙ ap (is_broken (length buffer)) e)
+      by_both (Some xs) e None f = false_true (sym (ap is_given f) ∙ p.given)
+      by_both (Some xs) e (Some ds) f =
           record {
             images = xs;
             holds = e;

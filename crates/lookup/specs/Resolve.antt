@@ -1,7 +1,6 @@
 -- What resolve answers and writes (document 01, "The room" and "What comes back"): questions 11 and 15 to 20. Of 17, 18 and 19 there is one, that of the first
 -- layer that fails; 20 is asked only if none does.
-use Rattle.std.specs.Prelude.{ℕ, not, List, ◌∷◌, leb, length}
-use Rattle.std.proofs.Math.Option.{Option}
+use Rattle.std.specs.Prelude.{ℕ, not, List, ◌∷◌, leb, length, Option}
 use Rattle.text.specs.Question.{Question, lowest}
 use Rattle.store_record.specs.Image.{Image}
 use Rattle.store_open.specs.Held.{held, is_broken, among}

@@ -1,7 +1,6 @@
 -- What the answers of resolve tell of an image's layers (document 01, "The room"): by the paths from these layers, with no algorithm in them.
-use Rattle.std.specs.Prelude.{ℕ, zero, suc, ◌≤◌, ◌<◌, ◌≡◌, true, length, drop}
+use Rattle.std.specs.Prelude.{ℕ, zero, suc, ◌≤◌, ◌<◌, ◌≡◌, true, length, drop, Some}
 use mathlib.Core.List.{List, [], ◌∷◌, ◌++◌, Memᴰ as In}
-use Rattle.std.proofs.Math.Option.{some}
 use Rattle.reference_digests.specs.declared.algorithm.Algorithm.{Algorithm}
 use Rattle.reference.specs.References.{Layer}
 use Rattle.store_record.specs.Image.{Image}
@@ -34,11 +33,11 @@ pub data FirstFails (room : List Image) (present : List LayerDigest) : List Laye
 -- what resolve is asked of: a well-formed store with an image at that place, and a layer list
 pub record Asked (buffer : List ℕ) (used : ℕ) (list : List ℕ) (place : ℕ) : Type 0 where
   pub images : List Image
-  pub holds : held buffer used ≡ some images
+  pub holds : held buffer used ≡ Some images
   pub well : well_formed buffer used ≡ true
   pub within : place < length images
   pub present : List LayerDigest
-  pub reads : layers_in list ≡ some present
+  pub reads : layers_in list ≡ Some present
 
 -- what the number 0 tells: the digests that the paths from the image's layers meet are what is written, as a layer list
 pub record Resolved (buffer : List ℕ) (used : ℕ) (list : List ℕ) (place space : ℕ) : Type 0 where
@@ -47,7 +46,7 @@ pub record Resolved (buffer : List ℕ) (used : ℕ) (list : List ℕ) (place sp
   pub meet : AllMeet asked.images asked.present (layers_at asked.images place) digests
   pub value : resolve_value buffer used list place space ≡ length (list_of digests)
   pub fits : length (list_of digests) ≤ space
-  pub written : layers_in (list_of digests) ≡ some digests
+  pub written : layers_in (list_of digests) ≡ Some digests
   pub bytes : (out : List ℕ) → length out ≡ space → resolve_bytes buffer used list place out ≡ list_of digests ++ drop (length (list_of digests)) out
 
 -- what the number of a failure tells: the value is the number of the image's first layer that fails, which fails so

@@ -1,7 +1,7 @@
 // Resolve: the layers of one image of a store as digests, each found by following aliases through the store's images.
 #![tactic(auto)]
 
-ghost use Rattle.std.specs.Prelude.{◌≡◌, true, not, length};
+ghost use Rattle.std.specs.Prelude.{◌≡◌, true, false, MatchOption, length};
 ghost use Rattle.store_record.specs.Store.{most_images, read_records};
 ghost use Rattle.store_names.specs.Opened.{OpenedStore};
 ghost use Rattle.store_open.specs.Held.{is_broken};
@@ -23,10 +23,10 @@ fn open_store(
     order: &mut [u16],
     names: &mut [u16],
     keys: &mut [u16],
-) -> Opened
+) -> Option<Opened>
     requires { (length at.old ≡ 4160) × (length order.old ≡ 4160) × (length names.old ≡ 4096) × (length keys.old ≡ 16384) }
-    ensures sound_value { result.sound ≡ not (is_broken (length b.now) (read_records most_images b.now)) }
-    ensures opened_store { result.sound ≡ true → OpenedStore b.now result.survey result.places }
+    ensures { MatchOption result (is_broken (length b.now) (read_records most_images b.now) ≡ true)
+        (λ o. (is_broken (length b.now) (read_records most_images b.now) ≡ false) × OpenedStore b.now o.survey o.places) }
 {
     let mut heads = [0u32; MOST_NAMES];
     store_open::open(
@@ -59,10 +59,9 @@ pub fn resolve(
     let mut order = [0u16; MOST_REFERENCES];
     let mut names = [0u16; MOST_NAMES];
     let mut keys = [0u16; MOST_BYTES];
-    let opened = open_store(b, &mut at, &mut order, &mut names, &mut keys);
-    if !opened.sound {
+    let Some(opened) = open_store(b, &mut at, &mut order, &mut names, &mut keys) else {
         return answer::refused(out, 11);
-    }
+    };
     if !lookup_layers::is_list(layers) {
         return answer::refused(out, 15);
     }

@@ -12,7 +12,7 @@ ghost use Rattle.lookup_outcome.specs.Resolving.{Resolving, SomeResolving};
 ghost use Rattle.lookup_answer.specs.Answers.{layer_questions, Resolves};
 
 use answer::Answer;
-use lookup_outcome::{Failure, Outcome};
+use lookup_outcome::Failure;
 use manifest::MOST_ENTRIES;
 use reference::LayerIndex;
 
@@ -42,8 +42,8 @@ pub fn write_layers(
     let mut numbers = [0u16; MOST_ENTRIES];
     let count = keys.len() - objects;
     match lookup_outcome::check_all(b, keys, next, objects, present, &mut numbers) {
-        Outcome::Fails(layer, f) => failed(out, layer, f),
-        Outcome::All(length) => {
+        Err(failing) => failed(out, failing.layer, failing.why),
+        Ok(length) => {
             if out.len() < length {
                 return answer::refused(out, 20);
             }

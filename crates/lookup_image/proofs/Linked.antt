@@ -1,15 +1,15 @@
 -- The references of a store in place and linked: what resolving its layers works on. Assumes nothing.
+use Rattle.std.specs.Prelude.{Option, Some}
 use Prim.Native.Nat.{ℕ, ◌-◌, ◌≤◌, ◌<◌}
 use mathlib.Core.Path.{◌≡◌, sym, ap, subst, ◌∙◌}
 use mathlib.Core.Bool.{false}
 use mathlib.Core.List.{List, ◌++◌, map}
-use mathlib.Core.Option.{Option, some}
 use native.Mathlib.Omega.{arith}
 use lib.ListN.{length, drop, get_or, length-append, get_or-append}
 use lib.Seq.{drop_at}
 use Rattle.reference.specs.References.{Layer, no_layer}
 use Rattle.manifest.specs.Manifest.{layers}
-use Rattle.manifest.specs.declared.Places.{Places}
+use Rattle.manifest.specs.Opened.{Places}
 use Rattle.manifest.proofs.Limits.{layers_few}
 use Rattle.manifest_objects.specs.Objects.{AllStand}
 use Rattle.store_record.specs.Image.{Image}
@@ -49,7 +49,7 @@ module _ (room : List Image) (ls : List Layer) where
 
   -- The outcome of the references after the objects is that of the image's layers.
   pub outcome_after :
-      (place n : ℕ) (present : Option (List LayerDigest)) (ds : List LayerDigest) → n ≡ object_count room → layers_at room place ≡ ls → present ≡ some ds
+      (place n : ℕ) (present : Option (List LayerDigest)) (ds : List LayerDigest) → n ≡ object_count room → layers_at room place ≡ ls → present ≡ Some ds
       → outcome ds (map (end_of room) (drop n (objects_of room ++ ls))) ≡ outcome_in room place (present_in present)
   unfolding outcome_in present_in
   outcome_after place n present ds e f g =

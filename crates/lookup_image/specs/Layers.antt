@@ -1,6 +1,5 @@
 -- The layers of an image of a room, and how they come out.
-use Rattle.std.specs.Prelude.{ℕ, zero, suc, List, [], ◌∷◌, map}
-use Rattle.std.proofs.Math.Option.{Option, none, some}
+use Rattle.std.specs.Prelude.{ℕ, zero, suc, List, [], ◌∷◌, map, Option, None, Some}
 use Rattle.reference.specs.References.{Layer}
 use Rattle.manifest.specs.Manifest.{layers}
 use Rattle.store_record.specs.Image.{Image}
@@ -16,8 +15,8 @@ layers_at (x ∷ xs) (suc i) = layers_at xs i
 
 -- the layers of a list; none where it is bad, which question 15 has asked before
 unfoldable pub present_in : Option (List LayerDigest) → List LayerDigest
-present_in none = []
-present_in (some ds) = ds
+present_in None = []
+present_in (Some ds) = ds
 
 -- how the layers of the image at a place of the room come out
 unfoldable pub outcome_in : List Image → ℕ → List LayerDigest → Outcome

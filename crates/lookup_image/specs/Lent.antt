@@ -1,7 +1,7 @@
 -- What the steps of resolve are lent.
 use Rattle.std.specs.Prelude.{ℕ, ◌≤◌, ◌<◌, ◌≡◌, List, ◌++◌, false, length}
 use Rattle.reference.specs.References.{Layer}
-use Rattle.manifest.specs.declared.Places.{Places}
+use Rattle.manifest.specs.Opened.{Places}
 use Rattle.manifest_objects.specs.Objects.{AllStand}
 use Rattle.store_record.specs.Reading.{images_in}
 use Rattle.store_record.specs.declared.Survey.{Survey}

@@ -1,4 +1,5 @@
 -- The marks of references and the positions of the names of aliases. Assumes nothing.
+use Rattle.std.specs.Prelude.{Some, None}
 use Prim.Native.Nat.{ℕ, ◌+◌, ◌<◌, ◌≤◌}
 use mathlib.Core.Path.{◌≡◌, refl, sym, ap, subst, ◌∙◌}
 use mathlib.Core.List.{List, []}
@@ -10,7 +11,7 @@ use borrow.Author.Tests.{eqb-true, eqb-false}
 use Rattle.laws.proofs.Order.{by_test}
 use Rattle.reference_digests.specs.declared.algorithm.Algorithm.{Algorithm}
 use Rattle.reference.specs.References.{Layer, layer_digest, layer_alias, no_layer}
-use Rattle.reference.specs.declared.layer.Layer.TheVariants.{Digest, Alias as ReadAlias, Bad}
+use Rattle.reference.specs.declared.layer.Layer.TheVariants.{Digest, Alias as ReadAlias}
 use Rattle.manifest.specs.Opened.{Denotes}
 use Rattle.manifest_objects.proofs.Naming.{name_kept, number_kept, alias_named, digest_denoted, bad_denoted}
 use Rattle.lookup_paths.specs.Follow.{object_in}
@@ -35,17 +36,17 @@ module _ (b : List ℕ) (e : ℕ) (l : Layer) (at next : List ℕ) where
       }
 
   -- A digest is marked as one.
-  pub marks_digest : (a : Algorithm) (p : ℕ) → Denotes b (Digest a p) l → Marks b e l at next at (set next e 65535)
+  pub marks_digest : (a : Algorithm) (p : ℕ) → Denotes b (Some (Digest a p)) l → Marks b e l at next at (set next e 65535)
   unfolding mark_of
   marks_digest a p d = let w = digest_denoted b l a p d in marks (layer_digest a w.0) w.1 at refl tt (λ i h. refl)
 
   -- What is no reference is marked so.
-  pub marks_bad : Denotes b Bad l → Marks b e l at next at (set next e 65533)
+  pub marks_bad : Denotes b None l → Marks b e l at next at (set next e 65533)
   unfolding mark_of
   marks_bad d = marks no_layer (bad_denoted b l d) at refl tt (λ i h. refl)
 
   -- An alias is marked as not defined, and its name is placed.
-  pub marks_alias : (a : Algorithm) (g q : ℕ) → e < length at → Denotes b (ReadAlias a g q) l → Marks b e l at next (set at e q) (set next e 65534)
+  pub marks_alias : (a : Algorithm) (g q : ℕ) → e < length at → Denotes b (Some (ReadAlias a g q)) l → Marks b e l at next (set at e q) (set next e 65534)
   unfolding mark_of
   marks_alias a g q h d =
       let w = alias_named b l (set at e q) e q a g (omega (arith, length-set at e q)) (get_or-set_same at e q 0 h) d in

@@ -18,16 +18,12 @@ fn mark(b: &[u8], k: usize, e: usize, at: &mut [usize], next: &mut [u16])
         → Marks b.now e l at.old next.old at.new next.new }
 {
     match manifest_objects::read(b, k) {
-        Layer::Digest(_, _) => next[e] = DIGEST,
-        Layer::Alias {
-            algorithm: _,
-            signer: _,
-            alias,
-        } => {
+        None => next[e] = BAD,
+        Some(Layer::Digest(_, _)) => next[e] = DIGEST,
+        Some(Layer::Alias { alias, .. }) => {
             next[e] = UNDEFINED;
             at[e] = alias;
         }
-        Layer::Bad => next[e] = BAD,
     }
 }
 
@@ -37,10 +33,8 @@ pub fn mark_all(b: &[u8], keys: &[usize], at: &mut [usize], next: &mut [u16])
     ensures { (refs : List LayerReference) → AllStand b.now keys.now refs
         → Links [] refs next.new × AllNamed b.now refs at.new }
 {
-    let mut e = 0;
-    while e < keys.len() {
-        mark(b, keys[e], e, at, next);
-        e += 1;
+    for (e, key) in keys.iter().enumerate() {
+        mark(b, *key, e, at, next);
     }
 }
 
@@ -52,13 +46,11 @@ pub fn index_refs(b: &[u8], at: &[usize], next: &[u16], order: &mut [u16]) -> us
         × NameIndex b.now at.now (undefined_in next.now (length next.now)) (take result order.new) }
 {
     let mut n = 0;
-    let mut e = 0;
-    while e < next.len() {
-        if next[e] == UNDEFINED {
+    for (e, mark) in next.iter().enumerate() {
+        if *mark == UNDEFINED {
             manifest_index::add(b, at, order, n, e as u16);
             n += 1;
         }
-        e += 1;
     }
     n
 }

@@ -1,10 +1,10 @@
 -- Laws of layer lists: what is written is read back, nothing else is read, and a layer is listed exactly if it is there.
+use Rattle.std.specs.Prelude.{Option, None, Some}
 use Prim.Native.Nat.{ℕ, zero, suc, ◌≤◌, ◌<◌}
 use mathlib.Core.Path.{◌≡◌, refl, sym, ap, ◌∙◌}
 use mathlib.Core.Logic.{◌↔◌}
 use mathlib.Core.Bool.{true, ◌||◌}
 use mathlib.Core.List.{List, [], ◌∷◌, ◌++◌, append_assoc, Memᴰ as In}
-use mathlib.Core.Option.{Option, none, some}
 use native.Mathlib.Omega.{arith}
 use lib.Dec.{eqb}
 use lib.ListN.{length}
@@ -18,7 +18,7 @@ use Rattle.lookup_layers.specs.Layers.{LayerDigest, entry_of, list_of, AllSized,
 use Rattle.lookup_layers.specs.Layers.{read_list, layers_in, same_layer, is_listed}
 use Rattle.lookup_layers.proofs.Entries.{read_first, first_read, rest_shorter}
 
-list_end : (n : ℕ) → read_list n [] ≡ some []
+list_end : (n : ℕ) → read_list n [] ≡ Some []
 unfolding read_list
 list_end zero = refl
 list_end (suc n) = refl
@@ -45,7 +45,7 @@ enough zero m s h l = enough_none m s h
 enough (suc n) m s h l = enough_more n m s h l (enough n)
 
 -- No bytes are the list of no layers.
-pub layers_end : layers_in [] ≡ some []
+pub layers_end : layers_in [] ≡ Some []
 unfolding layers_in
 layers_end = list_end 0
 
@@ -58,13 +58,13 @@ layers_entry (b ∷ s) d r e =
     ∙ ap (and_then d) (enough (length s) (length r) r (omega (arith, rest_shorter (b ∷ s) d r e)) (omega arith))
 
 -- Some bytes that begin with no entry are no layer list.
-pub layers_none : (s : List ℕ) → 0 < length s → first_of s ≡ no_entry → layers_in s ≡ none
+pub layers_none : (s : List ℕ) → 0 < length s → first_of s ≡ no_entry → layers_in s ≡ None
 unfolding layers_in read_list continued
 layers_none [] h e = absurd (omega arith)
 layers_none (b ∷ s) h e = ap (continued (λ t. read_list (length s) t)) e
 
 -- What is written is read back.
-pub list_read_back : (ds : List LayerDigest) → AllSized ds → layers_in (list_of ds) ≡ some ds
+pub list_read_back : (ds : List LayerDigest) → AllSized ds → layers_in (list_of ds) ≡ Some ds
 unfolding list_of and_then
 list_read_back [] h = layers_end
 list_read_back (d ∷ ds) (sized e h) =
@@ -74,43 +74,43 @@ list_read_back (d ∷ ds) (sized e h) =
 abbrev Told : List ℕ → List LayerDigest → Type 0
 Told s ds = (list_of ds ≡ s) × AllSized ds
 
-told_none : (ds : List LayerDigest) → some [] ≡ some ds → Told [] ds
+told_none : (ds : List LayerDigest) → Some [] ≡ Some ds → Told [] ds
 unfolding list_of
 told_none [] e = (refl, none_sized)
 told_none (d ∷ ds) e = let f : [] ≡ d ∷ ds = cc in let z : ◌≡◌ {A = ℕ} 0 1 = cc in absurd (omega arith)
 
-no_layers : {C : Type 0} (ds : List LayerDigest) → none ≡ some ds → C
+no_layers : {C : Type 0} (ds : List LayerDigest) → None ≡ Some ds → C
 no_layers ds e = let z : ◌≡◌ {A = ℕ} 0 1 = cc in absurd (omega arith)
 
-told_full : (s : List ℕ) (ds : List LayerDigest) → read_list 0 s ≡ some ds → Told s ds
+told_full : (s : List ℕ) (ds : List LayerDigest) → read_list 0 s ≡ Some ds → Told s ds
 unfolding read_list
 told_full [] ds e = told_none ds e
 told_full (b ∷ s) ds e = no_layers ds e
 
-told_more : (n : ℕ) (s : List ℕ) (ds : List LayerDigest) → read_list (suc n) s ≡ some ds
-    → ((r : List ℕ) (es : List LayerDigest) → read_list n r ≡ some es → Told r es) → Told s ds
+told_more : (n : ℕ) (s : List ℕ) (ds : List LayerDigest) → read_list (suc n) s ≡ Some ds
+    → ((r : List ℕ) (es : List LayerDigest) → read_list n r ≡ Some es → Told r es) → Told s ds
 unfolding read_list continued and_then list_of
 told_more n [] ds e ih = told_none ds e
 told_more n (b ∷ s) ds e ih = by_first (first_of (b ∷ s)) refl e
   where
     by_rest : (d : LayerDigest) (r : List ℕ) → first_of (b ∷ s) ≡ entry d r → (o : Option (List LayerDigest)) → read_list n r ≡ o
-        → and_then d o ≡ some ds → Told (b ∷ s) ds
-    by_rest d r q none k f = no_layers ds f
-    by_rest d r q (some es) k f =
+        → and_then d o ≡ Some ds → Told (b ∷ s) ds
+    by_rest d r q None k f = no_layers ds f
+    by_rest d r q (Some es) k f =
         let w = first_read (b ∷ s) d r q in
         let t = ih r es k in
         let g : d ∷ es ≡ ds = cc in
         rw (← g) (ap (λ (l : List ℕ). entry_of d ++ l) t.0 ∙ sym w.0, sized w.1 t.1)
 
-    by_first : (p : First) → first_of (b ∷ s) ≡ p → continued (λ r. read_list n r) p ≡ some ds → Told (b ∷ s) ds
+    by_first : (p : First) → first_of (b ∷ s) ≡ p → continued (λ r. read_list n r) p ≡ Some ds → Told (b ∷ s) ds
     by_first no_entry q f = no_layers ds f
     by_first (entry d r) q f = by_rest d r q (read_list n r) refl f
 
-told : (n : ℕ) (s : List ℕ) (ds : List LayerDigest) → read_list n s ≡ some ds → Told s ds
+told : (n : ℕ) (s : List ℕ) (ds : List LayerDigest) → read_list n s ≡ Some ds → Told s ds
 told zero s ds e = told_full s ds e
 told (suc n) s ds e = told_more n s ds e (told n)
 
-module _ (s : List ℕ) (ds : List LayerDigest) (e : layers_in s ≡ some ds) where
+module _ (s : List ℕ) (ds : List LayerDigest) (e : layers_in s ≡ Some ds) where
   -- Nothing else is read: the bytes are the list of the layers, so a list of layers has one form.
   pub list_read : list_of ds ≡ s
   unfolding layers_in
@@ -133,7 +133,7 @@ sized_both none_sized k = k
 sized_both (sized e h) k = sized e (sized_both h k)
 
 -- The layers of two lists one after the other are those of the first and then those of the second.
-pub layers_both : (s t : List ℕ) (ds es : List LayerDigest) → layers_in s ≡ some ds → layers_in t ≡ some es → layers_in (s ++ t) ≡ some (ds ++ es)
+pub layers_both : (s t : List ℕ) (ds es : List LayerDigest) → layers_in s ≡ Some ds → layers_in t ≡ Some es → layers_in (s ++ t) ≡ Some (ds ++ es)
 layers_both s t ds es e f =
     ap layers_in (sym (list_both ds es ∙ rw (list_read s ds e, list_read t es f)))
     ∙ list_read_back (ds ++ es) (sized_both (read_sized s ds e) (read_sized t es f))

@@ -1,4 +1,5 @@
 -- What reading an entry at a position answers, by what stands there.
+use Rattle.std.specs.Prelude.{Some, None}
 use Prim.Native.Nat.{ℕ, ◌+◌, ◌-◌, ◌≤◌, ◌<◌}
 use mathlib.Core.Path.{◌≡◌, refl, sym, ap, ◌∙◌}
 use mathlib.Core.List.{List, ◌∷◌}
@@ -8,10 +9,8 @@ use lib.ListN.{length, take, drop, get_or, length-drop}
 use lib.Seq.{drop-cons, drop-drop}
 use Rattle.reference_digests.specs.Algorithms.{digest_bytes, numbered}
 use Rattle.reference_digests.specs.declared.algorithm.Algorithm.{Algorithm}
-use Rattle.reference_digests.specs.declared.algorithm.Known.TheVariants.{Is, Unknown}
 use Rattle.lookup_layers.specs.Layers.{entry, first_of}
 use Rattle.lookup_layers.specs.Reading.{EntryAt, Reads}
-use Rattle.lookup_layers.specs.declared.Entry.TheVariants.{Bad}
 use Rattle.lookup_layers.proofs.Entries.{first_unknown, first_cut, first_whole}
 
 module _ (s : List ℕ) (i : ℕ) (more : i < length s) where
@@ -19,13 +18,13 @@ module _ (s : List ℕ) (i : ℕ) (more : i < length s) where
   start = rw (add-one) (drop-cons s i 0 more)
 
   -- no algorithm has that byte
-  pub unknown_here : numbered (get_or s i 0) ≡ Unknown → Reads s i Bad
+  pub unknown_here : numbered (get_or s i 0) ≡ None → Reads s i None
   unknown_here e = ap first_of start ∙ first_unknown (get_or s i 0) (drop (i + 1) s) e
 
   -- the algorithm is known, with digests of n bytes
-  module _ (a : Algorithm) (known : numbered (get_or s i 0) ≡ Is a) (n : ℕ) (size : n ≡ digest_bytes a) where
+  module _ (a : Algorithm) (known : numbered (get_or s i 0) ≡ Some a) (n : ℕ) (size : n ≡ digest_bytes a) where
     -- If fewer bytes are left than a digest has, no entry stands there.
-    pub cut_here : length s - (i + 1) < n → Reads s i Bad
+    pub cut_here : length s - (i + 1) < n → Reads s i None
     cut_here h = ap first_of start ∙ first_cut a (get_or s i 0) (drop (i + 1) s) known (omega (arith, size, length-drop (i + 1) s))
 
     -- If a digest fits into the bytes that are left, an entry stands there, with the digest after the first byte.

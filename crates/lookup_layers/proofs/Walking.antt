@@ -1,9 +1,9 @@
 -- How far a walk over a layer list has come: the answer for the bytes from position i on is the answer for all.
+use Rattle.std.specs.Prelude.{Option, None, Some}
 use Prim.Native.Nat.{ℕ, ◌-◌, ◌≤◌, ◌<◌}
 use mathlib.Core.Path.{◌≡◌, refl, sym, ap, ◌∙◌}
 use mathlib.Core.Bool.{Bool, true, false, ◌&&◌, ◌||◌}
 use mathlib.Core.List.{List, [], ◌∷◌}
-use mathlib.Core.Option.{Option, none, some}
 use native.Mathlib.Omega.{arith}
 use lib.ListN.{length, take, drop, length-drop, drop_of_length-le}
 use borrow.Author.Tests.{eq-eqb, ne_eqb}
@@ -22,8 +22,8 @@ layer_at s a d = record { algorithm = a; bytes = take (digest_bytes a) (drop d s
 
 given_more : (d : LayerDigest) (o : Option (List LayerDigest)) → is_given (and_then d o) ≡ is_given o
 unfolding is_given and_then
-given_more d none = refl
-given_more d (some ds) = refl
+given_more d None = refl
+given_more d (Some ds) = refl
 
 listed_more : (d x : LayerDigest) (ds : List LayerDigest) → is_listed d (x ∷ ds) ≡ (same_layer d x || is_listed d ds)
 unfolding is_listed any_of
@@ -60,12 +60,12 @@ module _ (x y : LayerDigest) where
 -- A layer is listed in s exactly if it is in the layers from position i on.
 pub record Left (s : List ℕ) (x : LayerDigest) (i : ℕ) : Type 0 where
   pub layers : List LayerDigest
-  pub left : layers_in (drop i s) ≡ some layers
-  pub answer : (ds : List LayerDigest) → layers_in s ≡ some ds → is_listed x layers ≡ is_listed x ds
+  pub left : layers_in (drop i s) ≡ Some layers
+  pub answer : (ds : List LayerDigest) → layers_in s ≡ Some ds → is_listed x layers ≡ is_listed x ds
   pub within : i ≤ length s
 
-one_list : (o : Option (List LayerDigest)) (ds es : List LayerDigest) → o ≡ some ds → o ≡ some es → ds ≡ es
-one_list o ds es e f = let g : some ds ≡ some es = sym e ∙ f in cc
+one_list : (o : Option (List LayerDigest)) (ds es : List LayerDigest) → o ≡ Some ds → o ≡ Some es → ds ≡ es
+one_list o ds es e f = let g : Some ds ≡ Some es = sym e ∙ f in cc
 
 -- At the start all layers are left.
 pub all_left : (s : List ℕ) (x : LayerDigest) → SomeList s → Left s x 0
@@ -74,7 +74,7 @@ all_left s x h =
 
 module _ (s : List ℕ) (x : LayerDigest) (i : ℕ) (h : Left s x i) where
   -- Where no bytes are left the layer is not listed.
-  pub not_left : length s ≤ i → (ds : List LayerDigest) → layers_in s ≡ some ds → false ≡ is_listed x ds
+  pub not_left : length s ≤ i → (ds : List LayerDigest) → layers_in s ≡ Some ds → false ≡ is_listed x ds
   unfolding is_listed any_of
   not_left l ds e =
       let n : [] ≡ h.layers = one_list (layers_in (drop i s)) [] h.layers (ap layers_in (drop_of_length-le s {i = i} l) ∙ layers_end) h.left in
@@ -83,7 +83,7 @@ module _ (s : List ℕ) (x : LayerDigest) (i : ℕ) (h : Left s x i) where
   -- What is left of a layer list begins with an entry.
   pub no_break : {C : Type 0} → i < length s → first_of (drop i s) ≡ no_entry → C
   no_break l e =
-      let f : none ≡ some h.layers = sym (layers_none (drop i s) (omega (arith, length-drop i s)) e) ∙ h.left in
+      let f : None ≡ Some h.layers = sym (layers_none (drop i s) (omega (arith, length-drop i s)) e) ∙ h.left in
       let z : ◌≡◌ {A = ℕ} 0 1 = cc in absurd (omega arith)
 
   -- an entry stands there
@@ -91,7 +91,7 @@ module _ (s : List ℕ) (x : LayerDigest) (i : ℕ) (h : Left s x i) where
     -- the layers after it
     record After : Type 0 where
       rest : List LayerDigest
-      reads : layers_in (drop e s) ≡ some rest
+      reads : layers_in (drop e s) ≡ Some rest
       all : h.layers ≡ layer_at s a d ∷ rest
 
     after : After
@@ -99,11 +99,11 @@ module _ (s : List ℕ) (x : LayerDigest) (i : ℕ) (h : Left s x i) where
     after = by_rest (layers_in (drop e s)) refl
       where
         by_rest : (o : Option (List LayerDigest)) → layers_in (drop e s) ≡ o → After
-        by_rest none q =
-            let f : none ≡ some h.layers = sym (layers_entry (drop i s) (layer_at s a d) (drop e s) here.reads ∙ ap (and_then (layer_at s a d)) q)
+        by_rest None q =
+            let f : None ≡ Some h.layers = sym (layers_entry (drop i s) (layer_at s a d) (drop e s) here.reads ∙ ap (and_then (layer_at s a d)) q)
             ∙ h.left in
             let z : ◌≡◌ {A = ℕ} 0 1 = cc in absurd (omega arith)
-        by_rest (some ds) q =
+        by_rest (Some ds) q =
             record {
               rest = ds;
               reads = q;
@@ -115,7 +115,7 @@ module _ (s : List ℕ) (x : LayerDigest) (i : ℕ) (h : Left s x i) where
     asked : is_listed x h.layers ≡ (same_layer x (layer_at s a d) || is_listed x after.rest)
     asked = ap (is_listed x) after.all ∙ listed_more x (layer_at s a d) after.rest
 
-    first_is : (b : Bool) → same_layer x (layer_at s a d) ≡ b → (ds : List LayerDigest) → layers_in s ≡ some ds
+    first_is : (b : Bool) → same_layer x (layer_at s a d) ≡ b → (ds : List LayerDigest) → layers_in s ≡ Some ds
         → (b || is_listed x after.rest) ≡ is_listed x ds
     first_is b q ds f = sym (asked ∙ ap (λ (t : Bool). t || is_listed x after.rest) q) ∙ h.answer ds f
 
@@ -134,7 +134,7 @@ module _ (s : List ℕ) (x : LayerDigest) (i : ℕ) (h : Left s x i) where
           by_digest x (layer_at s a d) one ∙ ap (λ (m : ℕ). same (take m (drop d s)) x.bytes) n ∙ sym compared
 
       -- Where the digests are equal the layer is listed.
-      pub found_here : r ≡ true → (ds : List LayerDigest) → layers_in s ≡ some ds → true ≡ is_listed x ds
+      pub found_here : r ≡ true → (ds : List LayerDigest) → layers_in s ≡ Some ds → true ≡ is_listed x ds
       found_here t = first_is true (answered ∙ t)
 
       -- Where they differ the rest decides.

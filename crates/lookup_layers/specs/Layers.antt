@@ -1,12 +1,9 @@
 -- The layer list (document 01, "The room"): a run of entries, each the byte of an algorithm and a digest. Resolve's output has the same form.
-use Rattle.std.specs.Prelude.{ℕ, zero, suc, ◌≡◌, List, [], ◌∷◌, ◌++◌, Bool, true, false, ◌&&◌, eqb, leb, length, take, drop}
-use Rattle.std.proofs.Math.Option.{Option, none, some}
+use Rattle.std.specs.Prelude.{ℕ, zero, suc, ◌≡◌, List, [], ◌∷◌, ◌++◌, Bool, true, false, ◌&&◌, eqb, leb, length, take, drop, Option, None, Some}
 use Rattle.laws.specs.Any.{any_of}
 use Rattle.laws.specs.Order.{same}
 use Rattle.reference_digests.specs.Algorithms.{digest_bytes, byte_of, numbered}
 use Rattle.reference_digests.specs.declared.algorithm.Algorithm.{Algorithm}
-use Rattle.reference_digests.specs.declared.algorithm.Known.{Known}
-use Rattle.reference_digests.specs.declared.algorithm.Known.TheVariants.{Is, Unknown}
 
 -- a layer by its digest
 pub record LayerDigest : Type 0 where
@@ -32,9 +29,9 @@ pub data First : Type 0 where
   no_entry : First
 
 -- by what follows the algorithm's byte; a digest that is cut is none
-unfoldable pub entry_under : Known → List ℕ → First
-entry_under Unknown s = no_entry
-entry_under (Is a) s =
+unfoldable pub entry_under : Option Algorithm → List ℕ → First
+entry_under None s = no_entry
+entry_under (Some a) s =
     elim (leb (digest_bytes a) (length s)) [
       | true ↦ entry (record { algorithm = a; bytes = take (digest_bytes a) s }) (drop (digest_bytes a) s)
       | false ↦ no_entry
@@ -45,19 +42,19 @@ first_of [] = no_entry
 first_of (b ∷ s) = entry_under (numbered b) s
 
 unfoldable pub and_then : LayerDigest → Option (List LayerDigest) → Option (List LayerDigest)
-and_then d none = none
-and_then d (some ds) = some (d ∷ ds)
+and_then d None = None
+and_then d (Some ds) = Some (d ∷ ds)
 
 -- the first entry's layer, and then those of the rest
 unfoldable pub continued : (List ℕ → Option (List LayerDigest)) → First → Option (List LayerDigest)
-continued rest no_entry = none
+continued rest no_entry = None
 continued rest (entry d r) = and_then d (rest r)
 
 -- the layers of at most n entries that fill the bytes exactly; none where they do not
 unfoldable pub read_list : ℕ → List ℕ → Option (List LayerDigest)
-read_list zero [] = some []
-read_list zero (b ∷ s) = none
-read_list (suc n) [] = some []
+read_list zero [] = Some []
+read_list zero (b ∷ s) = None
+read_list (suc n) [] = Some []
 read_list (suc n) (b ∷ s) = continued (λ r. read_list n r) (first_of (b ∷ s))
 
 -- the layers of a layer list: every entry has a byte at least
@@ -65,8 +62,8 @@ unfoldable pub layers_in : List ℕ → Option (List LayerDigest)
 layers_in s = read_list (length s) s
 
 unfoldable pub is_given : Option (List LayerDigest) → Bool
-is_given none = false
-is_given (some ds) = true
+is_given None = false
+is_given (Some ds) = true
 
 -- the bytes are a layer list
 unfoldable pub is_list : List ℕ → Bool

@@ -1,62 +1,50 @@
 // The layer list that resolve is lent: a run of entries, each the byte of an algorithm and a digest.
 #![tactic(auto)]
 
-ghost use Rattle.std.specs.Prelude.{◌≡◌, List, ◌<◌, length};
-ghost use Rattle.std.proofs.Math.Option.{some};
+ghost use Rattle.std.specs.Prelude.{◌≡◌, List, ◌<◌, length, Some};
 ghost use Rattle.lookup_layers.specs.Layers.{LayerDigest, is_list, is_listed, layers_in};
 ghost use Rattle.lookup_layers.specs.Reading.{Reads, SomeList};
 
-use reference_digests::algorithm::{Algorithm, Known};
+use reference_digests::algorithm::Algorithm;
 use reference_digests::digest;
 
-// The first entry of a run that is left: the positions of its digest and of what follows, or none where the byte is no algorithm's or the digest is cut.
+// The first entry of a run that is left: its algorithm, and the positions of its digest and of what follows.
 #[derive(Clone, Copy)]
-enum Entry {
-    At {
-        algorithm: Algorithm,
-        digest: usize,
-        next: usize,
-    },
-    Bad,
+struct Entry {
+    algorithm: Algorithm,
+    digest: usize,
+    next: usize,
 }
 
-fn read(s: &[u8], i: usize) -> Entry
+// There is none where the byte is no algorithm's or the digest is cut.
+fn read(s: &[u8], i: usize) -> Option<Entry>
     requires { i < length s.now }
     ensures { Reads s.now i result }
 {
-    match Algorithm::from_byte(s[i]) {
-        Known::Unknown => Entry::Bad,
-        Known::Is(algorithm) => {
-            let digest = i + 1;
-            let n = algorithm.digest_bytes();
-            if s.len() - digest < n {
-                return Entry::Bad;
-            }
-            Entry::At {
-                algorithm,
-                digest,
-                next: digest + n,
-            }
-        }
+    let algorithm = Algorithm::from_byte(s[i])?;
+    let digest = i + 1;
+    let n = algorithm.digest_bytes();
+    if s.len() - digest < n {
+        return None;
     }
+    Some(Entry {
+        algorithm,
+        digest,
+        next: digest + n,
+    })
 }
 
 // The bytes are a layer list.
 pub fn is_list(s: &[u8]) -> bool
     ensures { result ≡ is_list s.now }
 {
+    // an entry says where the next one begins, so no `for` counts the position
     let mut i = 0;
     while i < s.len() {
-        match read(s, i) {
-            Entry::Bad => return false,
-            Entry::At {
-                algorithm: _,
-                digest: _,
-                next,
-            } => {
-                i = next;
-            }
-        }
+        let Some(entry) = read(s, i) else {
+            return false;
+        };
+        i = entry.next;
     }
     true
 }
@@ -64,26 +52,21 @@ pub fn is_list(s: &[u8]) -> bool
 // The layer with that algorithm and digest is in the layer list s.
 pub fn has(s: &[u8], a: Algorithm, digest: &[u8]) -> bool
     requires { SomeList s.now }
-    ensures { (ds : List LayerDigest) → layers_in s.now ≡ some ds
+    ensures { (ds : List LayerDigest) → layers_in s.now ≡ Some ds
         → result ≡ is_listed (record { algorithm = a; bytes = digest.now }) ds }
 {
+    // the position jumps from entry to entry, as in `is_list`
     let mut at = 0;
     while at < s.len() {
-        match read(s, at) {
-            Entry::Bad => return false,
-            Entry::At {
-                algorithm,
-                digest: from,
-                next,
-            } => {
-                if algorithm.byte() == a.byte() {
-                    if digest::equal(&s[from..next], digest) {
-                        return true;
-                    }
-                }
-                at = next;
+        let Some(entry) = read(s, at) else {
+            return false;
+        };
+        if entry.algorithm == a {
+            if digest::equal(&s[entry.digest..entry.next], digest) {
+                return true;
             }
         }
+        at = entry.next;
     }
     false
 }

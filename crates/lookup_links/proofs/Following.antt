@@ -1,8 +1,8 @@
 -- Following the links of references is following their aliases through the room. Assumes nothing.
+use Rattle.std.specs.Prelude.{None, Some}
 use Prim.Native.Nat.{ℕ, suc, ◌+◌, ◌-◌, ◌<◌}
 use mathlib.Core.Path.{◌≡◌, refl, sym, ap, ◌∙◌}
 use mathlib.Core.Bool.{false}
-use mathlib.Core.Option.{none, some}
 use mathlib.Core.List.{List}
 use native.Mathlib.Omega.{arith}
 use lib.ListN.{length, get_or}
@@ -49,7 +49,7 @@ module _ (ks : List LayerKey) (refs : List Layer) where
   is_digest (layer_alias a s n) o p e = alias_no_digest p e
 
   -- the mark of an alias that is not defined
-  alias_undefined : {k : Key} {o : ℕ} → AliasLink ks refs k o → o ≡ undefined_mark → object_in k ks ≡ none
+  alias_undefined : {k : Key} {o : ℕ} → AliasLink ks refs k o → o ≡ undefined_mark → object_in k ks ≡ None
   alias_undefined (not_defined e) f = e
   alias_undefined (linked w) f = absurd (omega (arith, w.small))
 
@@ -146,7 +146,7 @@ module _ (room : List Image) (refs : List Layer) (next : List ℕ) (x : Links (k
         let k = w.link in
         let o = (object_exactly room c).1 (key_defines room k.by (record { algorithm = w.algorithm; signer = w.signer; name = w.name }) k.defined
         k.same_key) in
-        let to : aliased_object room here ≡ some (get_or refs (get_or next at 0) no_layer) = ap (aliased_object room) w.is ∙ o ∙ ap some k.object in
+        let to : aliased_object room here ≡ Some (get_or refs (get_or next at 0) no_layer) = ap (aliased_object room) w.is ∙ o ∙ ap Some k.object in
         let q : suc (left - 1) ≡ left = omega arith in
         record {
           within = k.within;

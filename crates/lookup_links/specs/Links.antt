@@ -1,8 +1,7 @@
 -- The references of a room by their numbers, and for each the number of the object that it stands for: what following aliases needs. References are the objects
 -- of all images, image by image in the text's order, and after them the layers of one image.
-use Rattle.std.specs.Prelude.{ℕ, ◌≤◌, ◌<◌, ◌≡◌, true, length, get_or}
+use Rattle.std.specs.Prelude.{ℕ, ◌≤◌, ◌<◌, ◌≡◌, true, length, get_or, None}
 use mathlib.Core.List.{List, Memᴰ as In}
-use Rattle.std.proofs.Math.Option.{none}
 use Rattle.reference.specs.References.{Layer, layer_digest, layer_alias, no_layer}
 use Rattle.store_keys.specs.Keys.{Key, LayerKey}
 use Rattle.store_keys.specs.Clash.{is_same_key}
@@ -28,7 +27,7 @@ pub record LinkedTo (ks : List LayerKey) (refs : List Layer) (k : Key) (o : ℕ)
   pub object : by.object ≡ get_or refs o no_layer
 
 pub data AliasLink (ks : List LayerKey) (refs : List Layer) (k : Key) : ℕ → Type 0 where
-  undefined : object_in k ks ≡ none → AliasLink ks refs k undefined_mark
+  undefined : object_in k ks ≡ None → AliasLink ks refs k undefined_mark
   linked : {o : ℕ} → LinkedTo ks refs k o → AliasLink ks refs k o
 
 -- what a reference is linked to, as far as the keys ks define it

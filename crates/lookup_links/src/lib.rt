@@ -32,6 +32,7 @@ pub fn follow(next: &[u16], e: usize, objects: usize) -> PathEnd
         → object_count room ≡ objects → e < length refs
         → Ends refs (end_of room (get_or refs e no_layer)) result }
 {
+    // the steps are counted between the tests of a link and the step along it, where no `for` can end
     let mut at = e;
     let mut left = objects + 1;
     loop {

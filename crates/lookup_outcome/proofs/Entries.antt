@@ -1,4 +1,5 @@
 -- The entry of a layer whose digest was read: its size, if it is present, and its bytes. Assumes nothing.
+use Rattle.std.specs.Prelude.{Some, None}
 use Prim.Native.Nat.{ℕ, ◌+◌, ◌-◌, ◌≤◌}
 use mathlib.Core.Path.{◌≡◌, refl, sym, ap, subst, ◌∙◌}
 use mathlib.Core.List.{List, [], ◌∷◌, ◌++◌}
@@ -12,7 +13,7 @@ use Rattle.reference_digests.specs.Digests.{is_digest, digest_of}
 use Rattle.reference_digests.proofs.Digests.{digest_length}
 use Rattle.reference_digests.specs.declared.algorithm.Algorithm.{Algorithm}
 use Rattle.reference.specs.References.{Layer, layer_digest, layer_alias, no_layer}
-use Rattle.reference.specs.declared.layer.Layer.TheVariants.{Alias as ReadAlias, Bad}
+use Rattle.reference.specs.declared.layer.Layer.TheVariants.{Alias as ReadAlias}
 use Rattle.manifest.specs.Opened.{Denotes}
 use Rattle.manifest_objects.specs.Objects.{StandsAt}
 use Rattle.laws.specs.Writes.{Writes}
@@ -43,11 +44,11 @@ digits_read {a} {y} {d} e f =
 
 module _ (b : List ℕ) (k : ℕ) (d : LayerDigest) (s : DigestStands b k d) where
   -- A digest that stands somewhere is not read as an alias,
-  pub stands_no_alias : {C : Type 0} (a : Algorithm) (p q : ℕ) → ((l : Layer) → StandsAt b k l → Denotes b (ReadAlias a p q) l) → C
+  pub stands_no_alias : {C : Type 0} (a : Algorithm) (p q : ℕ) → ((l : Layer) → StandsAt b k l → Denotes b (Some (ReadAlias a p q)) l) → C
   stands_no_alias a p q r = let x = r _ s.stands in not_alias (sym x.is ∙ x.reads.2)
 
   -- and not as no reference.
-  pub stands_no_bad : {C : Type 0} → ((l : Layer) → StandsAt b k l → Denotes b Bad l) → C
+  pub stands_no_bad : {C : Type 0} → ((l : Layer) → StandsAt b k l → Denotes b None l) → C
   stands_no_bad r = let x = r _ s.stands in not_bad (sym x.is ∙ x.reads)
 
 module _ {a : Algorithm} {y : List ℕ} {d : LayerDigest} (x : DigitsOf a y d) where

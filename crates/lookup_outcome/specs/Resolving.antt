@@ -1,6 +1,5 @@
 -- What resolving the layers of an image works on, and what it answers.
-use Rattle.std.specs.Prelude.{ℕ, ◌+◌, ◌≤◌, ◌<◌, ◌≡◌, List, [], ◌∷◌, Bool, true, false, length, take, get_or}
-use Rattle.std.proofs.Math.Option.{some}
+use Rattle.std.specs.Prelude.{ℕ, ◌+◌, ◌≤◌, ◌<◌, ◌≡◌, List, [], ◌∷◌, Bool, true, false, length, take, get_or, Some, Result, Ok, Err}
 use Rattle.reference.specs.References.{Layer, layer_digest, no_layer}
 use Rattle.manifest_objects.specs.Objects.{StandsAt, AllStand}
 use Rattle.store_record.specs.Image.{Image}
@@ -9,10 +8,9 @@ use Rattle.lookup_layers.specs.Layers.{LayerDigest, entry_of, list_of, layers_in
 use Rattle.lookup_paths.specs.Follow.{keys_in, object_count}
 use Rattle.lookup_links.specs.Links.{Links}
 use Rattle.lookup_outcome.specs.Outcome.{Fate, found, lost, Outcome as LayersOutcome, resolved, fails}
-use Rattle.lookup_outcome.specs.declared.Fate.{Fate as FoundFate}
-use Rattle.lookup_outcome.specs.declared.Fate.TheVariants.{Present, Fails as FateFails}
-use Rattle.lookup_outcome.specs.declared.Outcome.{Outcome}
-use Rattle.lookup_outcome.specs.declared.Outcome.TheVariants.{All, Fails}
+use Rattle.lookup_outcome.specs.declared.Failure.{Failure}
+use Rattle.lookup_outcome.specs.declared.FailedLayer.{FailedLayer}
+use Rattle.lookup_outcome.specs.declared.Present.{Present}
 
 -- the references refs, objects of the room's images and then layers, stand at the positions `keys` of b and are linked; `present` is the list of the layers ds
 pub record Resolving (b keys next present : List ℕ) (objects : ℕ) (room : List Image) (refs : List Layer) (ds : List LayerDigest) : Type 0 where
@@ -22,7 +20,7 @@ pub record Resolving (b keys next present : List ℕ) (objects : ℕ) (room : Li
   pub count : object_count room ≡ objects
   pub few : objects ≤ length refs
   pub layers_few : length refs ≤ objects + 64
-  pub list : layers_in present ≡ some ds
+  pub list : layers_in present ≡ Some ds
 
 -- some room, references and layers
 pub record SomeResolving (b keys next present : List ℕ) (objects : ℕ) : Type 0 where
@@ -69,9 +67,9 @@ pub record FoundAt (refs : List Layer) (f : Fate) (o n : ℕ) : Type 0 where
   pub is : f ≡ found digest
 
 -- a layer that comes out so is answered so
-abbrev pub Answers : List Layer → Fate → FoundFate → Type 0
-Answers refs f (Present o n) = FoundAt refs f o n
-Answers refs f (FateFails e) = f ≡ lost e
+abbrev pub Answers : List Layer → Fate → Result Present Failure → Type 0
+Answers refs f (Ok p) = FoundAt refs f p.number p.size
+Answers refs f (Err e) = f ≡ lost e
 
 -- all layers were found: their digests are the references with the numbers at the start of `numbers`, and the list of them has n bytes
 pub record AllFound (refs : List Layer) (o : LayersOutcome) (numbers : List ℕ) (n : ℕ) : Type 0 where
@@ -81,9 +79,9 @@ pub record AllFound (refs : List Layer) (o : LayersOutcome) (numbers : List ℕ)
   pub is : o ≡ resolved digests
 
 -- layers that come out so are answered so
-abbrev pub Checks : List Layer → LayersOutcome → List ℕ → Outcome → Type 0
-Checks refs o numbers (All n) = AllFound refs o numbers n
-Checks refs o numbers (Fails k e) = o ≡ fails k.0 e
+abbrev pub Checks : List Layer → LayersOutcome → List ℕ → Result ℕ FailedLayer → Type 0
+Checks refs o numbers (Ok n) = AllFound refs o numbers n
+Checks refs o numbers (Err e) = o ≡ fails e.layer.0 e.why
 
 -- the digests with these numbers can be written to a buffer of that length
 pub record Writable (b keys numbers : List ℕ) (size : ℕ) : Type 0 where

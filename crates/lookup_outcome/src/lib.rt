@@ -1,8 +1,7 @@
 // How the layers of an image come out: each is followed to its digest, which must be in the layer list; the digests are written in the order of `layers`.
 #![tactic(auto)]
 
-ghost use Rattle.std.specs.Prelude.{◌≡◌, List, ◌++◌, map, ◌<◌, length, drop, get_or};
-ghost use Rattle.std.proofs.Math.Option.{some};
+ghost use Rattle.std.specs.Prelude.{◌≡◌, List, ◌++◌, map, ◌<◌, length, drop, get_or, Some};
 ghost use Rattle.reference.specs.References.{Layer as LayerReference, no_layer};
 ghost use Rattle.manifest_objects.specs.Objects.{AllStand};
 ghost use Rattle.store_record.specs.Image.{Image};
@@ -40,28 +39,28 @@ impl Failure {
     }
 }
 
-// How one layer comes out: the number of its digest among the references and the bytes of its entry, or why it fails.
+// A layer that is found: the number of its digest among the references, and the bytes of its entry.
 #[derive(Clone, Copy)]
-enum Fate {
-    Present { number: usize, size: usize },
-    Fails(Failure),
+struct Present {
+    number: usize,
+    size: usize,
 }
 
-// How all layers come out: found, with the bytes of their list; or the first that fails, and why.
+// The first layer that fails, and why.
 #[derive(Clone, Copy)]
-pub enum Outcome {
-    All(usize),
-    Fails(LayerIndex, Failure),
+pub struct FailedLayer {
+    pub layer: LayerIndex,
+    pub why: Failure,
 }
 
 // How many bytes the entry has of the digest that stands from position k of b on, if it is in the layer list; and else 0.
 fn size_if_present(b: &[u8], k: usize, present: &[u8]) -> usize
     requires { SomeDigest b.now k × SomeList present.now }
-    ensures { (d : LayerDigest) (ds : List LayerDigest) → DigestStands b.now k d → layers_in present.now ≡ some ds
+    ensures { (d : LayerDigest) (ds : List LayerDigest) → DigestStands b.now k d → layers_in present.now ≡ Some ds
         → result ≡ size_if (is_listed d ds) d }
 {
     match manifest_objects::read(b, k) {
-        Layer::Digest(a, at) => {
+        Some(Layer::Digest(a, at)) => {
             let mut bytes = [0u8; Algorithm::SHA384_BYTES];
             digest::write(b, at, a, &mut bytes);
             let n = a.digest_bytes();
@@ -70,36 +69,40 @@ fn size_if_present(b: &[u8], k: usize, present: &[u8]) -> usize
             }
             0
         }
-        Layer::Alias {
-            algorithm: _,
-            signer: _,
-            alias: _,
-        } => 0,
-        Layer::Bad => 0,
+        Some(Layer::Alias { .. }) => 0,
+        None => 0,
     }
 }
 
 // Follows the reference with number e, of which `objects` and less are objects.
-fn fate_of(b: &[u8], keys: &[usize], next: &[u16], objects: usize, e: usize, present: &[u8]) -> Fate
+fn fate_of(
+    b: &[u8],
+    keys: &[usize],
+    next: &[u16],
+    objects: usize,
+    e: usize,
+    present: &[u8],
+) -> Result<Present, Failure>
     requires { SomeResolving b.now keys.now next.now present.now objects × (e < length keys.now) }
     ensures { (room : List Image) (refs : List LayerReference) (ds : List LayerDigest)
         → Resolving b.now keys.now next.now present.now objects room refs ds
         → Answers refs (fate ds (end_of room (get_or refs e no_layer))) result }
 {
     match lookup_links::follow(next, e, objects) {
-        PathEnd::Undefined => Fate::Fails(Failure::Undefined),
-        PathEnd::Endless => Fate::Fails(Failure::Endless),
+        PathEnd::Undefined => Err(Failure::Undefined),
+        PathEnd::Endless => Err(Failure::Endless),
         PathEnd::Met(number) => {
             let size = size_if_present(b, keys[number], present);
             if size == 0 {
-                return Fate::Fails(Failure::Absent);
+                return Err(Failure::Absent);
             }
-            Fate::Present { number, size }
+            Ok(Present { number, size })
         }
     }
 }
 
-// Follows each of the references after the objects, until one fails; puts the numbers of their digests at the start of `numbers`.
+// Follows each of the references after the objects, until one fails; puts the numbers of their digests at the start of `numbers`, and answers how many
+// bytes their list has.
 pub fn check_all(
     b: &[u8],
     keys: &[usize],
@@ -107,35 +110,26 @@ pub fn check_all(
     objects: usize,
     present: &[u8],
     numbers: &mut [u16],
-) -> Outcome
+) -> Result<usize, FailedLayer>
     requires { SomeResolving b.now keys.now next.now present.now objects × (length numbers.old ≡ 64) }
     ensures { (room : List Image) (refs : List LayerReference) (ds : List LayerDigest)
         → Resolving b.now keys.now next.now present.now objects room refs ds
         → Checks refs (outcome ds (map (end_of room) (drop objects refs))) numbers.new result }
 {
-    let n = keys.len();
     let mut length = 0;
-    // the first that fails; none behind it is followed
-    let mut failing = n;
-    let mut why = Failure::Undefined;
-    let mut e = objects;
-    while e < failing {
+    for e in objects..keys.len() {
         match fate_of(b, keys, next, objects, e, present) {
-            Fate::Fails(f) => {
-                failing = e;
-                why = f;
+            Ok(found) => {
+                numbers[e - objects] = found.number as u16;
+                length += found.size;
             }
-            Fate::Present { number, size } => {
-                numbers[e - objects] = number as u16;
-                length += size;
+            Err(why) => {
+                let layer = LayerIndex(e - objects);
+                return Err(FailedLayer { layer, why });
             }
         }
-        e += 1;
     }
-    if failing < n {
-        return Outcome::Fails(LayerIndex(failing - objects), why);
-    }
-    Outcome::All(length)
+    Ok(length)
 }
 
 // Writes the entry of the digest that stands from position k of b on at the start of `out`, and answers how many bytes it has.
@@ -145,17 +139,13 @@ fn write_entry(b: &[u8], k: usize, out: &mut [u8]) -> usize
         → (result ≡ length (entry_of d)) × (out.new ≡ entry_of d ++ drop result out.old) }
 {
     match manifest_objects::read(b, k) {
-        Layer::Digest(a, at) => {
+        Some(Layer::Digest(a, at)) => {
             out[0] = a.byte();
             digest::write(b, at, a, &mut out[1..]);
             1 + a.digest_bytes()
         }
-        Layer::Alias {
-            algorithm: _,
-            signer: _,
-            alias: _,
-        } => 0,
-        Layer::Bad => 0,
+        Some(Layer::Alias { .. }) => 0,
+        None => 0,
     }
 }
 
@@ -167,10 +157,7 @@ pub fn write_all(b: &[u8], keys: &[usize], numbers: &[u16], out: &mut [u8])
         → out.new ≡ list_of ds ++ drop (length (list_of ds)) out.old }
 {
     let mut n = 0;
-    let mut k = 0;
-    while k < numbers.len() {
-        let e = numbers[k] as usize;
-        n += write_entry(b, keys[e], &mut out[n..]);
-        k += 1;
+    for number in numbers {
+        n += write_entry(b, keys[*number as usize], &mut out[n..]);
     }
 }

@@ -1,9 +1,9 @@
 -- The object that is computed for an alias is the one that the room defines it for, and it is one of the images' objects. Assumes nothing.
+use Rattle.std.specs.Prelude.{Option, None, Some}
 use Prim.Native.Nat.{ℕ, ◌+◌}
 use mathlib.Core.Path.{◌≡◌, refl, sym, ap, subst, ◌∙◌}
 use mathlib.Core.Logic.{◌↔◌, ⊎_elim}
 use mathlib.Core.Bool.{true, false, ◌&&◌, and-eq-true_iff}
-use mathlib.Core.Option.{Option, none, some}
 use mathlib.Core.List.Memᴰ
 use mathlib.Core.List.{List, [], ◌∷◌, Memᴰ as In}
 use native.Mathlib.Omega.{arith}
@@ -25,12 +25,12 @@ use Rattle.lookup_paths.specs.Follow.{keys_in, object_in, aliased_object, object
 use Rattle.lookup_paths.proofs.Defining.{defines_exactly, one_object_defined}
 
 -- An option holds something or nothing, and the equation stays at hand.
-pub by_option : {A C : Type 0} (o : Option A) → (o ≡ none → C) → ((a : A) → o ≡ some a → C) → C
-by_option none f g = f refl
-by_option (some a) f g = g a refl
+pub by_option : {A C : Type 0} (o : Option A) → (o ≡ None → C) → ((a : A) → o ≡ Some a → C) → C
+by_option None f g = f refl
+by_option (Some a) f g = g a refl
 
 -- An option that holds nothing does not hold something.
-pub none_some : {A C : Type 0} {a : A} → ◌≡◌ {A = Option A} none (some a) → C
+pub none_some : {A C : Type 0} {a : A} → ◌≡◌ {A = Option A} None (Some a) → C
 none_some e = let z : ◌≡◌ {A = ℕ} 0 1 = cc in absurd (omega arith)
 
 -- keys that are the same are one alias
@@ -55,18 +55,18 @@ record Holds (k : Key) (ls : List LayerKey) (m : Layer) : Type 0 where
   is : is_same_key held.key k ≡ true
   object : held.object ≡ m
 
-found : (k : Key) (ls : List LayerKey) (m : Layer) → object_in k ls ≡ some m → Holds k ls m
+found : (k : Key) (ls : List LayerKey) (m : Layer) → object_in k ls ≡ Some m → Holds k ls m
 unfolding object_in
 found k [] m e = none_some e
 found k (l ∷ ls) m e =
     by_test (is_same_key l.key k)
-    (λ f. let g : some l.object ≡ some m = rw (f, object_in) at e in
+    (λ f. let g : Some l.object ≡ Some m = rw (f, object_in) at e in
     let h : l.object ≡ m = cc in
     record { held = l; stands = Memᴰ.head refl; is = f; object = h })
     (λ f. let w = found k ls m (rw (f, object_in) at e) in
     record { held = w.held; stands = Memᴰ.tail w.stands; is = w.is; object = w.object })
 
-not_found : (k : Key) {l : LayerKey} {ls : List LayerKey} → object_in k ls ≡ none → In l ls → is_same_key l.key k ≡ true → ⊥
+not_found : (k : Key) {l : LayerKey} {ls : List LayerKey} → object_in k ls ≡ None → In l ls → is_same_key l.key k ≡ true → ⊥
 unfolding object_in
 not_found k e (Memᴰ.head {x = x} {xs = xs} q) f =
     let g : is_same_key x.key k ≡ true = ap (λ (j : LayerKey). is_same_key j.key k) (sym q) ∙ f in none_some (sym (rw (g, object_in) at e))
@@ -94,36 +94,36 @@ module _ (room : List Image) where
   key_defines k j m e =
       let x = key_image room m in subst (λ (l : Layer). Defines room l k.object) (same_alias k.key j e) (by_image x.1 x.2)
 
-  by_key : (k : Key) (m : Layer) → object_in k (keys_in room) ≡ some m → Defines room (alias_of k) m
+  by_key : (k : Key) (m : Layer) → object_in k (keys_in room) ≡ Some m → Defines room (alias_of k) m
   by_key k m e =
       let w = found k (keys_in room) m e in
       subst (λ (n : Layer). Defines room (alias_of k) n) w.object (key_defines w.held k w.stands w.is)
 
   -- The object that is computed for an alias is one that the room defines it for.
-  pub object_defined : (l m : Layer) → aliased_object room l ≡ some m → Defines room l m
+  pub object_defined : (l m : Layer) → aliased_object room l ≡ Some m → Defines room l m
   unfolding aliased_object
   object_defined (layer_alias a s n) m e = by_key (record { algorithm = a; signer = s; name = n }) m e
   object_defined (layer_digest a d) m e = none_some e
   object_defined no_layer m e = none_some e
 
   -- An alias for which no object is computed is not defined.
-  pub object_undefined : {l m : Layer} → aliased_object room l ≡ none → Defines room l m → ⊥
+  pub object_undefined : {l m : Layer} → aliased_object room l ≡ None → Defines room l m → ⊥
   unfolding aliased_object
   object_undefined e (by_image {x = x} {k = k} i j) = not_found k.key e (image_key i j) (same_itself k.key)
 
   module _ (c : any_clash room ≡ false) {l m : Layer} where
-    defined_object : Defines room l m → aliased_object room l ≡ some m
+    defined_object : Defines room l m → aliased_object room l ≡ Some m
     defined_object h =
         by_option (aliased_object room l)
         (λ e. absurd (object_undefined e h))
-        (λ n e. e ∙ ap some (one_object_defined c (object_defined l n e) h))
+        (λ n e. e ∙ ap Some (one_object_defined c (object_defined l n e) h))
 
     -- In a room without clash the object of an alias is what the room defines it for.
-    pub object_exactly : (aliased_object room l ≡ some m) ↔ Defines room l m
+    pub object_exactly : (aliased_object room l ≡ Some m) ↔ Defines room l m
     object_exactly = (object_defined l m, defined_object)
 
   -- There is no object exactly if the room does not define the alias.
-  pub no_object_exactly : (l : Layer) → (aliased_object room l ≡ none) ↔ ((m : Layer) → Defines room l m → ⊥)
+  pub no_object_exactly : (l : Layer) → (aliased_object room l ≡ None) ↔ ((m : Layer) → Defines room l m → ⊥)
   no_object_exactly l = (λ e m h. object_undefined e h, λ u. by_option (aliased_object room l) (λ e. e) (λ m e. absurd (u m (object_defined l m e))))
 
 -- There are as many objects as `object_count` counts.
@@ -138,7 +138,7 @@ of_image {m = m} (Memᴰ.head {x = y} {xs = ys} e) i = Memᴰ.append_left (objec
 of_image (Memᴰ.tail {x = y} n) i = Memᴰ.append_right (objects y.text) (of_image n i)
 
 -- The object of an alias is one of the images' objects.
-pub object_of_room : (room : List Image) (l m : Layer) → aliased_object room l ≡ some m → In m (objects_of room)
+pub object_of_room : (room : List Image) (l m : Layer) → aliased_object room l ≡ Some m → In m (objects_of room)
 unfolding aliased_object
 object_of_room room (layer_alias a s n) m e =
     let w = (defines_exactly room a s n m).0 (object_defined room (layer_alias a s n) m e) in

@@ -1,8 +1,8 @@
 -- How many steps a path takes. Once it has ended more steps do not change its end, and a path that ends takes at most one step more than there are objects.
 -- Assumes nothing.
+use Rattle.std.specs.Prelude.{None, Some}
 use Prim.Native.Nat.{ℕ, zero, suc, ◌+◌, ◌-◌, ◌≤◌, ◌<◌}
 use mathlib.Core.Path.{◌≡◌, refl, sym, ap, subst, ◌∙◌}
-use mathlib.Core.Option.{none, some}
 use mathlib.Core.List.{List, Memᴰ as In}
 use native.Mathlib.Omega.{arith}
 use lib.Dec.{eqb, ltb}
@@ -43,7 +43,7 @@ module _ (room : List Image) where
   bad_undefined (suc n) = refl
 
   -- One step leads from an alias to its object.
-  pub follow_on : (k : ℕ) (l m : Layer) → aliased_object room l ≡ some m → follow (suc k) room l ≡ follow k room m
+  pub follow_on : (k : ℕ) (l m : Layer) → aliased_object room l ≡ Some m → follow (suc k) room l ≡ follow k room m
   unfolding follow on_from aliased_object
   follow_on k (layer_alias a s n) m e = ap (on_from (λ (l : Layer). follow k room l)) e
   follow_on k (layer_digest a d) m e = none_some e
@@ -51,7 +51,7 @@ module _ (room : List Image) where
 
   -- The path ends at an alias without an object.
   pub follow_none :
-      (k : ℕ) (a : Algorithm) (s n : List ℕ) → aliased_object room (layer_alias a s n) ≡ none → follow (suc k) room (layer_alias a s n) ≡ undefined
+      (k : ℕ) (a : Algorithm) (s n : List ℕ) → aliased_object room (layer_alias a s n) ≡ None → follow (suc k) room (layer_alias a s n) ≡ undefined
   unfolding follow on_from
   follow_none k a s n e = ap (on_from (λ (l : Layer). follow k room l)) e
 
@@ -149,7 +149,7 @@ module _ (room : List Image) where
       sym (ended_stays c n l g) ∙ ap (λ (k : ℕ). follow k room l) q ∙ ended_stays n c l h)
 
   -- An alias has the end of its object.
-  pub end_on : (l m : Layer) → aliased_object room l ≡ some m → end_of room l ≡ end_of room m
+  pub end_on : (l m : Layer) → aliased_object room l ≡ Some m → end_of room l ≡ end_of room m
   unfolding end_of
   end_on l m e =
       let c = object_count room in

@@ -1,6 +1,5 @@
 -- The end of an alias path, computed.
-use Rattle.std.specs.Prelude.{ℕ, zero, suc, ◌+◌, List, [], ◌∷◌, ◌++◌, true, false, length}
-use Rattle.std.proofs.Math.Option.{Option, none, some}
+use Rattle.std.specs.Prelude.{ℕ, zero, suc, ◌+◌, List, [], ◌∷◌, ◌++◌, true, false, length, Option, None, Some}
 use Rattle.reference.specs.References.{Layer, layer_digest, layer_alias, no_layer}
 use Rattle.reference_digests.specs.declared.algorithm.Algorithm.{Algorithm}
 use Rattle.manifest.specs.Names.{objects}
@@ -15,14 +14,14 @@ keys_in (x ∷ xs) = layer_keys x ++ keys_in xs
 
 -- the object of a layer key
 unfoldable pub object_in : Key → List LayerKey → Option Layer
-object_in k [] = none
-object_in k (l ∷ ls) = elim (is_same_key l.key k) [ true ↦ some l.object | false ↦ object_in k ls ]
+object_in k [] = None
+object_in k (l ∷ ls) = elim (is_same_key l.key k) [ true ↦ Some l.object | false ↦ object_in k ls ]
 
 -- what an alias stands for
 unfoldable pub aliased_object : List Image → Layer → Option Layer
 aliased_object xs (layer_alias a s n) = object_in (record { algorithm = a; signer = s; name = n }) (keys_in xs)
-aliased_object xs (layer_digest a d) = none
-aliased_object xs no_layer = none
+aliased_object xs (layer_digest a d) = None
+aliased_object xs no_layer = None
 
 -- how a path ends: it meets a digest, it comes to an alias that no image defines, or it goes on
 pub data End : Type 0 where
@@ -32,8 +31,8 @@ pub data End : Type 0 where
 
 -- on from the object of an alias, if it has one
 unfoldable pub on_from : (Layer → End) → Option Layer → End
-on_from next none = undefined
-on_from next (some l) = next l
+on_from next None = undefined
+on_from next (Some l) = next l
 
 -- within n steps
 unfoldable pub follow : ℕ → List Image → Layer → End

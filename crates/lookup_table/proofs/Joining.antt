@@ -6,7 +6,7 @@ use native.Mathlib.Omega.{arith}
 use lib.ListN.{length, take, get_or, length-append}
 use Rattle.reference.specs.References.{Layer}
 use Rattle.manifest.specs.Names.{objects}
-use Rattle.manifest.specs.declared.Places.{Places}
+use Rattle.manifest.specs.Opened.{Places}
 use Rattle.store_record.specs.Image.{Image}
 use Rattle.store_record.specs.Reading.{between, held_in, images_in, no_record}
 use Rattle.store_record.specs.declared.Survey.{Survey}

@@ -1,15 +1,15 @@
 -- A key is linked: the aliases of the table that have it get the number of its object. Assumes nothing.
+use Rattle.std.specs.Prelude.{None}
 use Prim.Native.Nat.{ℕ, ◌+◌, ◌-◌, ◌<◌, ◌≤◌}
 use mathlib.Core.Path.{◌≡◌, refl, sym, ap, subst, ◌∙◌}
 use mathlib.Core.List.Memᴰ
 use mathlib.Core.List.{List, [], ◌∷◌, ◌++◌}
 use mathlib.Core.Bool.{Bool, true, false, ◌&&◌, ◌||◌}
-use mathlib.Core.Option.{none}
 use native.Mathlib.Omega.{arith}
 use native.Mathlib.Numerals.{add-one}
 use lib.Dec.{eqb}
 use lib.ListN.{length, take, drop, get_or, set, length-set, length-drop}
-use lib.Seq.{take-suc, take-length, length-take-le, get_or-take, get_or-drop, get_or-set_same, get_or-set_other}
+use lib.Seq.{take-suc, length-take-le, get_or-take, get_or-drop, get_or-set_same, get_or-set_other}
 use borrow.Author.Tests.{eq-eqb, eqb-true, eqb-false}
 use Rattle.laws.specs.Any.{any_of}
 use Rattle.laws.specs.Order.{same}
@@ -37,11 +37,6 @@ unfolding link_to any_of
 relinked_none a s refs o before = record { size = refl; each = λ e h. refl }
 
 module _ (a : Algorithm) (s : List ℕ) (refs : List Layer) (o : ℕ) (chosen before : List ℕ) where
-  -- At last all that are chosen were asked.
-  pub relinked_all : (i : ℕ) → i ≡ length chosen → (after : List ℕ) → Relinked a s refs o (take i chosen) before after → Relinked a s refs o chosen before after
-  relinked_all i e after p =
-      subst (λ (k : List ℕ). Relinked a s refs o k before after) (ap (λ (n : ℕ). take n chosen) e ∙ take-length chosen) p
-
   module _ (i : ℕ) (l : i < length chosen) (mid : List ℕ) (p : Relinked a s refs o (take i chosen) before mid) where
     abbrev here : ℕ
     here = get_or chosen i 0
@@ -126,38 +121,38 @@ and_crossed false false z = refl
 
 any_one : (q : ℕ → Bool) (e : ℕ) (xs : List ℕ) → any_of (λ (f : ℕ). q f && eqb e f) xs ≡ (q e && any_of (eqb e) xs)
 unfolding any_of
-any_one q e [] = none (q e)
+any_one q e [] = None (q e)
   where
-    none : (t : Bool) → false ≡ (t && false)
-    none true = refl
-    none false = refl
+    None : (t : Bool) → false ≡ (t && false)
+    None true = refl
+    None false = refl
 any_one q e (x ∷ xs) = go (any_one q e xs)
   where
     spread : (t u w : Bool) → ((t && u) || (t && w)) ≡ (t && (u || w))
     spread true u w = refl
     spread false u w = refl
 
-    none : (t : Bool) → (t && false) ≡ false
-    none true = refl
-    none false = refl
+    None : (t : Bool) → (t && false) ≡ false
+    None true = refl
+    None false = refl
 
     first : (q x && eqb e x) ≡ (q e && eqb e x)
     first =
         by_test (eqb e x)
         (λ f. ap (λ (j : ℕ). q j && eqb e x) (sym (eqb-true e x f)))
-        (λ f. ap (λ (t : Bool). q x && t) f ∙ none (q x) ∙ sym (none (q e)) ∙ sym (ap (λ (t : Bool). q e && t) f))
+        (λ f. ap (λ (t : Bool). q x && t) f ∙ None (q x) ∙ sym (None (q e)) ∙ sym (ap (λ (t : Bool). q e && t) f))
 
     go : any_of (λ (f : ℕ). q f && eqb e f) xs ≡ (q e && any_of (eqb e) xs)
         → ((q x && eqb e x) || any_of (λ (f : ℕ). q f && eqb e f) xs) ≡ (q e && (eqb e x || any_of (eqb e) xs))
     go ih = (λ i. first i || ih i) ∙ spread (q e) (eqb e x) (any_of (eqb e) xs)
 
 -- one key more
-not_among : (k : Key) (ks : List LayerKey) (l : LayerKey) → object_in k ks ≡ none → is_same_key l.key k ≡ false → object_in k (ks ++ (l ∷ [])) ≡ none
+not_among : (k : Key) (ks : List LayerKey) (l : LayerKey) → object_in k ks ≡ None → is_same_key l.key k ≡ false → object_in k (ks ++ (l ∷ [])) ≡ None
 unfolding object_in
 not_among k [] l e f = rw (f, object_in)
 not_among k (x ∷ ks) l e f = go (not_among k ks l)
   where
-    go : (object_in k ks ≡ none → is_same_key l.key k ≡ false → object_in k (ks ++ (l ∷ [])) ≡ none) → object_in k (x ∷ (ks ++ (l ∷ []))) ≡ none
+    go : (object_in k ks ≡ None → is_same_key l.key k ≡ false → object_in k (ks ++ (l ∷ [])) ≡ None) → object_in k (x ∷ (ks ++ (l ∷ []))) ≡ None
     go ih =
         by_test (is_same_key x.key k)
         (λ g. none_some (sym (rw (g, object_in) at e)))
@@ -198,16 +193,16 @@ module _ (b keys at order : List ℕ) (refs : List Layer) (t : Table b keys at o
   link_after : (l : Layer) (e : ℕ) → (c d : ℕ) → c ≡ link_to (any_of (eqb e) chosen && is_alias_of a s l) o d → NamedAt b at e l
       → (is_alias l ≡ true → any_of (eqb e) order ≡ true) → Link ks refs l d → Link (ks ++ (new ∷ [])) refs l c
   unfolding is_alias_of is_alias link_to is_same_key
-  link_after (layer_digest c d) e o₁ o₂ q m i k = q ∙ ap (λ (u : Bool). link_to u o o₂) (none (any_of (eqb e) chosen)) ∙ k
+  link_after (layer_digest c d) e o₁ o₂ q m i k = q ∙ ap (λ (u : Bool). link_to u o o₂) (None (any_of (eqb e) chosen)) ∙ k
     where
-      none : (u : Bool) → (u && false) ≡ false
-      none true = refl
-      none false = refl
-  link_after no_layer e o₁ o₂ q m i k = q ∙ ap (λ (u : Bool). link_to u o o₂) (none (any_of (eqb e) chosen)) ∙ k
+      None : (u : Bool) → (u && false) ≡ false
+      None true = refl
+      None false = refl
+  link_after no_layer e o₁ o₂ q m i k = q ∙ ap (λ (u : Bool). link_to u o o₂) (None (any_of (eqb e) chosen)) ∙ k
     where
-      none : (u : Bool) → (u && false) ≡ false
-      none true = refl
-      none false = refl
+      None : (u : Bool) → (u && false) ≡ false
+      None true = refl
+      None false = refl
   link_after (layer_alias c g m) e o₁ o₂ q y i k =
       by_test (is_same_key new.key key)
       (λ f. subst (AliasLink (ks ++ (new ∷ [])) refs key) (sym (q ∙ ap (λ (u : Bool). link_to u o o₂) (test ∙ f)))

@@ -5,7 +5,7 @@ use Rattle.reference_digests.specs.declared.algorithm.Algorithm.{Algorithm}
 use Rattle.reference.specs.References.{Layer, no_layer}
 use Rattle.manifest.specs.Names.{objects}
 use Rattle.manifest.specs.Opened.{Opens}
-use Rattle.manifest.specs.declared.Places.{Places}
+use Rattle.manifest.specs.Opened.{Places}
 use Rattle.manifest_objects.specs.Objects.{is_alias_of}
 use Rattle.store_record.specs.Reading.{between, images_in, RecordIn}
 use Rattle.store_record.specs.declared.Record.{Record}

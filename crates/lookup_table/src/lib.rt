@@ -43,13 +43,11 @@ fn link(
     ensures { (refs : List LayerReference) → AllStand b.now keys.now refs
         → Relinked a signer.now refs number chosen.now next.old next.new }
 {
-    let mut i = 0;
-    while i < chosen.len() {
+    for i in 0..chosen.len() {
         let e = chosen[i] as usize;
         if manifest_objects::is_alias_of(b, keys[e], a, signer) {
             next[e] = number;
         }
-        i += 1;
     }
 }
 
@@ -101,8 +99,7 @@ fn link_image(
     let digest = r.manifest;
     let a = r.algorithm;
     let n = manifest_objects::list_aliases(&b[start..end], q, names, owners);
-    let mut k = 0;
-    while k < n {
+    for k in 0..n {
         let p = start + names[k] as usize + 1;
         let number = first + owners[k] as usize;
         link_name(
@@ -116,7 +113,6 @@ fn link_image(
             number as u16,
             next,
         );
-        k += 1;
     }
 }
 
@@ -140,13 +136,11 @@ pub fn link_all(
         → Links (keys_in (images_in b.now v)) (objects_of (images_in b.now v) ++ ls) next.new }
 {
     let mut first = 0;
-    let mut j = 0;
-    while j < v.count {
+    for j in 0..v.count {
         let r = v.records[j];
         let q = places[j];
         link_image(b, r, q, first, keys, at, order, next, names, owners);
         first += counts[j] as usize;
-        j += 1;
     }
 }
 
@@ -163,8 +157,7 @@ fn place_all(
         × AllStand b.now (take result keys.new) (objects_of (images_in b.now v)) }
 {
     let mut n = 0;
-    let mut i = 0;
-    while i < v.count {
+    for i in 0..v.count {
         let r = v.records[i];
         let start = r.text;
         let end = r.end;
@@ -172,7 +165,6 @@ fn place_all(
         let m = manifest_objects::place_objects(b, start, end, q, &mut keys[n..]);
         counts[i] = m as u16;
         n += m;
-        i += 1;
     }
     n
 }

@@ -2,7 +2,7 @@
 // lends, with their heads in another; the names of other manifests are looked up among them.
 #![tactic(auto)]
 
-ghost use Rattle.std.specs.Prelude.{◌≡◌, List, ℕ, ◌≤◌, length, take};
+ghost use Rattle.std.specs.Prelude.{◌≡◌, List, ℕ, ◌≤◌, length, take, Some};
 ghost use Rattle.text_strings.specs.InString.{Inside, content_from};
 ghost use Rattle.reference_digests.specs.declared.algorithm.Algorithm.{Algorithm};
 ghost use Rattle.reference.specs.References.{layer_alias};
@@ -17,11 +17,11 @@ ghost use Rattle.manifest.specs.Opened.{Opens, Denotes};
 use manifest::Places;
 use reference::layer::Layer;
 
-// The object of a name in `contents`, and the index of its key among the keys there; or none.
+// The object of a name in `contents`, as it was read, and the index of its key among the keys there.
 #[derive(Clone, Copy)]
-pub enum Object {
-    At { index: usize, object: Layer },
-    Missing,
+pub struct Object {
+    pub index: usize,
+    pub object: Option<Layer>,
 }
 
 // Puts the positions of the image's own aliases, sorted by name, at the start of `names`; answers how many there are. What `spare` holds is
@@ -77,32 +77,27 @@ pub fn conflicts(s: &[u8], names: &[u16], heads: &[u32], keys: &[u16], t: &[u8],
 }
 
 // The object in s of the name from position q of t on.
-fn object_named(s: &[u8], p: Places, t: &[u8], q: usize) -> Object
+fn object_named(s: &[u8], p: Places, t: &[u8], q: usize) -> Option<Object>
     requires { Opens s.now p × Inside t.now q }
     ensures { FindsObject s.now (content_from t.now q) result }
 {
     let group = p.contents;
     match manifest_names::object::object_of(s, group, t, q) {
-        manifest_names::object::Object::Missing => Object::Missing,
-        manifest_names::object::Object::At { index, key } => {
+        None => None,
+        Some(manifest_names::object::Object { index, key }) => {
             let object = reference::layer::read(s, key + 1);
-            Object::At { index, object }
+            Some(Object { index, object })
         }
     }
 }
 
 // The object in s of an alias that was read in t, itself read in s.
-pub fn object_of(s: &[u8], p: Places, t: &[u8], x: Layer) -> Object
+pub fn object_of(s: &[u8], p: Places, t: &[u8], x: Layer) -> Option<Object>
     requires { Opens s.now p × AliasRead t.now x }
-    ensures { (a : Algorithm) (d n : List ℕ) → Denotes t.now x (layer_alias a d n) → FindsObject s.now n result }
+    ensures { (a : Algorithm) (d n : List ℕ) → Denotes t.now (Some x) (layer_alias a d n) → FindsObject s.now n result }
 {
     match x {
-        Layer::Digest(_, _) => Object::Missing,
-        Layer::Alias {
-            algorithm: _,
-            signer: _,
-            alias,
-        } => object_named(s, p, t, alias),
-        Layer::Bad => Object::Missing,
+        Layer::Digest(_, _) => None,
+        Layer::Alias { alias, .. } => object_named(s, p, t, alias),
     }
 }

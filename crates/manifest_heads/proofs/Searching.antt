@@ -12,8 +12,8 @@ use Rattle.laws.proofs.Order.{by_test, false_true, leq_antisym, same_refl, same_
 use Rattle.laws.proofs.Rising.{Rising, sort_rising, rising_at}
 use Rattle.text_strings.specs.InString.{InString, Inside, content_from, key_le}
 use Rattle.text_order.specs.Compare.{order}
-use Rattle.text_order.specs.declared.Order.{Order}
-use Rattle.text_order.specs.declared.Order.TheVariants.{Less, Equal, Greater}
+use Rattle.std.specs.declared.cmp.Ordering.{Ordering}
+use Rattle.std.specs.declared.cmp.Ordering.TheVariants.{Less, Equal, Greater}
 use Rattle.text_strings.proofs.Contents.{content_from_is, inside_content}
 use Rattle.text_order.proofs.Orders.{Ordered, is_less, is_equal, is_greater, ordered}
 use Rattle.text_keys.proofs.Keys.{keys_get, keys_order}
@@ -22,7 +22,9 @@ use Rattle.manifest_repeat.specs.Names.{NamesAt, no_names, name_at, SortedNames}
 use Rattle.manifest_repeat.proofs.Sorting.{sorted_keys}
 use Rattle.laws.specs.Any.{any_of}
 use Rattle.manifest_heads.specs.Placed.{Placed, no_place, placed, SomeNames}
-use Rattle.manifest_heads.specs.Searches.{Stands}
+use Rattle.manifest_heads.specs.Searches.{Stands, Looks}
+use Rattle.std.specs.Prelude.{Option, Some, None}
+use Rattle.std.specs.Option.{is_some as some}
 use Rattle.manifest_heads.proofs.Any.{one_of_any, any_at, none_at, Reordered, sort_placed}
 
 -- Where strings with the contents `cs` stand at the positions `ks`, the contents are placed at these positions.
@@ -58,23 +60,28 @@ module _ {s : List ℕ} {cs : List (List ℕ)} {ks : List ℕ} (n : SortedNames 
       one_of_sorted c ∙ none_at (same c) sorted_names.here
       (λ i l x h. by_test (same c x) (λ e. absurd (f i l (content_from_is s (get_or ks i 0 + 1) x h ∙ sym (same_eq c x e)))) (λ e. e))
 
+  -- It is one of them exactly where it was found.
+  pub told : (c : List ℕ) (r : Option ℕ) → Looks s cs ks c r → is_one_of c cs ≡ some r
+  told c (Some p) e = stands c p e
+  told c None e = e
+
 -- what comparing two contents says
 module _ {x y : List ℕ} where
   -- An answer equal to the order of two contents says which of them comes first, or that they are equal.
-  pub compared : {r : Order} → r ≡ order x y → Ordered x y r
+  pub compared : {r : Ordering} → r ≡ order x y → Ordered x y r
   compared e = subst (Ordered x y) (sym e) (ordered x y)
 
-  is_before : {r : Order} → Ordered x y r → r ≡ Less → (leq x y ≡ true) × (x ≡ y → ⊥)
+  is_before : {r : Ordering} → Ordered x y r → r ≡ Less → (leq x y ≡ true) × (x ≡ y → ⊥)
   is_before (is_less a b) e = (a, b)
   is_before (is_equal a) e = let z : ◌≡◌ {A = ℕ} 0 1 = cc in absurd (omega arith)
   is_before (is_greater a) e = let z : ◌≡◌ {A = ℕ} 0 1 = cc in absurd (omega arith)
 
-  is_same : {r : Order} → Ordered x y r → r ≡ Equal → x ≡ y
+  is_same : {r : Ordering} → Ordered x y r → r ≡ Equal → x ≡ y
   is_same (is_less a b) e = let z : ◌≡◌ {A = ℕ} 0 1 = cc in absurd (omega arith)
   is_same (is_equal a) e = a
   is_same (is_greater a) e = let z : ◌≡◌ {A = ℕ} 0 1 = cc in absurd (omega arith)
 
-  is_after : {r : Order} → Ordered x y r → r ≡ Greater → leq x y ≡ false
+  is_after : {r : Ordering} → Ordered x y r → r ≡ Greater → leq x y ≡ false
   is_after (is_less a b) e = let z : ◌≡◌ {A = ℕ} 0 1 = cc in absurd (omega arith)
   is_after (is_equal a) e = let z : ◌≡◌ {A = ℕ} 0 1 = cc in absurd (omega arith)
   is_after (is_greater a) e = a
@@ -103,7 +110,7 @@ module _ (s ks c : List ℕ) where
       pub mid_inside : Inside s (get_or ks mid 0 + 1)
       mid_inside = keys_get (sorted_keys n.sorted) mid (omega (arith, p.within))
 
-      module _ (r : Order) (e : r ≡ order (content_from s (get_or ks mid 0 + 1)) c) where
+      module _ (r : Ordering) (e : r ≡ order (content_from s (get_or ks mid 0 + 1)) c) where
         -- If the name with the index `mid` compares as equal to the content, the content stands at that name's position.
         pub found : r ≡ Equal → Stands s ks c (get_or ks mid 0)
         found z =

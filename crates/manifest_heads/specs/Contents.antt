@@ -1,7 +1,6 @@
 -- Names of two manifests compared (document 01, "References, names and rules"): what two groups of aliases share, and under which key a name stands.
 -- Names are compared with all their bytes.
-use Rattle.std.specs.Prelude.{ℕ, ◌+◌, List, [], ◌∷◌, ◌++◌, Bool, true, false, not, ◌&&◌}
-use Rattle.std.proofs.Math.Option.{Option, none, some}
+use Rattle.std.specs.Prelude.{ℕ, ◌+◌, List, [], ◌∷◌, ◌++◌, Bool, true, false, not, ◌&&◌, Option, None, Some}
 use Rattle.laws.specs.Any.{any_of}
 use Rattle.laws.specs.Order.{same}
 use Rattle.text_content.specs.Value.{Fields, no_fields, field}
@@ -41,10 +40,10 @@ conflict xs ys = any_of (λ x. stands_elsewhere x.name x.key ys) xs
 
 -- the key of a name, the first where it stood twice
 unfoldable pub key_of : List ℕ → List Named → Option (List ℕ)
-key_of n [] = none
-key_of n (a ∷ rest) = elim (same n a.name) [ true ↦ some a.key | false ↦ key_of n rest ]
+key_of n [] = None
+key_of n (a ∷ rest) = elim (same n a.name) [ true ↦ Some a.key | false ↦ key_of n rest ]
 
 -- which member of a group has the name, counted from i on; the first where it stood twice
 unfoldable pub member_from : ℕ → List ℕ → Fields → Option ℕ
-member_from i n no_fields = none
-member_from i n (field k v fs) = elim (is_one_of n (texts (entries v))) [ true ↦ some i | false ↦ member_from (i + 1) n fs ]
+member_from i n no_fields = None
+member_from i n (field k v fs) = elim (is_one_of n (texts (entries v))) [ true ↦ Some i | false ↦ member_from (i + 1) n fs ]

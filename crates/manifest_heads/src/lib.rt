@@ -9,31 +9,22 @@ ghost use Rattle.manifest_repeat.specs.Names.{SortedNames};
 ghost use Rattle.manifest_heads.specs.Placed.{SomeNames};
 ghost use Rattle.manifest_heads.specs.Searches.{Looks};
 
+use std::cmp::Ordering;
 use text_names::head::{compare_headed, head};
-use text_order::Order;
-
-// The position of a name, or none.
-#[derive(Clone, Copy)]
-pub enum Search {
-    At(usize),
-    Missing,
-}
 
 // Puts the heads of the sorted names at the start of `heads`.
 pub fn fill_heads(s: &[u8], names: &[u16], heads: &mut [u32])
     requires { SomeNames s.now names.now × (length names.now ≤ length heads.old) }
     ensures { HeadsOf s.now names.now heads.new }
 {
-    let mut k = 0;
-    while k < names.len() {
-        let p = names[k] as usize;
-        heads[k] = head(s, p + 1);
-        k += 1;
+    for (k, name) in names.iter().enumerate() {
+        heads[k] = head(s, *name as usize + 1);
     }
 }
 
-// Looks the content from position q of t on up among the sorted names of s, by halves.
-pub fn find_headed(s: &[u8], names: &[u16], heads: &[u32], t: &[u8], q: usize) -> Search
+// Looks the content from position q of t on up among the sorted names of s, by halves, and answers its position, if it is one of them.
+// `binary_search_by` lends its closure a name and not the name's index, and the index is needed to read the head.
+pub fn find_headed(s: &[u8], names: &[u16], heads: &[u32], t: &[u8], q: usize) -> Option<usize>
     requires { SomeNames s.now names.now × HeadsOf s.now names.now heads.now × Inside t.now q }
     ensures { (cs : List (List ℕ)) → SortedNames s.now cs names.now
         → Looks s.now cs names.now (content_from t.now q) result }
@@ -45,16 +36,16 @@ pub fn find_headed(s: &[u8], names: &[u16], heads: &[u32], t: &[u8], q: usize) -
         let mid = low + (high - low) / 2;
         let p = names[mid] as usize;
         match compare_headed(s, p + 1, heads[mid], t, q, h) {
-            Order::Less => {
+            Ordering::Less => {
                 low = mid + 1;
             }
-            Order::Equal => return Search::At(p),
-            Order::Greater => {
+            Ordering::Equal => return Some(p),
+            Ordering::Greater => {
                 high = mid;
             }
         }
     }
-    Search::Missing
+    None
 }
 
 // The content from position q of t on is one of the sorted names of s.
@@ -62,8 +53,5 @@ pub fn has_headed(s: &[u8], names: &[u16], heads: &[u32], t: &[u8], q: usize) ->
     requires { SomeNames s.now names.now × HeadsOf s.now names.now heads.now × Inside t.now q }
     ensures { (cs : List (List ℕ)) → SortedNames s.now cs names.now → result ≡ is_one_of (content_from t.now q) cs }
 {
-    match find_headed(s, names, heads, t, q) {
-        Search::At(_) => true,
-        Search::Missing => false,
-    }
+    find_headed(s, names, heads, t, q).is_some()
 }

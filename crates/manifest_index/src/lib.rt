@@ -11,7 +11,6 @@ ghost use Rattle.manifest.specs.Manifest.{self_names};
 ghost use Rattle.manifest.specs.Opened.{Opens, ReadsRule, SomeRule};
 
 use manifest::Places;
-use manifest_fields::member::Found;
 use reference::rule::{Manifest, Rule};
 
 // Places of the index from `from` to `to`, the last not included.
@@ -28,8 +27,8 @@ fn collect_self(s: &[u8], q: Places, names: &mut [u16]) -> usize
 {
     let own = q.own;
     match own {
-        Found::Missing => 0,
-        Found::At(p) => manifest_repeat::collect_group(s, p, 6, names),
+        None => 0,
+        Some(p) => manifest_repeat::collect_group(s, p, 6, names),
     }
 }
 
@@ -50,10 +49,8 @@ pub fn place_self(
         × (length own.new ≡ length own.old) }
 {
     let n = collect_self(&b[start..end], q, own);
-    let mut i = 0;
-    while i < n {
+    for i in 0..n {
         at[i] = start + own[i] as usize + 1;
-        i += 1;
     }
     n
 }
@@ -77,25 +74,22 @@ pub fn is_same(b: &[u8], at: &[usize], e: u16, f: u16) -> bool
 }
 
 // The places of the names that a rule asks for, which was read in s.
-pub fn asked(b: &[u8], at: &[usize], order: &[u16], s: &[u8], x: Rule) -> Range
+pub fn asked(b: &[u8], at: &[usize], order: &[u16], s: &[u8], x: Option<Rule>) -> Range
     requires { SomeRule s.now x × SomeNameIndex b.now at.now order.now }
     ensures { (y : PolicyRule) → ReadsRule s.now x y → Asked b.now at.now order.now y result }
 {
-    match x {
-        Rule::Bad => Range { from: 0, to: 0 },
-        Rule::Accepts {
-            algorithm: _,
-            signer: _,
-            manifest,
-        } => match manifest {
-            Manifest::Any => Range { from: 0, to: 0 },
-            Manifest::Digest(_) => Range { from: 0, to: 0 },
-            Manifest::Alias(g) => {
-                let r = text_index::find(b, at, order, s, g);
-                let from = r.from;
-                let to = r.to;
-                Range { from, to }
+    let Some(rule) = x else {
+        return Range { from: 0, to: 0 };
+    };
+    match rule.manifest {
+        Manifest::Any => Range { from: 0, to: 0 },
+        Manifest::Digest(_) => Range { from: 0, to: 0 },
+        Manifest::Alias(g) => {
+            let r = text_index::find(b, at, order, s, g);
+            Range {
+                from: r.from,
+                to: r.to,
             }
-        },
+        }
     }
 }

@@ -1,17 +1,15 @@
 -- A group that was looked for and is there, and one that is missing. Assumes nothing.
+use Rattle.std.specs.Prelude.{Option, Some}
 use Prim.Native.Nat.{ℕ}
 use mathlib.Core.Path.{◌≡◌, sym, ap, subst, ◌∙◌}
 use mathlib.Core.List.{List}
 use mathlib.Core.Bool.{Bool, false}
-use mathlib.Core.Option.{Option}
 use Rattle.text_content.specs.Value.{Value, Fields, no_fields, object}
 use Rattle.text_view.specs.Place.{ValueAt}
 use Rattle.text_view.specs.Cursor.{SomeObject}
 use Rattle.text_view.proofs.ByKind.{one_value}
 use Rattle.manifest_fields.specs.Members.{Finds}
 use Rattle.manifest_fields.specs.FieldTests.{members_of, names_pass, found_members}
-use Rattle.manifest_fields.specs.declared.member.Found.{Found}
-use Rattle.manifest_fields.specs.declared.member.Found.TheVariants.{At}
 use Rattle.manifest_fields.proofs.Founds.{found_members_are}
 use Rattle.manifest_fields.proofs.Ruling.{is_here, its_members}
 use Rattle.manifest_repeat.specs.Names.{GroupFound}
@@ -20,7 +18,7 @@ use Rattle.laws.specs.Any.{any_of}
 use Rattle.manifest_heads.specs.Contents.{Named, named_in}
 use Rattle.manifest_names.specs.Groups.{Grouped, AliasGroup}
 
-module _ (s : List ℕ) (depth : ℕ) (r : Found) (g : Grouped s depth r) (p : ℕ) (e : r ≡ At p) where
+module _ (s : List ℕ) (depth : ℕ) (r : Option ℕ) (g : Grouped s depth r) (p : ℕ) (e : r ≡ Some p) where
   -- Where a group that was looked for is found at a position, an object of arrays of strings stands there.
   pub group_here : AliasGroup s p depth
   group_here =
@@ -47,5 +45,5 @@ unfolding any_of named_in
 none_tried g fs e = rw e
 
 -- A group that was looked for with space for its names is missing, or an object of arrays of strings.
-pub found_grouped : {s : List ℕ} {depth : ℕ} {r : Found} {names spare : List ℕ} → GroupFound s depth r names spare → Grouped s depth r
+pub found_grouped : {s : List ℕ} {depth : ℕ} {r : Option ℕ} {names spare : List ℕ} → GroupFound s depth r names spare → Grouped s depth r
 found_grouped g = record { value = g.value; finds = g.finds; group = g.group }

@@ -1,9 +1,9 @@
 -- How far the members of a group were searched for the key of a name. Assumes nothing.
+use Rattle.std.specs.Prelude.{None, Some}
 use Prim.Native.Nat.{ℕ, ◌+◌, ◌≤◌}
 use mathlib.Core.Path.{◌≡◌, refl, sym, ap, ◌∙◌}
 use mathlib.Core.List.{List, [], ◌∷◌, ◌++◌}
 use mathlib.Core.Bool.{Bool, true, false}
-use mathlib.Core.Option.{none, some}
 use native.Mathlib.Omega.{arith}
 use Rattle.laws.specs.Order.{same}
 use Rattle.laws.proofs.Order.{by_test, false_true}
@@ -17,16 +17,15 @@ use Rattle.manifest_values.specs.Values.{entries}
 use Rattle.manifest_fields.proofs.Finding.{one_object}
 use Rattle.manifest_heads.specs.Contents.{Named, named_under, named_in, key_of, member_from}
 use Rattle.manifest_names.specs.Objects.{KeyFound, FindsKey}
-use Rattle.manifest_names.specs.declared.object.Object.TheVariants.{Missing}
 
 -- the key of a name among the aliases of one key and others
 module _ (c k : List ℕ) (rest : List Named) where
-  key_under : (ns : List (List ℕ)) → is_one_of c ns ≡ true → key_of c (named_under k ns ++ rest) ≡ some k
+  key_under : (ns : List (List ℕ)) → is_one_of c ns ≡ true → key_of c (named_under k ns ++ rest) ≡ Some k
   unfolding is_one_of key_of named_under
   key_under [] e = false_true e
   key_under (n ∷ ns) e = go (key_under ns)
     where
-      go : (is_one_of c ns ≡ true → key_of c (named_under k ns ++ rest) ≡ some k) → key_of c (named_under k (n ∷ ns) ++ rest) ≡ some k
+      go : (is_one_of c ns ≡ true → key_of c (named_under k ns ++ rest) ≡ Some k) → key_of c (named_under k (n ∷ ns) ++ rest) ≡ Some k
       go ih = by_test (same c n) (λ h. rw (h, key_of)) (λ h. rw (h, key_of) (ih (rw (h, is_one_of) at e)))
 
   key_further : (ns : List (List ℕ)) → is_one_of c ns ≡ false → key_of c (named_under k ns ++ rest) ≡ key_of c rest
@@ -40,7 +39,7 @@ module _ (c k : List ℕ) (rest : List Named) where
 -- one step of both searches
 module _ (c k : List ℕ) (v : Value) (fs : Fields) where
   -- A name that is one of the first member's strings has that member's key.
-  pub key_here : is_one_of c (texts (entries v)) ≡ true → key_of c (named_in (field k v fs)) ≡ some k
+  pub key_here : is_one_of c (texts (entries v)) ≡ true → key_of c (named_in (field k v fs)) ≡ Some k
   unfolding named_in
   key_here e = key_under c k (named_in fs) (texts (entries v)) e
 
@@ -49,7 +48,7 @@ module _ (c k : List ℕ) (v : Value) (fs : Fields) where
   unfolding named_in
   key_later e = key_further c k (named_in fs) (texts (entries v)) e
 
-  member_here : (i : ℕ) → is_one_of c (texts (entries v)) ≡ true → member_from i c (field k v fs) ≡ some i
+  member_here : (i : ℕ) → is_one_of c (texts (entries v)) ≡ true → member_from i c (field k v fs) ≡ Some i
   unfolding member_from
   member_here i e = rw (e, member_from)
 
@@ -83,7 +82,7 @@ module _ (s : List ℕ) (at depth : ℕ) (c : List ℕ) where
     some_left = record { fields = p.others; left = p.here }
 
     -- no member is left
-    pub no_key : p.others ≡ no_fields → (fs : Fields) → ValueAt s at depth (object fs) → FindsKey s fs c Missing
+    pub no_key : p.others ≡ no_fields → (fs : Fields) → ValueAt s at depth (object fs) → FindsKey s fs c None
     unfolding key_of named_in
     no_key e fs v = p.keys fs v ∙ ap (λ (gs : Fields). key_of c (named_in gs)) e
 
@@ -118,6 +117,6 @@ module _ (s : List ℕ) (at depth : ℕ) (c : List ℕ) where
             }
 
 -- a missing group has no name
-pub nothing_named : (fs : Fields) (c : List ℕ) → fs ≡ no_fields → key_of c (named_in fs) ≡ none
+pub nothing_named : (fs : Fields) (c : List ℕ) → fs ≡ no_fields → key_of c (named_in fs) ≡ None
 unfolding key_of named_in
 nothing_named fs c e = ap (λ (gs : Fields). key_of c (named_in gs)) e

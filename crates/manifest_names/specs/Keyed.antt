@@ -1,13 +1,11 @@
 -- Aliases that are collected with their keys.
-use Rattle.std.specs.Prelude.{ℕ, ◌+◌, ◌≤◌, ◌≡◌, List, ◌++◌, false, length, take}
-use Rattle.std.proofs.Math.Option.{Option}
+use Rattle.std.specs.Prelude.{ℕ, ◌+◌, ◌≤◌, ◌≡◌, List, ◌++◌, false, length, take, Option}
 use Rattle.text_content.specs.Value.{Value, Values}
 use Rattle.text_strings.specs.InString.{Inside}
 use Rattle.manifest_fields.specs.Accessors.{texts, names_of}
 use Rattle.manifest_entries.specs.Entries.{count}
 use Rattle.manifest_fields.specs.Members.{Finds}
 use Rattle.manifest_fields.specs.FieldTests.{found_members}
-use Rattle.manifest_fields.specs.declared.member.Found.{Found}
 use Rattle.manifest_repeat.specs.Names.{Collectable, GroupAt, GroupFound}
 use Rattle.manifest_repeat.specs.Repeated.{repeated}
 use Rattle.manifest_heads.specs.Contents.{Named, named_under, conflict}
@@ -33,7 +31,7 @@ pub record KeyableGroup (s : List ℕ) (at depth : ℕ) (names keys : List ℕ) 
   pub long : length s ≤ length keys
 
 -- a group that was looked for, with no alias twice, and space
-pub record KeyableFound (s : List ℕ) (depth : ℕ) (found : Found) (names spare keys : List ℕ) : Type 0 where
+pub record KeyableFound (s : List ℕ) (depth : ℕ) (found : Option ℕ) (names spare keys : List ℕ) : Type 0 where
   pub group : GroupFound s depth found names spare
   pub once : (o : Option Value) → Finds s depth o found → repeated (names_of (found_members o)) ≡ false
   pub long : length s ≤ length keys

@@ -1,7 +1,6 @@
 // The aliases of a group of one manifest, each asked about against the sorted aliases of another: whether its name is one of theirs, or stands among them
 // under another key. One walk answers for both.
-ghost use Rattle.std.specs.Prelude.{◌≡◌, List};
-ghost use Rattle.std.proofs.Math.Option.{Option};
+ghost use Rattle.std.specs.Prelude.{◌≡◌, List, Option};
 ghost use Rattle.laws.specs.Any.{any_of};
 ghost use Rattle.text_content.specs.Value.{Value, Values, Fields, array, object};
 ghost use Rattle.text_strings.specs.InString.{Inside, content_from};
@@ -15,9 +14,8 @@ ghost use Rattle.manifest_heads.specs.Placed.{SortedContents, SomeContents};
 ghost use Rattle.manifest_names.specs.Asked.{Against, alias, passes as passes_by};
 ghost use Rattle.manifest_names.specs.Groups.{Grouped, AliasGroup, AliasList};
 
-use manifest_fields::member::Found;
-use manifest_heads::{Search, find_headed, has_headed};
-use text_view::{Element, Elements, Member, Members};
+use manifest_heads::{find_headed, has_headed};
+use text_view::{Elements, Member, Members};
 
 // What is asked: whether the name is among the others, or stands among them under another key. The keys of the others are read for the second only.
 #[derive(Clone, Copy)]
@@ -40,13 +38,11 @@ fn is_elsewhere(
     ensures { (xs : List Named) → SortedContents s.now xs keys.now names.now
         → result ≡ stands_elsewhere (content_from t.now q) (content_from t.now k) xs }
 {
-    match find_headed(s, names, heads, t, q) {
-        Search::Missing => false,
-        Search::At(p) => {
-            let own = keys[p] as usize;
-            !text_names::name::equal(t, k, s, own + 1)
-        }
-    }
+    let Some(p) = find_headed(s, names, heads, t, q) else {
+        return false;
+    };
+    let own = keys[p] as usize;
+    !text_names::name::equal(t, k, s, own + 1)
 }
 
 // What is asked is so of the alias whose name and key are the contents from positions q and k of t on.
@@ -87,17 +83,13 @@ fn any_listed(
         → result ≡ any_of (passes_by asked _ _ _ i) (named_under (content_from t.now k) (texts vs)) }
 {
     let mut left = Elements::new(t, at, depth);
-    loop {
-        match left.next(t) {
-            Element::End => return false,
-            Element::At(p, rest) => {
-                if passes(s, names, heads, keys, asked, t, p + 1, k) {
-                    return true;
-                }
-                left = rest;
-            }
+    while let Some((p, rest)) = left.next(t) {
+        if passes(s, names, heads, keys, asked, t, p + 1, k) {
+            return true;
         }
+        left = rest;
     }
+    false
 }
 
 // It is so of one of the aliases of the group at `at` of t.
@@ -117,17 +109,13 @@ fn any_grouped(
         → result ≡ any_of (passes_by asked _ _ _ i) (named_in fs) }
 {
     let mut left = Members::new(t, at, depth);
-    loop {
-        match left.next(t) {
-            Member::End => return false,
-            Member::At { key, value, rest } => {
-                if any_listed(s, names, heads, keys, asked, t, key + 1, value, left.depth) {
-                    return true;
-                }
-                left = rest;
-            }
+    while let Some(Member { key, value, rest }) = left.next(t) {
+        if any_listed(s, names, heads, keys, asked, t, key + 1, value, left.depth) {
+            return true;
         }
+        left = rest;
     }
+    false
 }
 
 // It is so of one of the aliases of a group of t that was looked for.
@@ -138,14 +126,14 @@ pub fn any(
     keys: &[u16],
     asked: Asked,
     t: &[u8],
-    group: Found,
+    group: Option<usize>,
 ) -> bool
     requires { Against asked s.now keys.now names.now × HeadsOf s.now names.now heads.now × Grouped t.now 6 group }
     ensures { (i : Against asked s.now keys.now names.now) (o : Option Value) → Finds t.now 6 o group
         → result ≡ any_of (passes_by asked _ _ _ i) (named_in (found_members o)) }
 {
     match group {
-        Found::Missing => false,
-        Found::At(p) => any_grouped(s, names, heads, keys, asked, t, p, 6),
+        None => false,
+        Some(p) => any_grouped(s, names, heads, keys, asked, t, p, 6),
     }
 }

@@ -1,9 +1,9 @@
 -- What the walks require, and what they give, of the fields of a manifest that was opened. Assumes nothing.
+use Rattle.std.specs.Prelude.{Option, Some, None}
 use Prim.Native.Nat.{ℕ, ◌+◌, ◌-◌, ◌^◌, ◌≤◌, ◌<◌}
 use mathlib.Core.Path.{◌≡◌, sym, ap, subst}
 use mathlib.Core.List.{List, []}
 use mathlib.Core.Bool.{true, false}
-use mathlib.Core.Option.{Option}
 use native.Mathlib.Omega.{arith}
 use lib.ListN.{length, take, drop, length-drop, length-map}
 use lib.Seq.{length-take-le}
@@ -15,7 +15,6 @@ use Rattle.manifest_fields.specs.FieldTests.{names_pass, found_entries, found_me
 use Rattle.manifest_fields.specs.Fields.{contents_name}
 use Rattle.manifest_fields.specs.Members.{Finds}
 use Rattle.manifest_fields.specs.declared.field.Field.TheVariants.{Layers}
-use Rattle.manifest_fields.specs.declared.member.Found.TheVariants.{At, Missing}
 use Rattle.manifest_fields.proofs.Founds.{missing_members}
 use Rattle.manifest_repeat.specs.Names.{GroupFound}
 use Rattle.manifest_repeat.proofs.Groups.{object_of, found_field_passes, found_group_passes, group_at, same_members}
@@ -24,7 +23,7 @@ use Rattle.manifest_strings.specs.Strings.{keys, found_strings, PlaceableFound, 
 use Rattle.manifest.specs.Manifest.{manifest_of, aliases_of, layers, contents}
 use Rattle.manifest.specs.Names.{keys_of, objects}
 use Rattle.manifest.specs.Opened.{Opens}
-use Rattle.manifest.specs.declared.Places.{Places}
+use Rattle.manifest.specs.Opened.{Places}
 use Rattle.manifest.proofs.Groups.{contents_grouped, contents_space}
 use Rattle.manifest.proofs.Limits.{layers_few}
 use Rattle.manifest_aliases.proofs.Objects.{few_objects}
@@ -87,13 +86,13 @@ module _ (s : List ℕ) (p : Places) (o : Opens s p) where
   layers_placed {start} f b m e = placed_stand b start m e (f (field_of Layers (manifest_of s)) o.layers) (sym (layers_read s o.good).is)
 
   -- Where `contents` is missing there are no aliases.
-  pub nothing_listed : p.contents ≡ Missing → Listed s [] [] (contents s)
+  pub nothing_listed : p.contents ≡ None → Listed s [] [] (contents s)
   unfolding contents contents_of aliases_of
   nothing_listed e =
       subst (Listed s [] []) (sym (ap aliases_of (missing_members s 6 p.contents (contents_field (manifest_of s)) o.contents e))) none_listed
 
   -- `contents` stands at a position
-  module _ (at : ℕ) (e : p.contents ≡ At at) where
+  module _ (at : ℕ) (e : p.contents ≡ Some at) where
     contents_here : ValueAt s at 6 (object (contents_of (manifest_of s)))
     unfolding contents_of
     contents_here = its_object s 6 p.contents (contents_grouped s p o) at e (contents_field (manifest_of s)) o.contents

@@ -1,4 +1,5 @@
 -- The names of aliases in an index, by their numbers: what the crates above need of it. Assumes nothing.
+use Rattle.std.specs.Prelude.{Some, None}
 use Prim.Native.Nat.{ℕ, ◌+◌, ◌-◌, ◌<◌}
 use mathlib.Core.Path.{◌≡◌, sym, ap, subst, ◌∙◌}
 use mathlib.Core.List.{List}
@@ -15,7 +16,7 @@ use Rattle.text_index.proofs.Lists.{filter_any}
 use Rattle.text_index.proofs.Parts.{in_part}
 use Rattle.reference_digests.specs.declared.algorithm.Algorithm.{Algorithm}
 use Rattle.reference.specs.References.{Layer, layer_digest, layer_alias, no_layer}
-use Rattle.reference.specs.declared.layer.Layer.TheVariants.{Digest, Alias as ReadAlias, Bad}
+use Rattle.reference.specs.declared.layer.Layer.TheVariants.{Digest, Alias as ReadAlias}
 use Rattle.manifest_index.specs.Index.{name_at, NumberOf}
 use Rattle.manifest.specs.Manifest.{Alias}
 use Rattle.manifest.specs.Opened.{Denotes}
@@ -63,7 +64,7 @@ module _ (b : List ℕ) (l : Layer) where
       record { algorithm = a; signer = s; number = x; is = p ∙ ap (λ (m : List ℕ). layer_alias a s m) (sym f) }
 
   -- What was read as an alias is one, and its name begins at the position that was read.
-  pub alias_named : (at : List ℕ) (e q : ℕ) (a : Algorithm) (g : ℕ) → e < length at → get_or at e 0 ≡ q → Denotes b (ReadAlias a g q) l → AliasNamed b at e l
+  pub alias_named : (at : List ℕ) (e q : ℕ) (a : Algorithm) (g : ℕ) → e < length at → get_or at e 0 ≡ q → Denotes b (Some (ReadAlias a g q)) l → AliasNamed b at e l
   unfolding name_at entry_text
   alias_named at e q a g h p d =
       by_name
@@ -72,9 +73,9 @@ module _ (b : List ℕ) (l : Layer) where
       (sym d.is ∙ d.reads.2)
 
   -- What was read as a digest is one.
-  pub digest_denoted : (a : Algorithm) (p : ℕ) → Denotes b (Digest a p) l → (d : List ℕ) × (l ≡ layer_digest a d)
+  pub digest_denoted : (a : Algorithm) (p : ℕ) → Denotes b (Some (Digest a p)) l → (d : List ℕ) × (l ≡ layer_digest a d)
   digest_denoted a p d = (_, sym d.is ∙ d.reads.1)
 
   -- What was read as no reference is none.
-  pub bad_denoted : Denotes b Bad l → l ≡ no_layer
+  pub bad_denoted : Denotes b None l → l ≡ no_layer
   bad_denoted d = sym d.is ∙ d.reads

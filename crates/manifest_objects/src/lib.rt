@@ -14,14 +14,13 @@ ghost use Rattle.manifest_objects.specs.Objects.{StandsAt, SomeReference, is_ali
 ghost use Rattle.manifest_objects.specs.Walks.{Listable, AddsListed, ListableGroup};
 
 use manifest::Places;
-use manifest_fields::member::Found;
 use manifest_index::Range;
 use reference::layer::Layer;
 use reference_digests::algorithm::Algorithm;
 use text_view::{Member, Members};
 
 // The reference that stands from position k of b on.
-pub fn read(b: &[u8], k: usize) -> Layer
+pub fn read(b: &[u8], k: usize) -> Option<Layer>
     requires { SomeReference b.now k }
     ensures { (l : LayerReference) → StandsAt b.now k l → Denotes b.now result l }
 {
@@ -34,18 +33,20 @@ pub fn is_alias_of(b: &[u8], k: usize, a: Algorithm, signer: &[u8]) -> bool
     ensures { (l : LayerReference) → StandsAt b.now k l → result ≡ is_alias_of a signer.now l }
 {
     match reference::layer::read(b, k) {
-        Layer::Alias {
-            algorithm,
-            signer: g,
-            alias: _,
-        } => {
-            if algorithm.byte() != a.byte() {
+        None => false,
+        Some(Layer::Digest(_, _)) => false,
+        Some(
+            Layer::Alias {
+                algorithm,
+                signer: g,
+                ..
+            },
+        ) => {
+            if algorithm != a {
                 return false;
             }
             reference_digests::digest::is(b, g, algorithm, signer)
         }
-        Layer::Digest(_, _) => false,
-        Layer::Bad => false,
     }
 }
 
@@ -86,11 +87,7 @@ fn list_under(
 {
     let added = manifest_repeat::collect_entries(s, at, depth, names, n);
     let r = added.count;
-    let mut i = n;
-    while i < r {
-        owners[i] = object as u16;
-        i += 1;
-    }
+    owners[n..r].fill(object as u16);
     r
 }
 
@@ -103,16 +100,12 @@ fn list_group(s: &[u8], at: usize, depth: usize, names: &mut [u16], owners: &mut
     let mut left = Members::new(s, at, depth);
     let mut n = 0;
     let mut object = 0;
-    loop {
-        match left.next(s) {
-            Member::End => return n,
-            Member::At { value, rest, .. } => {
-                n = list_under(s, value, left.depth, object, names, owners, n);
-                object += 1;
-                left = rest;
-            }
-        }
+    while let Some(Member { value, rest, .. }) = left.next(s) {
+        n = list_under(s, value, left.depth, object, names, owners, n);
+        object += 1;
+        left = rest;
     }
+    n
 }
 
 // Puts the positions of the aliases of layers at the start of `names`, in the text's order, and for each the number of its object into `owners`;
@@ -124,8 +117,8 @@ pub fn list_aliases(s: &[u8], p: Places, names: &mut [u16], owners: &mut [u16]) 
 {
     let group = p.contents;
     match group {
-        Found::Missing => 0,
-        Found::At(at) => list_group(s, at, 6, names, owners),
+        None => 0,
+        Some(at) => list_group(s, at, 6, names, owners),
     }
 }
 

@@ -1,9 +1,9 @@
 -- The rules of a launch policy by the positions that are written of their strings, one by one. Assumes nothing.
+use Rattle.std.specs.Prelude.{Option}
 use Prim.Native.Nat.{ℕ, zero, suc, ◌+◌, ◌≤◌, ◌<◌}
 use mathlib.Core.Path.{◌≡◌, refl, sym, ap, subst, ◌∙◌}
 use mathlib.Core.List.{List, map}
 use mathlib.Core.Bool.{false}
-use mathlib.Core.Option.{Option}
 use native.Mathlib.Omega.{arith}
 use lib.ListN.{length, take, get_or, length-map}
 use lib.Seq.{length-take-le, get_or-take}
@@ -18,7 +18,7 @@ use Rattle.manifest_repeat.specs.Names.{NamesAt, no_names, name_at}
 use Rattle.manifest_strings.specs.Strings.{found_strings, PlaceableFound, Placed}
 use Rattle.manifest.specs.Manifest.{manifest_of, rules}
 use Rattle.manifest.specs.Opened.{Opens}
-use Rattle.manifest.specs.declared.Places.{Places}
+use Rattle.manifest.specs.Opened.{Places}
 use Rattle.manifest.proofs.Limits.{rules_few}
 use Rattle.manifest.proofs.Opened.{rules_array, rules_read}
 use Rattle.manifest.proofs.Opening.{opened_short}

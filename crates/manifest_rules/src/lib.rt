@@ -28,7 +28,7 @@ pub fn place(s: &[u8], p: Places, at: &mut [usize]) -> usize
 }
 
 // The rule that stands from position k of s on.
-pub fn read(s: &[u8], k: usize) -> Rule
+pub fn read(s: &[u8], k: usize) -> Option<Rule>
     requires { SomeRuleAt s.now k }
     ensures { (y : PolicyRule) → RuleAt s.now k y → ReadsRule s.now result y }
 {
@@ -50,25 +50,26 @@ fn manifest_matches(s: &[u8], a: Algorithm, manifest: Manifest, digest: &[u8], n
 
 // A rule that was read in s matches the image with that algorithm and those digests; `named` tells whether the image has the alias that the rule asks
 // for.
-pub fn matches(s: &[u8], x: Rule, a: Algorithm, signer: &[u8], manifest: &[u8], named: bool) -> bool
+pub fn matches(
+    s: &[u8],
+    x: Option<Rule>,
+    a: Algorithm,
+    signer: &[u8],
+    manifest: &[u8],
+    named: bool,
+) -> bool
     requires { SomeRule s.now x }
     ensures { (y : PolicyRule) (names : List (List ℕ)) → ReadsRule s.now x y → named ≡ any_of (asks_for y) names
         → result ≡ matches_by y (image_id a signer.now manifest.now) names }
 {
-    match x {
-        Rule::Bad => false,
-        Rule::Accepts {
-            algorithm,
-            signer: g,
-            manifest: m,
-        } => {
-            if algorithm.byte() != a.byte() {
-                return false;
-            }
-            if !signer_matches(s, algorithm, g, signer) {
-                return false;
-            }
-            manifest_matches(s, algorithm, m, manifest, named)
-        }
+    let Some(rule) = x else {
+        return false;
+    };
+    if rule.algorithm != a {
+        return false;
     }
+    if !signer_matches(s, rule.algorithm, rule.signer, signer) {
+        return false;
+    }
+    manifest_matches(s, rule.algorithm, rule.manifest, manifest, named)
 }

@@ -1,6 +1,5 @@
 -- The strings of an array, or the keys of an object, and the positions where they begin.
-use Rattle.std.specs.Prelude.{ℕ, ◌+◌, ◌^◌, ◌<◌, ◌≤◌, ◌≡◌, List, [], ◌∷◌, map, Bool, true, false, length, take, drop}
-use Rattle.std.proofs.Math.Option.{Option, some}
+use Rattle.std.specs.Prelude.{ℕ, ◌+◌, ◌^◌, ◌<◌, ◌≤◌, ◌≡◌, List, [], ◌∷◌, map, Bool, true, false, length, take, drop, Option, Some}
 use Rattle.text_content.specs.Value.{Value, Fields, no_fields, field}
 use Rattle.text_view.specs.Place.{ValueAt, kind_of}
 use Rattle.text_view.specs.declared.Kind.TheVariants.{Object}
@@ -9,7 +8,6 @@ use Rattle.manifest_values.specs.Values.{is_array_of, entries}
 use Rattle.manifest_fields.specs.Accessors.{texts}
 use Rattle.manifest_fields.specs.FieldTests.{members_of, found_entries, found_members}
 use Rattle.manifest_fields.specs.Members.{Finds}
-use Rattle.manifest_fields.specs.declared.member.Found.{Found}
 use Rattle.manifest_repeat.specs.Names.{NamesAt}
 
 -- the keys of an object, in the text's order
@@ -43,10 +41,10 @@ pub record Placeable (s : List ℕ) (start at depth : ℕ) (object : Bool) (posi
   pub short : start + length s < 2 ^ 63
 
 -- what was looked for is missing, or such a value
-pub record PlaceableFound (s : List ℕ) (start depth : ℕ) (object : Bool) (found : Found) (positions : List ℕ) : Type 0 where
+pub record PlaceableFound (s : List ℕ) (start depth : ℕ) (object : Bool) (found : Option ℕ) (positions : List ℕ) : Type 0 where
   pub value : Option Value
   pub finds : Finds s depth value found
-  pub strings : (v : Value) → value ≡ some v → HasStrings object v
+  pub strings : (v : Value) → value ≡ Some v → HasStrings object v
   pub few : length (found_strings object value) ≤ 64
   pub space : 64 ≤ length positions
   pub short : start + length s < 2 ^ 63

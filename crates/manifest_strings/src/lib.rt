@@ -1,14 +1,12 @@
 // The strings of an array, or the keys of an object, by the positions where they begin: an item of either begins with a string.
 #![tactic(auto)]
 
-ghost use Rattle.std.specs.Prelude.{◌≡◌, ◌≤◌, length};
-ghost use Rattle.std.proofs.Math.Option.{Option};
+ghost use Rattle.std.specs.Prelude.{◌≡◌, ◌≤◌, length, Option};
 ghost use Rattle.text_content.specs.Value.{Value};
 ghost use Rattle.text_view.specs.Place.{ValueAt};
 ghost use Rattle.manifest_fields.specs.Members.{Finds};
 ghost use Rattle.manifest_strings.specs.Strings.{strings_of, found_strings, Placeable, PlaceableFound, Placed};
 
-use manifest_fields::member::Found;
 use text_view::value::Item;
 
 // Writes where the strings of the array at position `at` of s begin or, if `object` is true, the keys of the object there: each position is behind the
@@ -28,23 +26,19 @@ fn place_items(
     let inner = depth - 1;
     let mut left = at + 1;
     let mut n = 0;
-    loop {
-        match text_view::value::read_item(s, left, inner, object) {
-            Item::End(_) => return n,
-            Item::At { first, next, .. } => {
-                positions[n] = start + first + 1;
-                n += 1;
-                left = next;
-            }
-        }
+    while let Item::At { first, next, .. } = text_view::value::read_item(s, left, inner, object) {
+        positions[n] = start + first + 1;
+        n += 1;
+        left = next;
     }
+    n
 }
 
 // The same of an array or an object that was looked for; where it is missing there are none.
 pub fn place(
     s: &[u8],
     start: usize,
-    found: Found,
+    found: Option<usize>,
     depth: usize,
     object: bool,
     positions: &mut [usize],
@@ -55,7 +49,7 @@ pub fn place(
         → Placed s.now start positions.old positions.new result (found_strings object o)) }
 {
     match found {
-        Found::Missing => 0,
-        Found::At(at) => place_items(s, start, at, depth, object, positions),
+        None => 0,
+        Some(at) => place_items(s, start, at, depth, object, positions),
     }
 }

@@ -1,10 +1,10 @@
 -- What the number 0 of a judgement tells, and when a store is admitted. Assumes nothing.
+use Rattle.std.specs.Prelude.{Option, None, Some}
 use Prim.Native.Nat.{ℕ, ◌*◌, ◌≤◌, ◌<◌}
 use mathlib.Core.Path.{◌≡◌, refl, sym, ap, subst, ◌∙◌}
 use mathlib.Core.Logic.{◌↔◌}
 use mathlib.Core.Bool.{Bool, true, false, not}
 use mathlib.Core.List.{List, [], ◌∷◌, ◌++◌, Memᴰ as In}
-use mathlib.Core.Option.{Option, none, some}
 use native.Mathlib.Omega.{arith}
 use borrow.Author.Tests.{eqb-true, ltb-false, le-ltb, eq-eqb}
 use lib.Dec.{eqb}
@@ -28,7 +28,7 @@ not_broken false e = refl
 -- a well-formed store and the images that it holds
 pub record HeldWell (buffer : List ℕ) (used : ℕ) : Type 0 where
   pub images : List Image
-  pub holds : held buffer used ≡ some images
+  pub holds : held buffer used ≡ Some images
   pub sound : Sound (length buffer) images
 
 module _ (buffer : List ℕ) (used : ℕ) where
@@ -42,11 +42,11 @@ module _ (buffer : List ℕ) (used : ℕ) where
   held_well e = by_held (held buffer used) refl
     where
       by_held : (o : Option (List Image)) → held buffer used ≡ o → HeldWell buffer used
-      by_held none q = let z : is_broken (length buffer) none ≡ false = rw q at (unbroken e) in false_true (sym z)
-      by_held (some xs) q = record { images = xs; holds = q; sound = sound_parts (length buffer) xs (rw q at (unbroken e)) }
+      by_held None q = let z : is_broken (length buffer) None ≡ false = rw q at (unbroken e) in false_true (sym z)
+      by_held (Some xs) q = record { images = xs; holds = q; sound = sound_parts (length buffer) xs (rw q at (unbroken e)) }
 
   -- The pairs of a store are those of the images that it holds.
-  pub held_pairs_are : (xs : List Image) → held buffer used ≡ some xs → held_pairs buffer used ≡ pairs xs
+  pub held_pairs_are : (xs : List Image) → held buffer used ≡ Some xs → held_pairs buffer used ≡ pairs xs
   unfolding held_pairs among
   held_pairs_are xs e = rw e
 
@@ -92,7 +92,7 @@ module _ (buffer : List ℕ) (used : ℕ) where
 -- what the number 0 of a judgement tells: the images, that the report on them is exactly right, and that it is what is answered and written
 pub record Judged (buffer : List ℕ) (used size : ℕ) : Type 0 where
   pub images : List Image
-  pub holds : held buffer used ≡ some images
+  pub holds : held buffer used ≡ Some images
   pub well : well_formed buffer used ≡ true
   pub exact : Exact images
   pub count : judge_pairs buffer used size ≡ length (pairs images)
@@ -126,7 +126,7 @@ reached_none xs x r = by_pairs (pairs xs) refl
     by_pairs (p ∷ ps) e = absurd (unlisted p (subst (In p) (sym e) (In.head refl)))
 
 module _ (buffer : List ℕ) (used size : ℕ) (bytes : (k : ℕ) → get_or buffer k 0 < 256) where
-  well_exact : (xs : List Image) → held buffer used ≡ some xs → Sound (length buffer) xs → Exact xs
+  well_exact : (xs : List Image) → held buffer used ≡ Some xs → Sound (length buffer) xs → Exact xs
   well_exact xs h s = exact xs (held_holds buffer used xs bytes h).each s.ids s.few
 
   -- A judgement gets the number 0 only if all of this holds.

@@ -1,9 +1,9 @@
 -- What judge answers: of bytes that are no store, and of the images of a store.
+use Rattle.std.specs.Prelude.{Some}
 use Prim.Native.Nat.{ℕ, ◌≤◌, ◌<◌}
 use mathlib.Core.Path.{◌≡◌, sym, ap, ap₂, ◌∙◌, subst₂}
 use mathlib.Core.Bool.{true, false}
 use mathlib.Core.List.{List, [], ◌∷◌}
-use mathlib.Core.Option.{some}
 use borrow.Author.Tests.{lt-leb, ne_eqb}
 use lib.Dec.{eqb}
 use lib.ListN.{length, take, get_or}
@@ -59,7 +59,7 @@ module _ (buffer : List ℕ) (used : ℕ) where
     in_use = take used buffer
 
     -- The pairs are those of the images that are read in the bytes in use.
-    pub read_pairs : (xs : List Image) → read_records most_images in_use ≡ some xs → pairs xs ≡ held_pairs buffer used
+    pub read_pairs : (xs : List Image) → read_records most_images in_use ≡ Some xs → pairs xs ≡ held_pairs buffer used
     read_pairs xs e = sym (held_pairs_are buffer used xs (held_in_use buffer used h ∙ e))
 
     module _ (bytes : (k : ℕ) → get_or buffer k 0 < 256) (size : ℕ) where
@@ -69,7 +69,7 @@ module _ (buffer : List ℕ) (used : ℕ) where
       judge_broken e = asked_first _ _ (broken_in_use buffer used h bytes ∙ e)
 
       -- Of a store the pairs alone decide the number.
-      pub judge_sound : is_broken (length in_use) (read_records most_images in_use) ≡ false → (xs : List Image) → read_records most_images in_use ≡ some xs
+      pub judge_sound : is_broken (length in_use) (read_records most_images in_use) ≡ false → (xs : List Image) → read_records most_images in_use ≡ Some xs
           → report_number size (pairs xs) ≡ judge_number buffer used size
       unfolding judge_number judge_questions held_pairs
       judge_sound e xs i =

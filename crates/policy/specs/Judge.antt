@@ -1,6 +1,5 @@
 -- What judge answers and writes (document 01, "The room" and "What comes back"): questions 11 and 20, and the lowest that applies.
-use Rattle.std.specs.Prelude.{ℕ, ◌≡◌, List, [], ◌∷◌, length}
-use Rattle.std.proofs.Math.Option.{Option}
+use Rattle.std.specs.Prelude.{ℕ, ◌≡◌, List, [], ◌∷◌, length, Option}
 use Rattle.text.specs.Question.{Question, lowest}
 use Rattle.policy_marks.specs.Pairs.{Pair, no_report_space, pairs_after, report_after}
 use Rattle.store_record.specs.Image.{Image}

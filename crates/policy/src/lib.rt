@@ -28,12 +28,17 @@ pub fn judge(store: &[u8], used: usize, report: &mut [u8]) -> Answer
     let mut spare = [0u16; MOST_NAMES];
     let mut heads = [0u32; MOST_NAMES];
     let mut keys = [0u16; MOST_BYTES];
-    let opened = store_open::open(b, &mut at, &mut sorted, &mut spare, &mut heads, &mut keys);
-    if !opened.sound {
+    let Some(opened) = store_open::open(b, &mut at, &mut sorted, &mut spare, &mut heads, &mut keys)
+    else {
         return answer::refused(report, BROKEN);
-    }
-    let survey = opened.survey;
-    let places = opened.places;
-    let table = policy_table::table(b, survey, places, &mut at, &mut sorted, &mut spare);
+    };
+    let table = policy_table::table(
+        b,
+        opened.survey,
+        opened.places,
+        &mut at,
+        &mut sorted,
+        &mut spare,
+    );
     policy_judge::judge_table(table, report)
 }

@@ -1,12 +1,13 @@
 -- The words of a table are passed one after the other, and where a word has bit k, another word is joined to it.
-use Prim.Native.Nat.{ℕ, suc, ◌≤◌, ◌<◌}
-use mathlib.Core.Path.{◌≡◌, sym, ap, fun_ext, ◌∙◌}
-use mathlib.Core.List.{List, [], ◌∷◌, ◌++◌, map, map-map, map-append, append_assoc}
+use Prim.Native.Nat.{ℕ, ◌≤◌, ◌<◌}
+use mathlib.Core.Path.{◌≡◌, sym, ap, ap₂, fun_ext, ◌∙◌}
+use mathlib.Core.List.{List, ◌++◌, map, map-map, append-nil}
 use mathlib.Core.Bool.{Bool, true, false}
 use native.Mathlib.Omega.{arith}
 use lib.Bits.{bit_or}
-use lib.ListN.{length, take, drop, get_or, set, length-map}
-use lib.Seq.{take-suc, drop-cons, take_at, set_at, length-take-le}
+use lib.ListN.{length, take, drop, get_or, length-map}
+use lib.Seq.{take_at, length-take-le, take_all}
+use Rattle.std.proofs.lemmas.List.{drop_all}
 use Rattle.laws.proofs.Order.{by_test}
 use Rattle.policy_marks.specs.Marks.{through, closed_at}
 use Rattle.policy_marks.specs.Words.{bit_at, row_of, rows_of}
@@ -16,33 +17,17 @@ use Rattle.policy_marks.proofs.Words.{row_bit, row_at, row_or}
 abbrev pub passed : (ℕ → ℕ) → ℕ → List ℕ → List ℕ
 passed f i l = map f (take i l) ++ drop i l
 
-module _ (f : ℕ → ℕ) (l : List ℕ) (i : ℕ) where
-  passed_length : i ≤ length l → length (map f (take i l)) ≡ i
-  passed_length h = length-map (take i l) f ∙ length-take-le i l h
-
+module _ (f : ℕ → ℕ) (n : ℕ) (l : List ℕ) (h : n ≤ length l) where
   -- All that counts is passed.
-  pub passed_all : i ≤ length l → take i (passed f i l) ≡ map f (take i l)
-  passed_all h = take_at (map f (take i l)) (drop i l) i (passed_length h)
+  pub passed_all : take n (passed f n l) ≡ map f (take n l)
+  passed_all = take_at (map f (take n l)) (drop n l) n (length-map (take n l) f ∙ length-take-le n l h)
 
-  module _ (h : i < length l) where
-    here : passed f i l ≡ map f (take i l) ++ get_or l i 0 ∷ drop (suc i) l
-    here = ap (λ (r : List ℕ). map f (take i l) ++ r) (drop-cons l i 0 h)
-
-    next : passed f (suc i) l ≡ map f (take i l) ++ f (get_or l i 0) ∷ drop (suc i) l
-    next =
-        ap (λ (r : List ℕ). map f r ++ drop (suc i) l) (take-suc l i 0 h)
-        ∙ ap (λ (r : List ℕ). r ++ drop (suc i) l) (map-append f (take i l) (get_or l i 0 ∷ []))
-        ∙ append_assoc (map f (take i l)) (f (get_or l i 0) ∷ []) (drop (suc i) l)
-
-    -- The next element is written.
-    pub passed_written : set (passed f i l) i (f (get_or l i 0)) ≡ passed f (suc i) l
-    passed_written =
-        ap (λ (r : List ℕ). set r i (f (get_or l i 0))) here
-        ∙ set_at (map f (take i l)) (get_or l i 0) (drop (suc i) l) (f (get_or l i 0)) i (passed_length (omega arith)) ∙ sym next
-
-    -- The next element stays as it is.
-    pub passed_kept : f (get_or l i 0) ≡ get_or l i 0 → passed f i l ≡ passed f (suc i) l
-    passed_kept e = here ∙ ap (λ (x : ℕ). map f (take i l) ++ x ∷ drop (suc i) l) (sym e) ∙ sym next
+  -- The first n elements are passed on their own, and the others follow.
+  pub passed_first : passed f n (take n l) ++ drop n l ≡ passed f n l
+  passed_first =
+      let t : length (take n l) ≡ n = length-take-le n l h in
+      ap₂ (λ (a b : List ℕ). (map f a ++ b) ++ drop n l) (take_all n (take n l) (omega arith)) (drop_all n (take n l) (omega arith))
+      ∙ ap (λ (a : List ℕ). a ++ drop n l) (append-nil (map f (take n l)))
 
 -- a word, with another joined to it where it has bit k
 unfoldable pub joined : ℕ → ℕ → ℕ → ℕ
@@ -71,7 +56,7 @@ pub rows_joined : (n k : ℕ) (words : List ℕ) → k < n → n ≤ length word
     → rows_of n (passed (joined k (get_or words k 0)) n words) ≡ closed_at k (rows_of n words)
 unfolding rows_of closed_at
 rows_joined n k words h l =
-    ap (map (row_of n)) (passed_all (joined k (get_or words k 0)) words n l)
+    ap (map (row_of n)) (passed_all (joined k (get_or words k 0)) n words l)
     ∙ map-map (row_of n) (joined k (get_or words k 0)) (take n words)
     ∙ ap (λ (f : ℕ → List Bool). map f (take n words)) (fun_ext (λ w. row_joined n k (get_or words k 0) w h))
     ∙ sym (map-map (through k (row_of n (get_or words k 0))) (row_of n) (take n words))

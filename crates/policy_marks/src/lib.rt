@@ -28,13 +28,10 @@ fn close_at(count: usize, rows: [u64; 64], k: usize) -> [u64; 64]
 {
     let next = rows[k];
     let mut closed = rows;
-    let mut i = 0;
-    while i < count {
-        let row = rows[i];
-        if has(row, k) {
-            closed[i] = row | next;
+    for row in &mut closed[..count] {
+        if has(*row, k) {
+            *row |= next;
         }
-        i += 1;
     }
     closed
 }
@@ -45,11 +42,10 @@ pub fn close(count: usize, rows: [u64; 64]) -> [u64; 64]
     ensures { rows_of count result ≡ closed (rows_of count rows) }
 {
     let mut closed = rows;
-    let mut k = 0;
-    while k < count {
+    for k in 0..count {
+        // two steps: the borrow check does not cover a function that lays a call's result in an array that is there already
         let next = close_at(count, closed, k);
         closed = next;
-        k += 1;
     }
     closed
 }

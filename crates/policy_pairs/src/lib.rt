@@ -27,12 +27,10 @@ fn count_row(t: Table, g: usize) -> usize
     ensures { result ≡ length (pairs_with (is_reported (guards_in t) (rows_in t)) g 0 t.count) }
 {
     let mut n = 0;
-    let mut o = 0;
-    while o < t.count {
+    for o in 0..t.count {
         if is_reported(t.guards, &t.rows, g, o) {
             n += 1;
         }
-        o += 1;
     }
     n
 }
@@ -43,10 +41,8 @@ pub fn count_pairs(t: Table) -> usize
     ensures { result ≡ length (pairs_in (guards_in t) (rows_in t)) }
 {
     let mut n = 0;
-    let mut g = 0;
-    while g < t.count {
+    for g in 0..t.count {
         n += count_row(t, g);
-        g += 1;
     }
     n
 }
@@ -58,14 +54,12 @@ fn write_row(t: Table, g: usize, out: &mut [u8]) -> usize
     ensures out_after { out.new ≡ report_of (pairs_with (is_reported (guards_in t) (rows_in t)) g 0 t.count) ++ drop result out.old }
 {
     let mut n = 0;
-    let mut o = 0;
-    while o < t.count {
+    for o in 0..t.count {
         if is_reported(t.guards, &t.rows, g, o) {
             out[n] = g as u8;
             out[n + 1] = o as u8;
             n += 2;
         }
-        o += 1;
     }
     n
 }
@@ -76,9 +70,7 @@ pub fn write_pairs(t: Table, out: &mut [u8])
     ensures { out.new ≡ report_of (pairs_in (guards_in t) (rows_in t)) ++ drop (2 * length (pairs_in (guards_in t) (rows_in t))) out.old }
 {
     let mut n = 0;
-    let mut g = 0;
-    while g < t.count {
+    for g in 0..t.count {
         n += write_row(t, g, &mut out[n..]);
-        g += 1;
     }
 }

@@ -26,18 +26,15 @@ fn owners(order: &[u16]) -> u64
     ensures { (j : ℕ) → bit_at result j ≡ any_of (λ (e : ℕ). eqb (e / 64) j) order.now }
 {
     let mut word = 0;
-    let mut i = 0;
-    while i < order.len() {
-        let e = order[i] as usize;
-        let image = e / MOST_ENTRIES;
+    for e in order {
+        let image = *e as usize / MOST_ENTRIES;
         word |= 1u64 << image;
-        i += 1;
     }
     word
 }
 
 // A rule that was read in s matches the image of record r; `named` tells whether the image has the alias that the rule asks for.
-fn matches_image(s: &[u8], x: Rule, b: &[u8], r: Record, named: bool) -> bool
+fn matches_image(s: &[u8], x: Option<Rule>, b: &[u8], r: Record, named: bool) -> bool
     requires { SomeRule s.now x × RecordIn b.now r }
     ensures { (y : PolicyRule) → ReadsRule s.now x y → named ≡ any_of (asks_for y) (self_names (between b.now r.text r.end))
         → result ≡ matches_image y (held_in b.now r) }
@@ -50,7 +47,7 @@ fn matches_image(s: &[u8], x: Rule, b: &[u8], r: Record, named: bool) -> bool
 }
 
 // The images that have an alias which the rule asks for, that was read in s, as a row of marks; `order` is the index of all aliases.
-fn named_by(s: &[u8], x: Rule, b: &[u8], at: &[usize], order: &[u16]) -> u64
+fn named_by(s: &[u8], x: Option<Rule>, b: &[u8], at: &[usize], order: &[u16]) -> u64
     requires { SomeRule s.now x × SomeNameIndex b.now at.now order.now × (length at.now ≡ 4096) }
     ensures { (y : PolicyRule) → ReadsRule s.now x y
         → (j : ℕ) → bit_at result j ≡ any_of (λ (e : ℕ). asks_for y (name_at b.now at.now e) && eqb (e / 64) j) order.now }
@@ -62,16 +59,14 @@ fn named_by(s: &[u8], x: Rule, b: &[u8], at: &[usize], order: &[u16]) -> u64
 }
 
 // The images that a rule which was read in s matches, as a row of marks.
-fn matched(s: &[u8], x: Rule, b: &[u8], v: Survey, at: &[usize], order: &[u16]) -> u64
+fn matched(s: &[u8], x: Option<Rule>, b: &[u8], v: Survey, at: &[usize], order: &[u16]) -> u64
     requires { SomeRule s.now x × Fills b.now v × Indexed b.now v at.now order.now }
     ensures result_value { (y : PolicyRule) → ReadsRule s.now x y → row_of v.count result ≡ map (matches_image y) (images_in b.now v) }
     ensures upper_bound { result < 2 ^ v.count }
 {
     let named = named_by(s, x, b, at, order);
     let mut word = 0;
-    let mut j = v.count;
-    while 0 < j {
-        j -= 1;
+    for j in (0..v.count).rev() {
         let r = v.records[j];
         word *= 2;
         if matches_image(s, x, b, r, policy_marks::has(named, j)) {
@@ -103,11 +98,9 @@ pub fn row(
     let mut at_rules = [0usize; MOST_ENTRIES];
     let n = manifest_rules::place(s, p, &mut at_rules);
     let mut word = 0;
-    let mut j = 0;
-    while j < n {
+    for j in 0..n {
         let rule = manifest_rules::read(s, at_rules[j]);
         word |= matched(s, rule, b, v, at, order);
-        j += 1;
     }
     word
 }

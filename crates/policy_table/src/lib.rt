@@ -29,9 +29,7 @@ fn guards(b: &[u8], v: Survey, places: [Places; MOST_IMAGES]) -> u64
     ensures upper_bound { result < 2 ^ v.count }
 {
     let mut word = 0;
-    let mut j = v.count;
-    while 0 < j {
-        j -= 1;
+    for j in (0..v.count).rev() {
         let y = v.records[j];
         let start = y.text;
         let end = y.end;
@@ -60,10 +58,8 @@ pub fn table(
     store_names::place_all(b, v, places, own, at, &mut counts);
     let n = store_names::index_all(b, at, &counts, v.count, order);
     let mut rows = [0u64; MOST_IMAGES];
-    let mut i = 0;
-    while i < v.count {
+    for i in 0..v.count {
         rows[i] = policy_rows::row(b, v, places, at, &order[..n], ImageIndex(i));
-        i += 1;
     }
     Table {
         count: v.count,

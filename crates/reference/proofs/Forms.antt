@@ -1,5 +1,6 @@
 -- What the definitions of aliases, layer references, rules and Image IDs say, case by case.
 -- Assumes nothing.
+use Rattle.std.specs.Prelude.{Option}
 use Prim.Native.Nat.{ℕ}
 use mathlib.Core.Path.{◌≡◌, refl, ap, ◌∙◌}
 use mathlib.Core.List.{List, [], ◌∷◌}
@@ -7,9 +8,9 @@ use Rattle.laws.specs.Order.{same}
 use Rattle.reference_parts.specs.Parts.{parts}
 use Rattle.reference_parts.proofs.Parts.{some_part}
 use Rattle.reference_digests.specs.Algorithms.{named}
-use Rattle.reference_digests.specs.declared.algorithm.Known.{Known}
 use Rattle.reference.specs.References.{no_layer, digest_layer, alias_layer, signer_word, layer_of, layer, no_rule, rule_under, rule_of, rule, no_id, id_under}
 use Rattle.reference.specs.References.{id_of, image_id_of}
+use Rattle.reference_digests.specs.declared.algorithm.Algorithm.{Algorithm}
 
 -- layer references by their parts
 module _ (c : List ℕ) where
@@ -41,13 +42,13 @@ module _ (c : List ℕ) where
       rw (e ∙ ap (λ (x : List (List ℕ)). w ∷ h ∷ s ∷ n ∷ x) q.2, layer)
 
 -- What is read of a text by its parts: nothing of one, of two and of more than three, and of three what `under` says of them.
-pub record ByThree {A : Type 0} (read : List ℕ → A) (none : A) (under : Known → List ℕ → List ℕ → A) (c : List ℕ) : Type 0 where
+pub record ByThree {A : Type 0} (read : List ℕ → A) (none : A) (under : Option Algorithm → List ℕ → List ℕ → A) (c : List ℕ) : Type 0 where
   pub one : parts c ≡ c ∷ [] → read c ≡ none
   pub two : (h s : List ℕ) → parts c ≡ h ∷ s ∷ [] → read c ≡ none
   pub three : (h s m : List ℕ) → parts c ≡ h ∷ s ∷ m ∷ [] → read c ≡ under (named h) s m
   pub four : (h s m d : List ℕ) → parts c ≡ h ∷ s ∷ m ∷ parts d → read c ≡ none
 
-by_three : {A : Type 0} (of : List (List ℕ) → A) (none : A) (under : Known → List ℕ → List ℕ → A) → ((h : List ℕ) → of (h ∷ []) ≡ none)
+by_three : {A : Type 0} (of : List (List ℕ) → A) (none : A) (under : Option Algorithm → List ℕ → List ℕ → A) → ((h : List ℕ) → of (h ∷ []) ≡ none)
     → ((h s : List ℕ) → of (h ∷ s ∷ []) ≡ none) → ((h s m : List ℕ) → of (h ∷ s ∷ m ∷ []) ≡ under (named h) s m)
     → ((h s m p : List ℕ) (ps : List (List ℕ)) → of (h ∷ s ∷ m ∷ p ∷ ps) ≡ none) → (c : List ℕ) → ByThree (λ (x : List ℕ). of (parts x)) none under c
 by_three of none under f g k l c =

@@ -1,5 +1,6 @@
 -- Reading a reference part by part, by positions of the text.
 -- Assumes nothing.
+use Rattle.std.specs.Prelude.{Option, Some, None}
 use Prim.Native.Nat.{ℕ, ◌≤◌}
 use mathlib.Core.Path.{◌≡◌, refl, ap, sym, ◌∙◌}
 use mathlib.Core.List.{List, [], ◌∷◌}
@@ -15,17 +16,13 @@ use Rattle.reference_parts.proofs.Parts.{is_last, last_parts, more_parts, before
 use Rattle.reference_digests.specs.Algorithms.{named}
 use Rattle.reference_digests.specs.Digests.{is_digest, digest_of}
 use Rattle.reference_digests.specs.declared.algorithm.Algorithm.{Algorithm}
-use Rattle.reference_digests.specs.declared.algorithm.Known.{Known}
-use Rattle.reference_digests.specs.declared.algorithm.Known.TheVariants.{Is, Unknown}
 use Rattle.reference_aliases.specs.Aliases.{star, is_alias}
 use Rattle.reference.specs.Readings.{RuleUnder, RuleReads, IdUnder, IdReads}
 use Rattle.reference.specs.References.{no_layer, layer_digest, layer_alias, digest_layer, alias_layer, signer_word, layer, any_signer, signer, signer_of}
 use Rattle.reference.specs.References.{is_signer, any_manifest, manifest, self_alias, manifest_of, is_manifest, accepts, no_rule, rule_under, rule, no_id}
 use Rattle.reference.specs.References.{image_id, id_under, image_id_of}
 use Rattle.reference.specs.declared.rule.Rule.{Rule}
-use Rattle.reference.specs.declared.rule.Rule.TheVariants.{Accepts, Bad as NoRule}
 use Rattle.reference.specs.declared.id.Id.{Id}
-use Rattle.reference.specs.declared.id.Id.TheVariants.{Image, Bad as NoId}
 use Rattle.reference.proofs.Forms.{layer_two, layer_four, rule_parts, id_parts}
 
 module _ (s : List ℕ) (i : ℕ) (p : Part) (k : PartAt s i p) where
@@ -73,92 +70,92 @@ module _ (x : List ℕ) where
 -- a rule under an algorithm
 module _ (a : Algorithm) (x y : List ℕ) where
   -- Without a SIGNER of the algorithm there is no rule.
-  pub rule_no_signer : is_signer a x ≡ false → rule_under (Is a) x y ≡ no_rule
+  pub rule_no_signer : is_signer a x ≡ false → rule_under (Some a) x y ≡ no_rule
   unfolding rule_under
   rule_no_signer e = rw (e, rule_under)
 
   -- With a SIGNER and no MANIFEST of the algorithm there is no rule.
-  pub rule_no_manifest : is_signer a x ≡ true → is_manifest a y ≡ false → rule_under (Is a) x y ≡ no_rule
+  pub rule_no_manifest : is_signer a x ≡ true → is_manifest a y ≡ false → rule_under (Some a) x y ≡ no_rule
   unfolding rule_under
   rule_no_manifest e f = rw (e, rule_under) (rw f)
 
   -- With both there is the rule of the algorithm for what they stand for.
-  pub rule_accepts : is_signer a x ≡ true → is_manifest a y ≡ true → rule_under (Is a) x y ≡ accepts a (signer_of x) (manifest_of a y)
+  pub rule_accepts : is_signer a x ≡ true → is_manifest a y ≡ true → rule_under (Some a) x y ≡ accepts a (signer_of x) (manifest_of a y)
   unfolding rule_under
   rule_accepts e f = rw (e, rule_under) (rw f)
 
-rule_unknown : (x y : List ℕ) → rule_under Unknown x y ≡ no_rule
+rule_unknown : (x y : List ℕ) → rule_under None x y ≡ no_rule
 unfolding rule_under
 rule_unknown x y = refl
 
-rule_reads : (s : List ℕ) (i j k : ℕ) (a : Algorithm) (r : Rule) → rule (content_from s i) ≡ rule_under (Is a) (first_part (content_from s j)) (content_from s k)
+rule_reads : (s : List ℕ) (i j k : ℕ) (a : Algorithm) (r : Option Rule) → rule (content_from s i) ≡ rule_under (Some a) (first_part (content_from s j)) (content_from s k)
     → RuleUnder s a j k r → RuleReads s i r
-rule_reads s i j k a (Accepts b g m) e u = (u.0, u.1, e ∙ u.2)
-rule_reads s i j k a NoRule e u = e ∙ u
+rule_reads s i j k a (Some r) e u = (u.0, u.1, e ∙ u.2)
+rule_reads s i j k a None e u = e ∙ u
 
 -- a layer reference under an algorithm
 module _ (a : Algorithm) where
   -- A digest of the algorithm is a layer reference by its bytes.
-  pub digest_good : (x d : List ℕ) → x ≡ d → is_digest a x ≡ true → digest_layer (Is a) d ≡ layer_digest a (digest_of x)
+  pub digest_good : (x d : List ℕ) → x ≡ d → is_digest a x ≡ true → digest_layer (Some a) d ≡ layer_digest a (digest_of x)
   unfolding digest_layer
-  digest_good x d w e = ap (digest_layer (Is a)) (sym w) ∙ rw (e, digest_layer)
+  digest_good x d w e = ap (digest_layer (Some a)) (sym w) ∙ rw (e, digest_layer)
 
   -- What is no digest of the algorithm is no layer reference.
-  pub digest_bad : (d : List ℕ) → is_digest a d ≡ false → digest_layer (Is a) d ≡ no_layer
+  pub digest_bad : (d : List ℕ) → is_digest a d ≡ false → digest_layer (Some a) d ≡ no_layer
   unfolding digest_layer
   digest_bad d e = rw (e, digest_layer)
 
   module _ (x n : List ℕ) where
     -- A signer that is a digest of the algorithm and an alias are a layer reference by the signer's bytes and the alias.
-    pub alias_good : is_digest a x ≡ true → is_alias n ≡ true → alias_layer true (Is a) x n ≡ layer_alias a (digest_of x) n
+    pub alias_good : is_digest a x ≡ true → is_alias n ≡ true → alias_layer true (Some a) x n ≡ layer_alias a (digest_of x) n
     unfolding alias_layer
     alias_good e f = rw (e, alias_layer) (rw f)
 
     -- Where the signer is no digest of the algorithm, there is no layer reference.
-    pub alias_no_signer : is_digest a x ≡ false → alias_layer true (Is a) x n ≡ no_layer
+    pub alias_no_signer : is_digest a x ≡ false → alias_layer true (Some a) x n ≡ no_layer
     unfolding alias_layer
     alias_no_signer e = rw (e, alias_layer)
 
     -- Where the signer is a digest of the algorithm and the name is no alias, there is no layer reference.
-    pub alias_no_name : is_digest a x ≡ true → is_alias n ≡ false → alias_layer true (Is a) x n ≡ no_layer
+    pub alias_no_name : is_digest a x ≡ true → is_alias n ≡ false → alias_layer true (Some a) x n ≡ no_layer
     unfolding alias_layer
     alias_no_name e f = rw (e, alias_layer) (rw f)
 
 -- With an unknown algorithm a digest is no layer reference.
-pub digest_unknown : (d : List ℕ) → digest_layer Unknown d ≡ no_layer
+pub digest_unknown : (d : List ℕ) → digest_layer None d ≡ no_layer
 unfolding digest_layer
 digest_unknown d = refl
 
 -- With an unknown algorithm a signer and an alias are no layer reference.
-pub alias_unknown : (w : Bool) (x n : List ℕ) → alias_layer w Unknown x n ≡ no_layer
+pub alias_unknown : (w : Bool) (x n : List ℕ) → alias_layer w None x n ≡ no_layer
 unfolding alias_layer
 alias_unknown true x n = refl
 alias_unknown false x n = refl
 
 -- Without the word `signer` a signer and an alias are no layer reference.
-pub alias_no_word : (k : Known) (x n : List ℕ) → alias_layer false k x n ≡ no_layer
+pub alias_no_word : (k : Option Algorithm) (x n : List ℕ) → alias_layer false k x n ≡ no_layer
 unfolding alias_layer
 alias_no_word k x n = refl
 
 -- an Image ID under an algorithm
 module _ (a : Algorithm) (x y : List ℕ) where
   -- Where the signer is no digest of the algorithm, there is no Image ID.
-  pub id_no_signer : is_digest a x ≡ false → id_under (Is a) x y ≡ no_id
+  pub id_no_signer : is_digest a x ≡ false → id_under (Some a) x y ≡ no_id
   unfolding id_under
   id_no_signer e = rw (e, id_under)
 
   -- Where the signer is a digest of the algorithm and the manifest is none, there is no Image ID.
-  pub id_no_manifest : is_digest a x ≡ true → is_digest a y ≡ false → id_under (Is a) x y ≡ no_id
+  pub id_no_manifest : is_digest a x ≡ true → is_digest a y ≡ false → id_under (Some a) x y ≡ no_id
   unfolding id_under
   id_no_manifest e f = rw (e, id_under) (rw f)
 
   -- Where both are digests of the algorithm, there is the Image ID with their bytes.
-  pub id_good : is_digest a x ≡ true → is_digest a y ≡ true → id_under (Is a) x y ≡ image_id a (digest_of x) (digest_of y)
+  pub id_good : is_digest a x ≡ true → is_digest a y ≡ true → id_under (Some a) x y ≡ image_id a (digest_of x) (digest_of y)
   unfolding id_under
   id_good e f = rw (e, id_under) (rw f)
 
 -- With an unknown algorithm there is no Image ID.
-pub id_unknown : (x y : List ℕ) → id_under Unknown x y ≡ no_id
+pub id_unknown : (x y : List ℕ) → id_under None x y ≡ no_id
 unfolding id_under
 id_unknown x y = refl
 
@@ -204,12 +201,12 @@ module _ (s : List ℕ) (i : ℕ) (p q : Part) (d : Divided s i p q) where
           (at_more s r.next t g.second e)
 
       -- signer/HASH/SIGNER/ALIAS
-      pub layer_by_alias : (k : Known) → t.last ≡ true → k ≡ named (first_part (content_from s p.next))
+      pub layer_by_alias : (k : Option Algorithm) → t.last ≡ true → k ≡ named (first_part (content_from s p.next))
           → layer (content_from s i)
           ≡ alias_layer (same (first_part (content_from s i)) signer_word) k (first_part (content_from s q.next)) (content_from s r.next)
       layer_by_alias k e h =
           layer_four (content_from s i) _ _ _ _ (four_parts e)
-          ∙ ap (λ (x : Known). alias_layer (same (first_part (content_from s i)) signer_word) x (first_part (content_from s q.next)) (content_from s r.next))
+          ∙ ap (λ (x : Option Algorithm). alias_layer (same (first_part (content_from s i)) signer_word) x (first_part (content_from s q.next)) (content_from s r.next))
           (sym h)
 
       -- Four parts of which the first is not the word `signer` are no layer reference.
@@ -220,45 +217,45 @@ module _ (s : List ℕ) (i : ℕ) (p q : Part) (d : Divided s i p q) where
           ∙ alias_no_word _ _ _
 
       -- Four parts of which the second names no known algorithm are no layer reference.
-      pub by_unknown : (k : Known) → t.last ≡ true → k ≡ named (first_part (content_from s p.next)) → k ≡ Unknown → layer (content_from s i) ≡ no_layer
+      pub by_unknown : (k : Option Algorithm) → t.last ≡ true → k ≡ named (first_part (content_from s p.next)) → k ≡ None → layer (content_from s i) ≡ no_layer
       by_unknown k e h f =
           layer_by_alias k e h
-          ∙ ap (λ (x : Known). alias_layer (same (first_part (content_from s i)) signer_word) x (first_part (content_from s q.next)) (content_from s r.next)) f
+          ∙ ap (λ (x : Option Algorithm). alias_layer (same (first_part (content_from s i)) signer_word) x (first_part (content_from s q.next)) (content_from s r.next)) f
           ∙ alias_unknown _ _ _
 
       -- Four parts with the word `signer` and the name of an algorithm are read under it as a signer and an alias.
-      pub by_known : (k : Known) (a : Algorithm) → t.last ≡ true → k ≡ named (first_part (content_from s p.next)) → k ≡ Is a
+      pub by_known : (k : Option Algorithm) (a : Algorithm) → t.last ≡ true → k ≡ named (first_part (content_from s p.next)) → k ≡ Some a
           → same (first_part (content_from s i)) signer_word ≡ true
-          → layer (content_from s i) ≡ alias_layer true (Is a) (first_part (content_from s q.next)) (content_from s r.next)
+          → layer (content_from s i) ≡ alias_layer true (Some a) (first_part (content_from s q.next)) (content_from s r.next)
       by_known k a e h f w =
           layer_by_alias k e h
-          ∙ ap (λ (x : Known). alias_layer (same (first_part (content_from s i)) signer_word) x (first_part (content_from s q.next)) (content_from s r.next)) f
-          ∙ ap (λ (x : Bool). alias_layer x (Is a) (first_part (content_from s q.next)) (content_from s r.next)) w
+          ∙ ap (λ (x : Option Algorithm). alias_layer (same (first_part (content_from s i)) signer_word) x (first_part (content_from s q.next)) (content_from s r.next)) f
+          ∙ ap (λ (x : Bool). alias_layer x (Some a) (first_part (content_from s q.next)) (content_from s r.next)) w
 
     -- HASH/SIGNER/MANIFEST
-    rule_by_parts : (k : Known) → r.last ≡ true → k ≡ named (first_part (content_from s i))
+    rule_by_parts : (k : Option Algorithm) → r.last ≡ true → k ≡ named (first_part (content_from s i))
         → rule (content_from s i) ≡ rule_under k (first_part (content_from s p.next)) (content_from s q.next)
     rule_by_parts k e h =
         (rule_parts (content_from s i)).three _ _ _ (three_parts e)
-        ∙ ap (λ (x : Known). rule_under x (first_part (content_from s p.next)) (content_from s q.next)) (sym h)
+        ∙ ap (λ (x : Option Algorithm). rule_under x (first_part (content_from s p.next)) (content_from s q.next)) (sym h)
 
-    module _ (k : Known) (e : r.last ≡ true) (h : k ≡ named (first_part (content_from s i))) where
+    module _ (k : Option Algorithm) (e : r.last ≡ true) (h : k ≡ named (first_part (content_from s i))) where
       -- Three parts of which the first names no known algorithm are no rule.
-      pub rule_none : k ≡ Unknown → rule (content_from s i) ≡ no_rule
+      pub rule_none : k ≡ None → rule (content_from s i) ≡ no_rule
       rule_none u =
-          rule_by_parts k e h ∙ ap (λ (x : Known). rule_under x (first_part (content_from s p.next)) (content_from s q.next)) u ∙ rule_unknown _ _
+          rule_by_parts k e h ∙ ap (λ (x : Option Algorithm). rule_under x (first_part (content_from s p.next)) (content_from s q.next)) u ∙ rule_unknown _ _
 
       -- Where the first part names an algorithm, the answer for SIGNER and MANIFEST under it is the answer for the rule.
-      pub rule_known : (a : Algorithm) → k ≡ Is a → (y : Rule) → RuleUnder s a p.next q.next y → RuleReads s i y
+      pub rule_known : (a : Algorithm) → k ≡ Some a → (y : Option Rule) → RuleUnder s a p.next q.next y → RuleReads s i y
       rule_known a u y v =
           rule_reads s i p.next q.next a y
-          (rule_by_parts k e h ∙ ap (λ (x : Known). rule_under x (first_part (content_from s p.next)) (content_from s q.next)) u) v
+          (rule_by_parts k e h ∙ ap (λ (x : Option Algorithm). rule_under x (first_part (content_from s p.next)) (content_from s q.next)) u) v
 
   -- HASH/FSLAYER
-  pub layer_by_digest : (k : Known) → q.last ≡ true → k ≡ named (first_part (content_from s i))
+  pub layer_by_digest : (k : Option Algorithm) → q.last ≡ true → k ≡ named (first_part (content_from s i))
       → layer (content_from s i) ≡ digest_layer k (content_from s p.next)
   layer_by_digest k e h =
-      layer_two (content_from s i) _ _ (two_parts e) ∙ ap (λ (x : Known). digest_layer x (content_from s p.next)) (sym h)
+      layer_two (content_from s i) _ _ (two_parts e) ∙ ap (λ (x : Option Algorithm). digest_layer x (content_from s p.next)) (sym h)
 
 -- the parts of an Image ID
 module _ (s : List ℕ) (p : Part) (a : PlainPart s 0 p) where
@@ -285,33 +282,33 @@ module _ (s : List ℕ) (p : Part) (a : PlainPart s 0 p) where
           ∙ ap (λ (x : List (List ℕ)). first_part s ∷ first_part (drop p.next s) ∷ x)
           (more_parts (drop q.next s) r c.counts (drop r.next s) c.rest g)
 
-      module _ (g : r.last ≡ true) (k : Known) (h : k ≡ named (first_part s)) where
+      module _ (g : r.last ≡ true) (k : Option Algorithm) (h : k ≡ named (first_part s)) where
         -- Where the third part is the last, the Image ID is that of the second and the third part under what the first names.
         pub id_by_parts : image_id_of s ≡ id_under k (first_part (drop p.next s)) (drop q.next s)
         id_by_parts =
             (id_parts s).three _ _ _ (plain_second ∙ ap (λ (x : List (List ℕ)). first_part s ∷ first_part (drop p.next s) ∷ x)
             (last_parts (drop q.next s) r c.counts g))
-            ∙ ap (λ (x : Known). id_under x (first_part (drop p.next s)) (drop q.next s)) (sym h)
+            ∙ ap (λ (x : Option Algorithm). id_under x (first_part (drop p.next s)) (drop q.next s)) (sym h)
 
         -- Three parts of which the first names no known algorithm are no Image ID.
-        pub id_none : k ≡ Unknown → image_id_of s ≡ no_id
-        id_none u = id_by_parts ∙ ap (λ (x : Known). id_under x (first_part (drop p.next s)) (drop q.next s)) u ∙ id_unknown _ _
+        pub id_none : k ≡ None → image_id_of s ≡ no_id
+        id_none u = id_by_parts ∙ ap (λ (x : Option Algorithm). id_under x (first_part (drop p.next s)) (drop q.next s)) u ∙ id_unknown _ _
 
         -- both digests stand within the bytes
-        pub id_reads : p.next ≤ length s → q.next ≤ length s → (x : Algorithm) → k ≡ Is x → (y : Id)
+        pub id_reads : p.next ≤ length s → q.next ≤ length s → (x : Algorithm) → k ≡ Some x → (y : Option Id)
             → IdUnder x (first_part (drop p.next s)) (first_part (drop q.next s)) p.next q.next y → IdReads s y
         id_reads w v x u y z = by_form y z
           where
             last : first_part (drop q.next s) ≡ drop q.next s
             last = first_whole (drop q.next s) (is_last (drop q.next s) r c.counts g)
 
-            known : image_id_of s ≡ id_under (Is x) (first_part (drop p.next s)) (first_part (drop q.next s))
+            known : image_id_of s ≡ id_under (Some x) (first_part (drop p.next s)) (first_part (drop q.next s))
             known =
-                id_by_parts ∙ ap (λ (z : Known). id_under z (first_part (drop p.next s)) (drop q.next s)) u
-                ∙ ap (id_under (Is x) (first_part (drop p.next s))) (sym last)
+                id_by_parts ∙ ap (λ (z : Option Algorithm). id_under z (first_part (drop p.next s)) (drop q.next s)) u
+                ∙ ap (id_under (Some x) (first_part (drop p.next s))) (sym last)
 
-            by_form : (y : Id) → IdUnder x (first_part (drop p.next s)) (first_part (drop q.next s)) p.next q.next y → IdReads s y
-            by_form (Image b i j) z =
+            by_form : (y : Option Id) → IdUnder x (first_part (drop p.next s)) (first_part (drop q.next s)) p.next q.next y → IdReads s y
+            by_form (Some r) z =
                 let d = z.3 in
                 let e = z.4 in
                 rw (z.0, z.1, z.2) (
@@ -319,4 +316,4 @@ module _ (s : List ℕ) (p : Part) (a : PlainPart s 0 p) where
                   record { within = v; digest = e },
                   known ∙ id_good x _ _ d e,
                 )
-            by_form NoId z = known ∙ z
+            by_form None z = known ∙ z

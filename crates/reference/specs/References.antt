@@ -1,13 +1,11 @@
 -- Layer references, rules and Image IDs by their parts (document 01, "References, names and rules"). A digest is held as its bytes: its
 -- hexadecimal digits stand in a text only.
-use Rattle.std.specs.Prelude.{ℕ, List, [], ◌∷◌, Bool, true, false, ◌&&◌, ◌||◌}
+use Rattle.std.specs.Prelude.{ℕ, List, [], ◌∷◌, Bool, true, false, ◌&&◌, ◌||◌, Option, Some, None}
 use Rattle.laws.specs.Order.{same}
 use Rattle.reference_parts.specs.Parts.{parts, joined}
 use Rattle.reference_digests.specs.Algorithms.{named, name_of}
 use Rattle.reference_digests.specs.Digests.{is_digest, digest_of, hex_of}
 use Rattle.reference_digests.specs.declared.algorithm.Algorithm.{Algorithm}
-use Rattle.reference_digests.specs.declared.algorithm.Known.{Known}
-use Rattle.reference_digests.specs.declared.algorithm.Known.TheVariants.{Is, Unknown}
 use Rattle.reference_aliases.specs.Aliases.{is_alias, star}
 
 -- the word `signer`
@@ -22,14 +20,14 @@ pub data Layer : Type 0 where
   layer_alias : Algorithm → List ℕ → List ℕ → Layer
   no_layer : Layer
 
-unfoldable pub digest_layer : Known → List ℕ → Layer
-digest_layer Unknown d = no_layer
-digest_layer (Is a) d = elim (is_digest a d) [ true ↦ layer_digest a (digest_of d) | false ↦ no_layer ]
+unfoldable pub digest_layer : Option Algorithm → List ℕ → Layer
+digest_layer None d = no_layer
+digest_layer (Some a) d = elim (is_digest a d) [ true ↦ layer_digest a (digest_of d) | false ↦ no_layer ]
 
-unfoldable pub alias_layer : Bool → Known → List ℕ → List ℕ → Layer
+unfoldable pub alias_layer : Bool → Option Algorithm → List ℕ → List ℕ → Layer
 alias_layer false k s n = no_layer
-alias_layer true Unknown s n = no_layer
-alias_layer true (Is a) s n = elim (is_digest a s && is_alias n) [ true ↦ layer_alias a (digest_of s) n | false ↦ no_layer ]
+alias_layer true None s n = no_layer
+alias_layer true (Some a) s n = elim (is_digest a s && is_alias n) [ true ↦ layer_alias a (digest_of s) n | false ↦ no_layer ]
 
 unfoldable pub layer_of : List (List ℕ) → Layer
 layer_of [] = no_layer
@@ -76,9 +74,9 @@ pub data Rule : Type 0 where
   accepts : Algorithm → Signer → Manifest → Rule
   no_rule : Rule
 
-unfoldable pub rule_under : Known → List ℕ → List ℕ → Rule
-rule_under Unknown s m = no_rule
-rule_under (Is a) s m =
+unfoldable pub rule_under : Option Algorithm → List ℕ → List ℕ → Rule
+rule_under None s m = no_rule
+rule_under (Some a) s m =
     elim (is_signer a s && is_manifest a m) [ true ↦ accepts a (signer_of s) (manifest_of a m) | false ↦ no_rule ]
 
 unfoldable pub rule_of : List (List ℕ) → Rule
@@ -96,9 +94,9 @@ pub data Id : Type 0 where
   image_id : Algorithm → List ℕ → List ℕ → Id
   no_id : Id
 
-unfoldable pub id_under : Known → List ℕ → List ℕ → Id
-id_under Unknown s m = no_id
-id_under (Is a) s m = elim (is_digest a s && is_digest a m) [ true ↦ image_id a (digest_of s) (digest_of m) | false ↦ no_id ]
+unfoldable pub id_under : Option Algorithm → List ℕ → List ℕ → Id
+id_under None s m = no_id
+id_under (Some a) s m = elim (is_digest a s && is_digest a m) [ true ↦ image_id a (digest_of s) (digest_of m) | false ↦ no_id ]
 
 unfoldable pub id_of : List (List ℕ) → Id
 id_of [] = no_id

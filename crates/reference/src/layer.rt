@@ -4,11 +4,11 @@ ghost use Rattle.text_strings.specs.InString.{Inside};
 ghost use Rattle.reference_parts.specs.Readings.{Divided};
 ghost use Rattle.reference.specs.Readings.{LayerReads};
 
-use reference_digests::algorithm::{Algorithm, Known};
+use reference_digests::algorithm::Algorithm;
 use reference_parts::part;
 use reference_parts::part::Part;
 
-// A layer by its digest, at a position; by an alias, with the positions of its signer and its name; or none of these.
+// A layer by its digest, at a position, or by an alias, with the positions of its signer and its name.
 #[derive(Clone, Copy)]
 pub enum Layer {
     Digest(Algorithm, usize),
@@ -17,17 +17,16 @@ pub enum Layer {
         signer: usize,
         alias: usize,
     },
-    Bad,
 }
 
 // The string whose content begins at position i.
-pub fn read(s: &[u8], i: usize) -> Layer
+pub fn read(s: &[u8], i: usize) -> Option<Layer>
     requires { Inside s.now i }
     ensures { LayerReads s.now i result }
 {
     let first = part::read(s, i);
     if first.last {
-        return Layer::Bad;
+        return None;
     }
     let second = part::read(s, first.next);
     if second.last {
@@ -35,55 +34,53 @@ pub fn read(s: &[u8], i: usize) -> Layer
     }
     let third = part::read(s, second.next);
     if third.last {
-        return Layer::Bad;
+        return None;
     }
     let fourth = part::read(s, third.next);
     if fourth.last {
         return by_alias(s, i, first, second, third, fourth);
     }
-    Layer::Bad
+    None
 }
 
 // Two parts, from position i on.
-fn by_digest(s: &[u8], i: usize, first: Part, second: Part) -> Layer
+fn by_digest(s: &[u8], i: usize, first: Part, second: Part) -> Option<Layer>
     requires { Divided s.now i first second × (second.last ≡ true) }
     ensures { LayerReads s.now i result }
 {
-    match reference_digests::algorithm::named(s, false, i, first.length) {
-        Known::Unknown => Layer::Bad,
-        Known::Is(a) => {
-            if reference_digests::digest::is_digest(a, second.length, second.hex) {
-                Layer::Digest(a, first.next)
-            } else {
-                Layer::Bad
-            }
-        }
+    let algorithm = reference_digests::algorithm::named(s, false, i, first.length)?;
+    if !reference_digests::digest::is_digest(algorithm, second.length, second.hex) {
+        return None;
     }
+    Some(Layer::Digest(algorithm, first.next))
 }
 
 // Four parts, from position i on.
-fn by_alias(s: &[u8], i: usize, first: Part, second: Part, third: Part, fourth: Part) -> Layer
+fn by_alias(
+    s: &[u8],
+    i: usize,
+    first: Part,
+    second: Part,
+    third: Part,
+    fourth: Part,
+) -> Option<Layer>
     requires { Divided s.now i first second × Divided s.now first.next second third × Divided s.now second.next third fourth
         × (fourth.last ≡ true) }
     ensures { LayerReads s.now i result }
 {
     if !part::is(s, i, first.length, b"signer") {
-        return Layer::Bad;
+        return None;
     }
-    match reference_digests::algorithm::named(s, false, first.next, second.length) {
-        Known::Unknown => Layer::Bad,
-        Known::Is(a) => {
-            if !reference_digests::digest::is_digest(a, third.length, third.hex) {
-                return Layer::Bad;
-            }
-            if !reference_aliases::is_alias_part(s, third.next, fourth) {
-                return Layer::Bad;
-            }
-            Layer::Alias {
-                algorithm: a,
-                signer: second.next,
-                alias: third.next,
-            }
-        }
+    let algorithm = reference_digests::algorithm::named(s, false, first.next, second.length)?;
+    if !reference_digests::digest::is_digest(algorithm, third.length, third.hex) {
+        return None;
     }
+    if !reference_aliases::is_alias_part(s, third.next, fourth) {
+        return None;
+    }
+    Some(Layer::Alias {
+        algorithm,
+        signer: second.next,
+        alias: third.next,
+    })
 }

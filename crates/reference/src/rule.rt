@@ -6,7 +6,7 @@ ghost use Rattle.reference_parts.specs.Readings.{PartAt, Divided};
 ghost use Rattle.reference.specs.References.{is_signer, is_manifest, signer_of, manifest_of};
 ghost use Rattle.reference.specs.Readings.{SignerAt, signer_form, ManifestAt, manifest_form, RuleUnder, RuleReads};
 
-use reference_digests::algorithm::{Algorithm, Known};
+use reference_digests::algorithm::Algorithm;
 use reference_parts::part;
 use reference_parts::part::Part;
 
@@ -26,55 +26,50 @@ pub enum Manifest {
 }
 
 #[derive(Clone, Copy)]
-pub enum Rule {
-    Accepts {
-        algorithm: Algorithm,
-        signer: Signer,
-        manifest: Manifest,
-    },
-    Bad,
+pub struct Rule {
+    pub algorithm: Algorithm,
+    pub signer: Signer,
+    pub manifest: Manifest,
 }
 
 // The string whose content begins at position i.
-pub fn read(s: &[u8], i: usize) -> Rule
+pub fn read(s: &[u8], i: usize) -> Option<Rule>
     requires { Inside s.now i }
     ensures { RuleReads s.now i result }
 {
     let hash = part::read(s, i);
     if hash.last {
-        return Rule::Bad;
+        return None;
     }
     let signer = part::read(s, hash.next);
     if signer.last {
-        return Rule::Bad;
+        return None;
     }
     let manifest = part::read(s, signer.next);
     if !manifest.last {
-        return Rule::Bad;
+        return None;
     }
-    match reference_digests::algorithm::named(s, false, i, hash.length) {
-        Known::Unknown => Rule::Bad,
-        Known::Is(a) => under(s, a, hash.next, signer, manifest),
-    }
+    let algorithm = reference_digests::algorithm::named(s, false, i, hash.length)?;
+    under(s, algorithm, hash.next, signer, manifest)
 }
 
 // The rule of an algorithm with SIGNER at position i, and MANIFEST after it.
-fn under(s: &[u8], a: Algorithm, i: usize, signer: Part, manifest: Part) -> Rule
+fn under(s: &[u8], a: Algorithm, i: usize, signer: Part, manifest: Part) -> Option<Rule>
     requires { Divided s.now i signer manifest × (manifest.last ≡ true) }
     ensures { RuleUnder s.now a i signer.next result }
 {
     let j = signer.next;
     if !is_signer(s, a, i, signer) {
-        return Rule::Bad;
+        return None;
     }
     if !is_manifest(s, a, j, manifest) {
-        return Rule::Bad;
+        return None;
     }
-    Rule::Accepts {
+    Some(Rule {
         algorithm: a,
         signer: signer_of(s, a, i, signer),
         manifest: manifest_of(s, a, j, manifest),
-    }
+    })
 }
 
 fn is_signer(s: &[u8], a: Algorithm, i: usize, p: Part) -> bool

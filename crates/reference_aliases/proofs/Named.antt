@@ -12,7 +12,6 @@ use Rattle.reference_parts.proofs.Counting.{first_undivided, first_whole}
 use Rattle.reference_digests.specs.Algorithms.{hex_digits}
 use Rattle.reference_digests.specs.declared.algorithm.Algorithm.TheVariants.{Sha224, Sha256, Sha384}
 use Rattle.reference_aliases.specs.Aliases.{is_reserved, is_digest_length, is_name_length, is_alias}
-use lib.ListN.{length}
 use Rattle.text_strings.specs.InString.{content_from}
 use Rattle.reference_parts.proofs.Parts.{is_last}
 

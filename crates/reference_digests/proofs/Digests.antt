@@ -1,6 +1,7 @@
 -- The laws of digests and algorithms: the hexadecimal form of a digest is the one form for its bytes, and an algorithm is known by its name
 -- and by its byte.
 -- Assumes nothing.
+use Rattle.std.specs.Prelude.{Some, None}
 use Prim.Native.Nat.{ℕ, zero, suc, ◌+◌, ◌-◌, ◌*◌, ◌/◌, ◌%◌, ◌<◌, ◌≤◌}
 use mathlib.Core.Path.{◌≡◌, refl, sym, ap, ◌∙◌}
 use mathlib.Core.List.{List, [], ◌∷◌}
@@ -21,7 +22,6 @@ use Rattle.reference_digests.specs.Algorithms.{digest_bytes, hex_digits, byte_of
 use Rattle.reference_digests.specs.Digests.{is_digest, digest_of, hex_digit, hex_of}
 use Rattle.reference_digests.specs.declared.algorithm.Algorithm.{Algorithm}
 use Rattle.reference_digests.specs.declared.algorithm.Algorithm.TheVariants.{Sha224, Sha256, Sha384}
-use Rattle.reference_digests.specs.declared.algorithm.Known.TheVariants.{Is, Unknown}
 use Rattle.reference_digests.proofs.Forms.{named_first, named_second, named_third, named_none}
 
 -- a lower-case digit is a hexadecimal digit
@@ -184,21 +184,21 @@ digest_bounds Sha256 = (omega arith, omega arith)
 digest_bounds Sha384 = (omega arith, omega arith)
 
 -- An algorithm is the one with its name.
-pub named_name : (a : Algorithm) → named (name_of a) ≡ Is a
+pub named_name : (a : Algorithm) → named (name_of a) ≡ Some a
 unfolding named same
 named_name Sha224 = refl
 named_name Sha256 = refl
 named_name Sha384 = refl
 
 -- unequal answers
-no_algorithm : {C : Type 0} {a : Algorithm} → Unknown ≡ Is a → C
+no_algorithm : {C : Type 0} {a : Algorithm} → None ≡ Some a → C
 no_algorithm e = let z : ◌≡◌ {A = ℕ} 0 1 = cc in absurd (omega arith)
 
-one_algorithm : {a b : Algorithm} → Is a ≡ Is b → a ≡ b
+one_algorithm : {a b : Algorithm} → Some a ≡ Some b → a ≡ b
 one_algorithm e = cc
 
 -- A name that an algorithm is known by is its name.
-pub name_named : (h : List ℕ) (a : Algorithm) → named h ≡ Is a → h ≡ name_of a
+pub name_named : (h : List ℕ) (a : Algorithm) → named h ≡ Some a → h ≡ name_of a
 name_named h a e =
     by_test (same h (name_of Sha224))
     (λ t. same_eq h (name_of Sha224) t ∙ ap name_of (one_algorithm (sym (named_first h t) ∙ e)))
@@ -209,14 +209,14 @@ name_named h a e =
     (λ v. no_algorithm (sym (named_none h t u v) ∙ e))))
 
 -- An algorithm is the one with its byte.
-pub numbered_byte : (a : Algorithm) → numbered (byte_of a) ≡ Is a
+pub numbered_byte : (a : Algorithm) → numbered (byte_of a) ≡ Some a
 unfolding numbered
 numbered_byte Sha224 = refl
 numbered_byte Sha256 = refl
 numbered_byte Sha384 = refl
 
 -- A byte that an algorithm is known by is its byte.
-pub byte_numbered : (b : ℕ) (a : Algorithm) → numbered b ≡ Is a → b ≡ byte_of a
+pub byte_numbered : (b : ℕ) (a : Algorithm) → numbered b ≡ Some a → b ≡ byte_of a
 unfolding numbered
 byte_numbered b a e =
     by_test (eqb b 1)

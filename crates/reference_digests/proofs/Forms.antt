@@ -1,5 +1,6 @@
 -- What the definitions of algorithms and digests say, case by case.
 -- Assumes nothing.
+use Rattle.std.specs.Prelude.{Some, None}
 use Prim.Native.Nat.{ℕ}
 use mathlib.Core.Path.{◌≡◌, sym, ◌∙◌}
 use mathlib.Core.List.{List}
@@ -14,29 +15,28 @@ use Rattle.reference_digests.specs.Algorithms.{hex_digits, name_of, named}
 use Rattle.reference_digests.specs.Digests.{is_digest}
 use Rattle.reference_digests.specs.declared.algorithm.Algorithm.{Algorithm}
 use Rattle.reference_digests.specs.declared.algorithm.Algorithm.TheVariants.{Sha224, Sha256, Sha384}
-use Rattle.reference_digests.specs.declared.algorithm.Known.TheVariants.{Is, Unknown}
 
 -- algorithms by name
 module _ (h : List ℕ) where
   -- What is the name of Sha224 names Sha224.
-  pub named_first : same h (name_of Sha224) ≡ true → named h ≡ Is Sha224
+  pub named_first : same h (name_of Sha224) ≡ true → named h ≡ Some Sha224
   unfolding named
   named_first e = rw (e, named)
 
   module _ (e : same h (name_of Sha224) ≡ false) where
     -- What is not the name of Sha224 but that of Sha256 names Sha256.
-    pub named_second : same h (name_of Sha256) ≡ true → named h ≡ Is Sha256
+    pub named_second : same h (name_of Sha256) ≡ true → named h ≡ Some Sha256
     unfolding named
     named_second f = rw (e, named) (rw f)
 
     module _ (f : same h (name_of Sha256) ≡ false) where
       -- What is neither of these names but that of Sha384 names Sha384.
-      pub named_third : same h (name_of Sha384) ≡ true → named h ≡ Is Sha384
+      pub named_third : same h (name_of Sha384) ≡ true → named h ≡ Some Sha384
       unfolding named
       named_third g = rw (e, named) (rw f (rw g))
 
       -- What is none of the three names names no known algorithm.
-      pub named_none : same h (name_of Sha384) ≡ false → named h ≡ Unknown
+      pub named_none : same h (name_of Sha384) ≡ false → named h ≡ None
       unfolding named
       named_none g = rw (e, named) (rw f (rw g))
 

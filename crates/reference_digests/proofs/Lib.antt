@@ -1,3 +1,4 @@
+pub mod Bytes
 pub mod Comparing
 pub mod Forms
 pub mod Digests

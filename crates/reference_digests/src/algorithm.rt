@@ -4,18 +4,11 @@ ghost use Rattle.reference_parts.specs.Parts.{first_part};
 ghost use Rattle.reference_parts.specs.Readings.{parts_from, HasPart};
 ghost use Rattle.reference_digests.specs.Algorithms.{digest_bytes, hex_digits, byte_of, named as named_by, numbered};
 
-#[derive(Clone, Copy)]
+#[derive(Clone, Copy, PartialEq, Eq)]
 pub enum Algorithm {
     Sha224,
     Sha256,
     Sha384,
-}
-
-// An algorithm, where there is one.
-#[derive(Clone, Copy)]
-pub enum Known {
-    Is(Algorithm),
-    Unknown,
 }
 
 impl Algorithm {
@@ -61,32 +54,32 @@ impl Algorithm {
     }
 
     // The algorithm that a byte stands for.
-    pub fn from_byte(b: u8) -> Known
+    pub fn from_byte(b: u8) -> Option<Algorithm>
         ensures { result ≡ numbered b }
     {
         match b {
-            Self::SHA224_BYTE => Known::Is(Algorithm::Sha224),
-            Self::SHA256_BYTE => Known::Is(Algorithm::Sha256),
-            Self::SHA384_BYTE => Known::Is(Algorithm::Sha384),
-            _ => Known::Unknown,
+            Self::SHA224_BYTE => Some(Algorithm::Sha224),
+            Self::SHA256_BYTE => Some(Algorithm::Sha256),
+            Self::SHA384_BYTE => Some(Algorithm::Sha384),
+            _ => None,
         }
     }
 }
 
 // The algorithm that the part at position i names, of plain bytes or of a string of a JSON text; the part has `len` bytes.
-pub fn named(s: &[u8], plain: bool, i: usize, len: usize) -> Known
+pub fn named(s: &[u8], plain: bool, i: usize, len: usize) -> Option<Algorithm>
     requires { HasPart plain s.now i len }
     ensures { result ≡ named_by (first_part (parts_from plain s.now i)) }
 {
     if reference_parts::part::is_named(s, plain, i, len, b"sha224") {
-        return Known::Is(Algorithm::Sha224);
+        return Some(Algorithm::Sha224);
     }
     if reference_parts::part::is_named(s, plain, i, len, b"sha256") {
-        return Known::Is(Algorithm::Sha256);
+        return Some(Algorithm::Sha256);
     }
     let is_sha384 = reference_parts::part::is_named(s, plain, i, len, b"sha384");
     if is_sha384 {
-        return Known::Is(Algorithm::Sha384);
+        return Some(Algorithm::Sha384);
     }
-    Known::Unknown
+    None
 }

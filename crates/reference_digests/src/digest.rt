@@ -28,10 +28,8 @@ pub fn equal(a: &[u8], b: &[u8]) -> bool
         return false;
     }
     let mut all = true;
-    let mut i = 0;
-    while i < a.len() {
-        all &= a[i] == b[i];
-        i += 1;
+    for (i, x) in a.iter().enumerate() {
+        all &= *x == b[i];
     }
     all
 }
@@ -51,14 +49,12 @@ pub fn write(s: &[u8], i: usize, a: Algorithm, out: &mut [u8])
 {
     let n = a.digest_bytes();
     let mut c = Cursor::new(i);
-    let mut k = 0;
-    while k < n {
+    for k in 0..n {
         let high = c.next(s);
         let between = high.rest;
         let low = between.next(s);
         out[k] = byte_of(high.byte, low.byte);
         c = low.rest;
-        k += 1;
     }
 }
 
@@ -68,12 +64,9 @@ pub fn write_plain(s: &[u8], i: usize, a: Algorithm, out: &mut [u8])
     ensures { out.new ≡ digest_of (first_part (drop i s.now)) ++ drop (digest_bytes a) out.old }
 {
     let n = a.digest_bytes();
-    let mut k = 0;
-    let mut j = i;
-    while k < n {
+    for k in 0..n {
+        let j = i + 2 * k;
         out[k] = byte_of(s[j], s[j + 1]);
-        j += 2;
-        k += 1;
     }
 }
 
@@ -94,17 +87,14 @@ pub fn is(s: &[u8], i: usize, a: Algorithm, bytes: &[u8]) -> bool
     if bytes.len() != a.digest_bytes() {
         return false;
     }
-    let mut k = 0;
-    let mut at = i;
-    while k < bytes.len() {
+    for (k, byte) in bytes.iter().enumerate() {
+        let at = i + 2 * k;
         if !are_plain(s, at) {
             return cursor_is(s, Cursor::new(at), bytes, k);
         }
-        if byte_of(s[at], s[at + 1]) != bytes[k] {
+        if byte_of(s[at], s[at + 1]) != *byte {
             return false;
         }
-        at += 2;
-        k += 1;
     }
     true
 }
@@ -115,8 +105,7 @@ fn cursor_is(s: &[u8], from: Cursor, bytes: &[u8], at: usize) -> bool
     ensures { (c : List ℕ) → Left s.now from c → result ≡ same (digest_of (first_part c)) (drop at bytes.now) }
 {
     let mut c = from;
-    let mut k = at;
-    while k < bytes.len() {
+    for k in at..bytes.len() {
         let high = c.next(s);
         let between = high.rest;
         let low = between.next(s);
@@ -124,7 +113,6 @@ fn cursor_is(s: &[u8], from: Cursor, bytes: &[u8], at: usize) -> bool
             return false;
         }
         c = low.rest;
-        k += 1;
     }
     true
 }

@@ -47,11 +47,8 @@ fn all_hex(s: &[u8], at: usize, count: usize) -> bool
     ensures { result ≡ every is_lower_hex (take count (drop at s.now)) }
 {
     let mut all = true;
-    let mut n = 0;
-    while n < count {
-        let b = s[at + n];
-        all &= (b'0' <= b) & (b <= b'9') | (b'a' <= b) & (b <= b'f');
-        n += 1;
+    for b in &s[at..at + count] {
+        all &= (b'0' <= *b) & (*b <= b'9') | (b'a' <= *b) & (*b <= b'f');
     }
     all
 }
@@ -61,6 +58,7 @@ fn read_blocks(s: &[u8], i: usize) -> Start
     requires { Inside s.now i }
     ensures { StartAt s.now i result }
 {
+    // how many blocks there are is only known by the test of each, so no `for` counts them
     let mut k = i;
     let mut hex = true;
     while undivided(s, k, 16) {
@@ -90,6 +88,7 @@ pub fn read(s: &[u8], i: usize) -> Part
     ensures { PartAt s.now i result }
 {
     let begun = read_start(s, i);
+    // the position jumps by what `one_char` answers, so no `for` counts it
     let mut k = begun.next;
     let mut length = k - i;
     let mut hex = begun.hex;
@@ -164,26 +163,21 @@ pub fn read_plain(s: &[u8], i: usize) -> Part
     requires { i ≤ length s.now }
     ensures { PlainPart s.now i result × (result.next ≤ length s.now) }
 {
-    let mut k = i;
-    let mut length = 0;
     let mut hex = true;
-    while k < s.len() {
-        let b = s[k];
-        k += 1;
-        if b == b'/' {
+    for (length, b) in s[i..].iter().enumerate() {
+        if *b == b'/' {
             return Part {
-                next: k,
+                next: i + length + 1,
                 length,
                 hex,
                 last: false,
             };
         }
-        length += 1;
-        hex &= is_lower_hex(b as u32);
+        hex &= is_lower_hex(u32::from(*b));
     }
     Part {
-        next: k,
-        length,
+        next: s.len(),
+        length: s.len() - i,
         hex,
         last: true,
     }
@@ -197,12 +191,10 @@ fn is_plain(s: &[u8], i: usize, len: usize, name: &[u8]) -> bool
     if len != name.len() {
         return false;
     }
-    let mut k = 0;
-    while k < name.len() {
-        if s[i + k] != name[k] {
+    for (k, b) in name.iter().enumerate() {
+        if s[i + k] != *b {
             return false;
         }
-        k += 1;
     }
     true
 }

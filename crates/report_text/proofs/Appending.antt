@@ -4,12 +4,8 @@ use mathlib.Core.Path.{◌≡◌, sym, ap, ◌∙◌}
 use mathlib.Core.List.{List, ◌++◌, append_assoc}
 use native.Mathlib.Omega.{arith}
 use lib.ListN.{length, take, drop, length-append, length-take, length-drop}
-use lib.Seq.{paste, take-length, take_at, drop_at, drop-drop}
+use lib.Seq.{take_at, drop_at, drop-drop}
 use Rattle.report_text.specs.Output.{Puts}
-
--- A copy of all of a list is the list put there.
-pub pasted : (out xs : List ℕ) (at : ℕ) → paste out at xs (length xs) ≡ take at out ++ (xs ++ drop (at + length xs) out)
-pasted out xs at = rw (take-length xs) (append_assoc (take at out) xs (drop (at + length xs) out))
 
 module _ {out : List ℕ} {at : ℕ} {xs mid : List ℕ} {m : ℕ} (p : Puts out at xs mid m) (fits : m ≤ length out) where
   -- The buffer keeps its length.

@@ -3,8 +3,7 @@
 
 pub mod print;
 
-ghost use Rattle.std.specs.Prelude.{◌+◌, ◌≤◌, min, ◌≡◌, length, drop};
-ghost use Rattle.std.proofs.Math.Seq.{paste};
+ghost use Rattle.std.specs.Prelude.{◌+◌, ◌≤◌, min, ◌≡◌, length};
 ghost use Rattle.report_text.specs.Lines.{most_line};
 ghost use Rattle.report_text.specs.Parts.{Divides, Takes};
 
@@ -26,13 +25,7 @@ pub fn line_buffer() -> [u8; KEPT]
     [0; KEPT]
 }
 
-fn least(a: usize, b: usize) -> usize
-    ensures { result ≡ min a b }
-{
-    if a < b { a } else { b }
-}
-
-// The place after `at`, or the end where `at` is there.
+// The place after `at`, or the end where `at` is there. It is no `min` of the two: no contract says that `at + 1` fits.
 fn past(s: &[u8], at: usize) -> usize
     ensures { result ≡ min (at + 1) (length s.now) }
 {
@@ -55,18 +48,6 @@ pub fn divide(line: &[u8]) -> Divided
     Divided { end, start }
 }
 
-// Copies n bytes of s, from `from` on, to the place `to` of d.
-fn copy(s: &[u8], from: usize, d: &mut [u8], to: usize, n: usize)
-    requires { (from + n ≤ length s.now) × (to + n ≤ length d.old) }
-    ensures { d.new ≡ paste d.old to (drop from s.now) n }
-{
-    let mut i = 0;
-    while i < n {
-        d[to + i] = s[from + i];
-        i += 1;
-    }
-}
-
 // Takes the bytes of a part, from `at` on, up to the end of a line or of the part, and keeps them after the `size` bytes that are kept of
 // the line already, as far as there is space. The byte 0A that ends a line is taken and not kept.
 pub fn take_part(kept: &mut [u8], size: usize, part: &[u8], at: usize) -> Taken
@@ -75,8 +56,8 @@ pub fn take_part(kept: &mut [u8], size: usize, part: &[u8], at: usize) -> Taken
 {
     let end = lines::find(part, at, b'\n');
     let next = past(part, end);
-    let n = least(end - at, kept.len() - size);
-    copy(part, at, kept, size, n);
+    let n = (end - at).min(kept.len() - size);
+    kept[size..size + n].copy_from_slice(&part[at..at + n]);
     Taken {
         at: next,
         length: size + n,

@@ -2,8 +2,6 @@
 ghost use Rattle.std.specs.Prelude.{◌+◌, ◌≤◌, length};
 ghost use Rattle.report_text.specs.Output.{Puts, decimal, load_line, pairs_line, pair_line};
 
-use crate::copy;
-
 // More than any of these lines has.
 pub const MOST_PRINTED: usize = 64;
 
@@ -12,9 +10,9 @@ fn put(bytes: &[u8], out: &mut [u8], at: usize) -> usize
     requires { at + length bytes.now ≤ length out.old }
     ensures { Puts out.old at bytes.now out.new result }
 {
-    let n = bytes.len();
-    copy(bytes, 0, out, at, n);
-    at + n
+    let end = at + bytes.len();
+    out[at..end].copy_from_slice(bytes);
+    end
 }
 
 // A number in decimal digits, of which there are at most twenty.

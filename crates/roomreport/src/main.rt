@@ -63,6 +63,7 @@ fn feed(part: &[u8], kept: &mut [u8], store: &mut [u8], out: &mut [u8], t: State
 {
     let mut t = t;
     let mut at = 0;
+    // no `for` counts `at`: it goes on after the line that was found
     while at < part.len() {
         let taken = report_text::take_part(kept, t.kept, part, at);
         let length = taken.length;
@@ -88,15 +89,13 @@ fn read_all(part: &mut [u8], kept: &mut [u8], store: &mut [u8], out: &mut [u8]) 
         unprinted: 0,
     };
     // a loop has to end, and nothing says that an input does: no run uses up so many turns
-    let mut turns = u64::MAX;
-    while 0 < turns {
+    for _ in 0..u64::MAX {
         // the part is full, but where a read has told the end of the input
         let n = io::read_full(0, part);
         t = feed(&part[..n], kept, store, out, t);
         if n < part.len() {
             return t;
         }
-        turns -= 1;
     }
     t
 }
@@ -119,8 +118,7 @@ fn print_pairs(places: &[u8], n: usize, out: &mut [u8], at: usize) -> usize
     ensures { result ≤ length out.old }
 {
     let mut end = at;
-    let mut i = 0;
-    while i < n {
+    for i in 0..n {
         let place = place_for_line(out, end);
         end = print::pair(
             places[2 * i] as usize,
@@ -128,7 +126,6 @@ fn print_pairs(places: &[u8], n: usize, out: &mut [u8], at: usize) -> usize
             out,
             place,
         );
-        i += 1;
     }
     end
 }

@@ -1,9 +1,9 @@
 -- What the number 0 of a load tells, and that the images then make a sound store. Assumes nothing.
+use Rattle.std.specs.Prelude.{Option, None, Some}
 use Prim.Native.Nat.{ℕ, ◌-◌, ◌≤◌, ◌<◌}
 use mathlib.Core.Path.{◌≡◌, refl, sym, ap, ◌∙◌}
 use mathlib.Core.List.{List, [], ◌∷◌, ◌++◌, append-nil}
 use mathlib.Core.Bool.{Bool, true, false, ◌||◌}
-use mathlib.Core.Option.{Option, none, some}
 use native.Mathlib.Omega.{arith}
 use borrow.Author.Tests.{eqb-true, eqb-false, eq-eqb}
 use lib.Dec.{eqb}
@@ -62,17 +62,17 @@ module _ (size : ℕ) (images : Option (List Image)) (id manifest : List ℕ) (e
   of_store = none_asked _ _ (omega arith) of_image
 
 -- A load of a store that cannot be read is refused.
-pub unread_refused : (size : ℕ) (id manifest : List ℕ) → lowest (load_questions size none id manifest) ≡ 0 → ⊥
-unread_refused size id manifest e = unread_asked size (image_of id manifest) (of_store size none id manifest e).1
+pub unread_refused : (size : ℕ) (id manifest : List ℕ) → lowest (load_questions size None id manifest) ≡ 0 → ⊥
+unread_refused size id manifest e = unread_asked size (image_of id manifest) (of_store size None id manifest e).1
 
 -- A load gets the number 0 only if all of this holds.
-pub accepted : (size : ℕ) (xs : List Image) (id manifest : List ℕ) → lowest (load_questions size (some xs) id manifest) ≡ 0
+pub accepted : (size : ℕ) (xs : List Image) (id manifest : List ℕ) → lowest (load_questions size (Some xs) id manifest) ≡ 0
     → Accepted size xs id manifest
 accepted size xs id manifest e =
-    let k = of_store size (some xs) id manifest e in
+    let k = of_store size (Some xs) id manifest e in
     let s = none_of_store size (image_of id manifest) xs k.1 in
     record {
-      good = good_manifest size (some xs) id manifest e;
+      good = good_manifest size (Some xs) id manifest e;
       known = k.0;
       sound = s.0;
       new = s.1;

@@ -1,4 +1,5 @@
 -- The image that a load is given is one as a record holds it. Assumes nothing.
+use Rattle.std.specs.Prelude.{Option, Some, None}
 use Prim.Native.Nat.{ℕ}
 use mathlib.Core.Path.{◌≡◌, sym, ap}
 use mathlib.Core.List.{List, [], ◌∷◌}
@@ -8,8 +9,6 @@ use Rattle.laws.proofs.Order.{by_test, false_true}
 use Rattle.reference_digests.specs.Algorithms.{digest_bytes, named}
 use Rattle.reference_digests.specs.Digests.{is_digest, digest_of}
 use Rattle.reference_digests.specs.declared.algorithm.Algorithm.{Algorithm}
-use Rattle.reference_digests.specs.declared.algorithm.Known.{Known}
-use Rattle.reference_digests.specs.declared.algorithm.Known.TheVariants.{Is, Unknown}
 use Rattle.reference_digests.proofs.Digests.{digest_length}
 use Rattle.reference.specs.References.{Id, image_id, id_under, id_of, image_id_of}
 use Rattle.store_record.specs.Record.{Shaped}
@@ -24,10 +23,10 @@ record Sized (i : Id) : Type 0 where
   signer_size : length signer ≡ digest_bytes algorithm
   manifest_size : length manifest ≡ digest_bytes algorithm
 
-sized_under : (k : Known) (s m : List ℕ) → is_no_id (id_under k s m) ≡ false → Sized (id_under k s m)
+sized_under : (k : Option Algorithm) (s m : List ℕ) → is_no_id (id_under k s m) ≡ false → Sized (id_under k s m)
 unfolding id_under is_no_id
-sized_under Unknown s m e = false_true (sym e)
-sized_under (Is a) s m e =
+sized_under None s m e = false_true (sym e)
+sized_under (Some a) s m e =
     by_test (is_digest a s && is_digest a m)
     (λ t. let d = (and-eq-true_iff (is_digest a s) (is_digest a m)).0 t in
     record {

@@ -1,9 +1,9 @@
 -- What a load leaves in the buffer. Assumes nothing.
+use Rattle.std.specs.Prelude.{Option, None, Some}
 use Prim.Native.Nat.{ℕ, ◌+◌, ◌≤◌, ◌<◌}
 use mathlib.Core.Path.{◌≡◌, refl, sym, ap, ◌∙◌}
 use mathlib.Core.List.{List, [], ◌∷◌, ◌++◌, append_assoc}
 use mathlib.Core.Bool.{true}
-use mathlib.Core.Option.{Option, none, some}
 use native.Mathlib.Omega.{arith}
 use borrow.Author.Tests.{eq-eqb, ne_eqb}
 use lib.ListN.{length, take, drop, get_or, length-append, length-drop}
@@ -67,7 +67,7 @@ module _ (id manifest buffer : List ℕ) (used : ℕ) where
     unfolding load_bytes bytes_after
     bytes_accepted = rw (eq-eqb (load_number id manifest buffer used) 0 e, bytes_after)
 
-    module _ (xs : List Image) (h : held buffer used ≡ some xs) where
+    module _ (xs : List Image) (h : held buffer used ≡ Some xs) where
       -- Of a load that is accepted all is known that the number 0 tells.
       pub load_accepted : Accepted (length buffer) xs id manifest
       unfolding load_number
@@ -83,9 +83,9 @@ module _ (id manifest buffer : List ℕ) (used : ℕ) where
             omega (arith, load_accepted.fits, used_is buffer used xs holds, holds.within)
 
 -- The images that a buffer holds after an accepted load are those of before and then the new one.
-pub load_holds : (id manifest buffer : List ℕ) (used : ℕ) (xs : List Image) → ((k : ℕ) → get_or buffer k 0 < 256) → held buffer used ≡ some xs
+pub load_holds : (id manifest buffer : List ℕ) (used : ℕ) (xs : List Image) → ((k : ℕ) → get_or buffer k 0 < 256) → held buffer used ≡ Some xs
     → load_number id manifest buffer used ≡ 0
-    → held (load_bytes id manifest buffer used) (load_used id manifest buffer used) ≡ some (xs ++ (image_of id manifest ∷ []))
+    → held (load_bytes id manifest buffer used) (load_used id manifest buffer used) ≡ Some (xs ++ (image_of id manifest ∷ []))
 load_holds id manifest buffer used xs b h e =
     let x = image_of id manifest in
     let r = record_of x in
@@ -103,20 +103,20 @@ load_holds id manifest buffer used xs b h e =
 -- what an accepted load leaves: the images of before and then the new one, a well-formed store, and all bytes after it
 pub record LoadKeeps (id manifest buffer : List ℕ) (used : ℕ) : Type 0 where
   pub images : List Image
-  pub before : held buffer used ≡ some images
-  pub after : held (load_bytes id manifest buffer used) (load_used id manifest buffer used) ≡ some (images ++ (image_of id manifest ∷ []))
+  pub before : held buffer used ≡ Some images
+  pub after : held (load_bytes id manifest buffer used) (load_used id manifest buffer used) ≡ Some (images ++ (image_of id manifest ∷ []))
   pub well : well_formed (load_bytes id manifest buffer used) (load_used id manifest buffer used) ≡ true
   pub length : length (load_bytes id manifest buffer used) ≡ length buffer
   pub rest : drop (load_used id manifest buffer used) (load_bytes id manifest buffer used) ≡ drop (load_used id manifest buffer used) buffer
 
 -- what a buffer holds of which a load is accepted
-was_held : (id manifest buffer : List ℕ) (used : ℕ) → load_number id manifest buffer used ≡ 0 → (xs : List Image) × (held buffer used ≡ some xs)
+was_held : (id manifest buffer : List ℕ) (used : ℕ) → load_number id manifest buffer used ≡ 0 → (xs : List Image) × (held buffer used ≡ Some xs)
 unfolding load_number
 was_held id manifest buffer used e = by_held (held buffer used) refl
   where
-    by_held : (o : Option (List Image)) → held buffer used ≡ o → (xs : List Image) × (held buffer used ≡ some xs)
-    by_held none q = absurd (unread_refused (length buffer) id manifest (rw q at e))
-    by_held (some xs) q = (xs, q)
+    by_held : (o : Option (List Image)) → held buffer used ≡ o → (xs : List Image) × (held buffer used ≡ Some xs)
+    by_held None q = absurd (unread_refused (length buffer) id manifest (rw q at e))
+    by_held (Some xs) q = (xs, q)
 
 -- After an accepted load the store is well-formed, and holds the images of before and then the new one.
 pub load_keeps : (id manifest buffer : List ℕ) (used : ℕ) → ((k : ℕ) → get_or buffer k 0 < 256) → load_number id manifest buffer used ≡ 0

@@ -1,9 +1,9 @@
 -- Questions 11 to 14 of an image and a store whose records were read. Assumes nothing.
+use Rattle.std.specs.Prelude.{Option, Some}
 use Prim.Native.Nat.{ℕ, ◌+◌, ◌-◌, ◌≤◌, ◌<◌}
 use mathlib.Core.Path.{◌≡◌, refl, sym, ap, ◌∙◌}
 use mathlib.Core.List.{List}
 use mathlib.Core.Bool.{Bool, true, false, not, ◌||◌, or-false, or-true}
-use mathlib.Core.Option.{Option, none, some}
 use native.Mathlib.Omega.{arith}
 use borrow.Author.Tests.{lt-ltb, le-ltb, le-leb, lt-leb, eqb-true, eqb-false, ltb-true, ltb-false}
 use lib.Dec.{eqb, leb, ltb}
@@ -14,7 +14,7 @@ use Rattle.laws.proofs.Order.{by_test}
 use Rattle.text.specs.Question.{lowest}
 use Rattle.reference_digests.specs.declared.algorithm.Algorithm.{Algorithm}
 use Rattle.reference.specs.References.{image_id}
-use Rattle.manifest.specs.declared.Places.{Places}
+use Rattle.manifest.specs.Opened.{Places}
 use Rattle.manifest.proofs.Asking.{nothing_asked, asked_first, asked_next, asked_none}
 use Rattle.manifest.proofs.Questions.{good_as_text}
 use Rattle.store_record.specs.Image.{Image}
@@ -80,7 +80,7 @@ unfolding id_twice any_clash
 few_apart b v f h = rw (pair_few b v f share_id h, pair_few b v f clash h)
 
 -- 14, of records that fill the bytes, after which `left` are free
-module _ (b : List ℕ) (bytes : (j : ℕ) → get_or b j 0 < 256) (xs : List Image) (e : read_records most_images b ≡ some xs) (left : ℕ) (x : Image) where
+module _ (b : List ℕ) (bytes : (j : ℕ) → get_or b j 0 < 256) (xs : List Image) (e : read_records most_images b ≡ Some xs) (left : ℕ) (x : Image) where
   free_is : (length b + left) - length (store_of xs) ≡ left
   free_is = omega (arith, ap length (store_read most_images b xs bytes e).0)
 
@@ -100,7 +100,7 @@ module _ (b : List ℕ) (bytes : (j : ℕ) → get_or b j 0 < 256) (xs : List Im
   space_left h l = rw (lt-leb most_images (length xs) h, free_is) (le-ltb left (length (record_of x)) l)
 
 -- The images of a store that could be read are those that were read.
-pub read_among : (b : List ℕ) (xs : List Image) → read_records most_images b ≡ some xs → among (read_records most_images b) ≡ xs
+pub read_among : (b : List ℕ) (xs : List Image) → read_records most_images b ≡ Some xs → among (read_records most_images b) ≡ xs
 unfolding among
 read_among b xs e = ap among e
 
@@ -138,7 +138,7 @@ module _ (size : ℕ) (images : Option (List Image)) (x : Image) where
         number_0 e = sym (asked_none _ _ sound (asked_none _ _ other (asked_none _ _ apart (asked_none _ _ e nothing_asked))))
 
 -- of a store whose records were read, where neither 11 nor 12 applies
-module _ (b : List ℕ) (bytes : (j : ℕ) → get_or b j 0 < 256) (xs : List Image) (e : read_records most_images b ≡ some xs) (left : ℕ) (x : Image)
+module _ (b : List ℕ) (bytes : (j : ℕ) → get_or b j 0 < 256) (xs : List Image) (e : read_records most_images b ≡ Some xs) (left : ℕ) (x : Image)
     (sound : is_broken (length b + left) (read_records most_images b) ≡ false) (other : any_of (share_id x) (among (read_records most_images b)) ≡ false) where
   space_of : no_space (length b + left) (among (read_records most_images b)) x ≡ no_space (length b + left) xs x
   space_of = ap (λ (ys : List Image). no_space (length b + left) ys x) (read_among b xs e)

@@ -1,9 +1,9 @@
 -- The steps of a load: which question answers, and what a refusal and an accepted load leave. Assumes nothing.
+use Rattle.std.specs.Prelude.{Option, None, Some}
 use Prim.Native.Nat.{ℕ, ◌+◌, ◌-◌, ◌≤◌, ◌<◌}
 use mathlib.Core.Path.{◌≡◌, refl, sym, ap, subst, ◌∙◌}
 use mathlib.Core.List.{List, ◌++◌}
 use mathlib.Core.Bool.{true, false}
-use mathlib.Core.Option.{Option, none, some}
 use native.Mathlib.Omega.{arith}
 use borrow.Author.Tests.{lt-leb, ne_eqb, leb-false, ltb-false}
 use lib.Dec.{eqb}
@@ -64,12 +64,12 @@ clash_space a h k =
 
 module _ (size : ℕ) (x : Image) where
   -- Where nothing can be read, a question of the store applies.
-  pub unread_asked : lowest (store_questions size none x) ≡ 0 → ⊥
+  pub unread_asked : lowest (store_questions size None x) ≡ 0 → ⊥
   unfolding store_questions is_broken
   unread_asked e = false_true (sym (none_asked _ _ (omega arith) e).0)
 
   -- Where no question of the store applies, it is sound, the image is new and clashes with none, and there is space for it.
-  pub none_of_store : (xs : List Image) → lowest (store_questions size (some xs) x) ≡ 0
+  pub none_of_store : (xs : List Image) → lowest (store_questions size (Some xs) x) ≡ 0
       → (are_unsound size xs ≡ false) × (any_of (share_id x) xs ≡ false) × (any_of (clash x) xs ≡ false) × (length xs < 64)
       × (length (record_of x) ≤ size - length (store_of xs))
   unfolding store_questions is_broken among no_space
@@ -98,8 +98,8 @@ module _ (x : Image) (buffer : List ℕ) (used : ℕ) where
     module _ (b : (k : ℕ) → get_or buffer k 0 < 256) (e : lowest (store_questions (length buffer) (held buffer used) x) ≡ 0) where
       space : (o : Option (List Image)) → read_records most_images (take used buffer) ≡ o → lowest (store_questions (length buffer) o x) ≡ 0
           → length (record_of x) ≤ length buffer - used
-      space none q z = absurd (unread_asked (length buffer) x z)
-      space (some xs) q z =
+      space None q z = absurd (unread_asked (length buffer) x z)
+      space (Some xs) q z =
           let t = ap length (store_read most_images (take used buffer) xs (first_bytes buffer used b) q).0 in
           omega (arith, length-take-le used buffer h, (none_of_store (length buffer) x xs z).4)
 

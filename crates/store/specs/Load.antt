@@ -1,7 +1,6 @@
 -- What load answers and writes (document 01, "The room" and "What comes back"): questions 1 to 14, and the lowest that applies. One list of
 -- questions serves a store in a buffer and a plain list of images.
-use Rattle.std.specs.Prelude.{ℕ, ◌+◌, ◌-◌, Bool, true, false, ◌||◌, List, [], ◌∷◌, ◌++◌, leb, ltb, eqb, length}
-use Rattle.std.proofs.Math.Option.{Option}
+use Rattle.std.specs.Prelude.{ℕ, ◌+◌, ◌-◌, Bool, true, false, ◌||◌, List, [], ◌∷◌, ◌++◌, leb, ltb, eqb, length, Option}
 use Rattle.laws.specs.Any.{any_of}
 use Rattle.text.specs.Answer.{form}
 use Rattle.text.specs.Question.{Question, lowest}

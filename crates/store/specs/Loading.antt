@@ -4,7 +4,7 @@ use Rattle.answer.specs.declared.Answer.{Answer}
 use Rattle.answer.specs.declared.TextAnswer.{TextAnswer}
 use Rattle.text.specs.Answer.{form, text_place}
 use Rattle.manifest.specs.Opened.{Opens}
-use Rattle.manifest.specs.declared.Places.{Places}
+use Rattle.manifest.specs.Opened.{Places}
 use Rattle.store_record.specs.Image.{Image}
 use Rattle.store.specs.Load.{used_after, bytes_after, load_number, load_used, load_bytes}
 

@@ -18,9 +18,8 @@ ghost use Rattle.store_append.specs.Append.{image_with, Digests, Storable};
 ghost use Rattle.store.specs.Loading.{FormSpace, Readied, NameArrays, Loads, LoadsText};
 
 use answer::{Answer, TextAnswer};
-use manifest::{Checked, MOST_NAMES, Places};
+use manifest::{MOST_NAMES, Places};
 use reference::ImageIndex;
-use reference::id::Id;
 use reference_digests::algorithm::Algorithm;
 use store_record::{MOST_IMAGES, Survey};
 use text::MOST_BYTES;
@@ -99,12 +98,8 @@ fn load_form(
         (image_of id.now text.now) store.old used result store.new }
 {
     match manifest::check_form(text, sorted, spare) {
-        Checked::Refused(f) => answer::refused(store, f.number()),
-        Checked::Good {
-            length: _,
-            canonical: _,
-            places,
-        } => load_good(id, text, places, store, used, sorted, spare),
+        Err(f) => answer::refused(store, f.number()),
+        Ok(good) => load_good(id, text, good.places, store, used, sorted, spare),
     }
 }
 
@@ -123,31 +118,26 @@ fn load_good(
         (lowest (image_questions (length store.old) (held store.old used) id.now text.now))
         (image_of id.now text.now) store.old used result store.new }
 {
-    match reference::id::read(id) {
-        Id::Bad => answer::refused(store, 10),
-        Id::Image {
-            algorithm,
-            signer,
-            manifest: digest,
-        } => {
-            let mut signer_bytes = [0u8; Algorithm::SHA384_BYTES];
-            reference_digests::digest::write_plain(id, signer, algorithm, &mut signer_bytes);
-            let mut digest_bytes = [0u8; Algorithm::SHA384_BYTES];
-            reference_digests::digest::write_plain(id, digest, algorithm, &mut digest_bytes);
-            let n = algorithm.digest_bytes();
-            load_image(
-                algorithm,
-                &signer_bytes[..n],
-                &digest_bytes[..n],
-                text,
-                places,
-                store,
-                used,
-                sorted,
-                spare,
-            )
-        }
-    }
+    let Some(image) = reference::id::read(id) else {
+        return answer::refused(store, 10);
+    };
+    let algorithm = image.algorithm;
+    let mut signer_bytes = [0u8; Algorithm::SHA384_BYTES];
+    reference_digests::digest::write_plain(id, image.signer, algorithm, &mut signer_bytes);
+    let mut digest_bytes = [0u8; Algorithm::SHA384_BYTES];
+    reference_digests::digest::write_plain(id, image.manifest, algorithm, &mut digest_bytes);
+    let n = algorithm.digest_bytes();
+    load_image(
+        algorithm,
+        &signer_bytes[..n],
+        &digest_bytes[..n],
+        text,
+        places,
+        store,
+        used,
+        sorted,
+        spare,
+    )
 }
 
 // The same of an image whose ID has that algorithm and those digests.
@@ -205,15 +195,12 @@ fn number_in(
     ensures { result ≡ lowest (store_questions (length b.now + left) (read_records most_images b.now)
         (image_with a signer.now digest.now text.now)) }
 {
-    let survey = Survey::of(b);
-    if !survey.whole {
+    let Some(survey) = Survey::of(b) else {
         return 11;
-    }
-    let fit = store_open::open_all(b, survey, sorted, spare);
-    if !fit.all {
+    };
+    let Some(all) = store_open::open_all(b, survey, sorted, spare) else {
         return 11;
-    }
-    let all = fit.places;
+    };
     if !are_apart(b, survey, all, sorted, spare) {
         return 11;
     }

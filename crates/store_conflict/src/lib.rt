@@ -72,14 +72,12 @@ fn any_clashes_in(
     requires { SortedAliases which s.now names.now keys.now × HeadsOf s.now names.now heads.now × OpenedStore b.now v places }
     ensures { result ≡ any_of (clashes_in which a signer.now s.now) (drop i.0 (images_in b.now v)) }
 {
-    let mut j = i.0;
-    while j < v.count {
+    for j in i.0..v.count {
         let r = v.records[j];
         let q = places[j];
         if clashes_in(which, s, names, heads, keys, a, signer, b, r, q) {
             return true;
         }
-        j += 1;
     }
     false
 }
@@ -89,13 +87,11 @@ pub fn has_signer(b: &[u8], v: Survey, a: Algorithm, signer: &[u8], i: ImageInde
     requires { Fills b.now v }
     ensures { result ≡ any_of (is_signed a signer.now) (drop i.0 (images_in b.now v)) }
 {
-    let mut j = i.0;
-    while j < v.count {
+    for j in i.0..v.count {
         let r = v.records[j];
         if r.is_signed_by(b, a, signer) {
             return true;
         }
-        j += 1;
     }
     false
 }
@@ -232,12 +228,10 @@ pub fn any_conflict(
     requires { OpenedStore b.now v places × ClashSpace 16384 sorted.old spare.old heads.old keys.old }
     ensures { result ≡ any_pair layers_clash (images_in b.now v) }
 {
-    let mut i = 0;
-    while i < v.count {
+    for i in 0..v.count {
         if conflicts_later(b, v, places, ImageIndex(i), sorted, spare, heads, keys) {
             return true;
         }
-        i += 1;
     }
     false
 }

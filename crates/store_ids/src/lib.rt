@@ -23,13 +23,11 @@ pub fn is_held(
     requires { Fills s.now v }
     ensures { result ≡ any_of (has_id (image_id a signer.now manifest.now)) (drop i.0 (images_in s.now v)) }
 {
-    let mut j = i.0;
-    while j < v.count {
+    for j in i.0..v.count {
         let r = v.records[j];
         if r.has_id(s, a, signer, manifest) {
             return true;
         }
-        j += 1;
     }
     false
 }
@@ -39,8 +37,7 @@ pub fn id_twice(s: &[u8], v: Survey) -> bool
     requires { Fills s.now v }
     ensures { result ≡ id_twice (images_in s.now v) }
 {
-    let mut i = 0;
-    while i < v.count {
+    for i in 0..v.count {
         let r = v.records[i];
         let a = r.algorithm;
         let from = r.signer;
@@ -49,7 +46,6 @@ pub fn id_twice(s: &[u8], v: Survey) -> bool
         if is_held(s, v, a, &s[from..to], &s[to..end], ImageIndex(i + 1)) {
             return true;
         }
-        i += 1;
     }
     false
 }

@@ -5,7 +5,7 @@ use native.Mathlib.Omega.{arith}
 use lib.ListN.{get_or}
 use Rattle.laws.proofs.Lists.{any_default}
 use Rattle.manifest.specs.Opened.{no_places, Opens}
-use Rattle.manifest.specs.declared.Places.{Places}
+use Rattle.manifest.specs.Opened.{Places}
 use Rattle.store_record.specs.Reading.{between, no_record}
 use Rattle.store_record.specs.declared.Survey.{Survey}
 use Rattle.store_names.specs.Opened.{OpenedStore}

@@ -1,7 +1,7 @@
 -- A store whose manifests have been opened.
 use Rattle.std.specs.Prelude.{ℕ, ◌<◌, ◌≡◌, List, length, get_or}
 use Rattle.manifest.specs.Opened.{no_places, Opens}
-use Rattle.manifest.specs.declared.Places.{Places}
+use Rattle.manifest.specs.Opened.{Places}
 use Rattle.store_record.specs.Reading.{between, no_record, Fills}
 use Rattle.store_record.specs.Store.{most_images}
 use Rattle.store_record.specs.declared.Survey.{Survey}

@@ -22,8 +22,7 @@ pub fn place_all(
     requires { OpenedStore b.now v places × (4096 ≤ length own.old) × (length at.old ≡ 4096) × (length counts.old ≡ 64) }
     ensures { PlacedUpTo v.count b.now v at.new counts.new }
 {
-    let mut i = 0;
-    while i < v.count {
+    for i in 0..v.count {
         let r = v.records[i];
         let start = r.text;
         let end = r.end;
@@ -31,7 +30,6 @@ pub fn place_all(
         let first = MOST_ENTRIES * i;
         let n = manifest_index::place_self(b, start, end, q, own, &mut at[first..]);
         counts[i] = n as u16;
-        i += 1;
     }
 }
 
@@ -51,11 +49,9 @@ fn index_image(
         → NameIndex b.now at.now (with_numbers (64 * i.0) count es) (take result order.new)) }
 {
     let first = MOST_ENTRIES * i.0;
-    let mut k = 0;
-    while k < count {
+    for k in 0..count {
         let e = first + k;
         manifest_index::add(b, at, order, n + k, e as u16);
-        k += 1;
     }
     n + count
 }
@@ -67,11 +63,8 @@ pub fn index_all(b: &[u8], at: &[usize], counts: &[u16], images: usize, order: &
         × NameIndex b.now at.now (numbers_of counts.now images) (take result order.new) }
 {
     let mut n = 0;
-    let mut i = 0;
-    while i < images {
-        let count = counts[i] as usize;
-        n = index_image(b, at, ImageIndex(i), count, order, n);
-        i += 1;
+    for (i, count) in counts[..images].iter().enumerate() {
+        n = index_image(b, at, ImageIndex(i), *count as usize, order, n);
     }
     n
 }

@@ -1,9 +1,9 @@
 -- What a buffer that holds a store is, part by part: its images, its bytes in use, and that it is sound. Assumes nothing.
+use Rattle.std.specs.Prelude.{Option, None, Some}
 use Prim.Native.Nat.{ℕ, ◌≤◌, ◌<◌}
 use mathlib.Core.Path.{◌≡◌, refl, sym, ap, ◌∙◌, subst}
 use mathlib.Core.List.{List}
 use mathlib.Core.Bool.{false}
-use mathlib.Core.Option.{Option, none, some}
 use native.Mathlib.Omega.{arith}
 use borrow.Author.Tests.{ltb-false, le-ltb, leb-true, le-leb}
 use lib.ListN.{length, take, get_or, length-take, get_or-eq_default}
@@ -75,17 +75,17 @@ pub record Holds (buffer : List ℕ) (used : ℕ) (xs : List Image) : Type 0 whe
 
 module _ (buffer : List ℕ) (used : ℕ) (xs : List Image) where
   -- Images that a buffer of bytes holds are the store in its first bytes.
-  pub held_holds : ((k : ℕ) → get_or buffer k 0 < 256) → held buffer used ≡ some xs → Holds buffer used xs
+  pub held_holds : ((k : ℕ) → get_or buffer k 0 < 256) → held buffer used ≡ Some xs → Holds buffer used xs
   unfolding held
   held_holds h e =
       by_test (leb used (length buffer))
       (λ f. let r = store_read most_images (take used buffer) xs (first_bytes buffer used h) (rw (f, held) at e) in
       record { within = leb-true used (length buffer) f; bytes = r.0; few = r.1; each = r.2 })
-      (λ f. let g : none ≡ some xs = rw (f, held) at e in
+      (λ f. let g : None ≡ Some xs = rw (f, held) at e in
       let z : ◌≡◌ {A = ℕ} 0 1 = cc in absurd (omega arith))
 
   -- A buffer whose first bytes are the store of some images holds them.
-  pub holds_held : Holds buffer used xs → held buffer used ≡ some xs
+  pub holds_held : Holds buffer used xs → held buffer used ≡ Some xs
   unfolding held
   holds_held h = rw (le-leb used (length buffer) h.within, held) (rw h.bytes (read_store most_images xs h.each h.few))
 
@@ -101,8 +101,8 @@ space_broken b bytes size h = by_images (read_records most_images b) refl
   where
     by_images : (o : Option (List Image)) → read_records most_images b ≡ o
         → is_broken size (read_records most_images b) ≡ is_broken (length b) (read_records most_images b)
-    by_images none e = unread_broken b size e ∙ sym (unread_broken b (length b) e)
-    by_images (some xs) e = read_broken b size bytes h xs e ∙ sym (read_broken b (length b) bytes (omega arith) xs e)
+    by_images None e = unread_broken b size e ∙ sym (unread_broken b (length b) e)
+    by_images (Some xs) e = read_broken b size bytes h xs e ∙ sym (read_broken b (length b) bytes (omega arith) xs e)
 
 module _ (buffer : List ℕ) (used : ℕ) (h : used ≤ length buffer) where
   -- A buffer holds the images that are read in its bytes in use.

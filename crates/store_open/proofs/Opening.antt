@@ -1,26 +1,24 @@
 -- Opening a store: each of its manifests, and then the store as a whole. Assumes nothing.
+use Rattle.std.specs.Prelude.{None, Some, Result, Ok, Err}
 use Prim.Native.Nat.{ℕ, ◌+◌, ◌≤◌, ◌<◌}
 use mathlib.Core.Path.{◌≡◌, refl, sym, ap, subst, ◌∙◌}
 use mathlib.Core.List.{List}
-use mathlib.Core.Bool.{Bool, true, false, not, ◌||◌, or-true}
-use mathlib.Core.Option.{none, some}
+use mathlib.Core.Bool.{Bool, true, false, not, ◌||◌, or-true, not-not}
 use native.Mathlib.Omega.{arith}
 use native.Mathlib.Decide.{dec_lt}
-use borrow.Author.Tests.{eq-eqb, ne_eqb, le-ltb, not-true, not-false}
+use borrow.Author.Tests.{eq-eqb, ne_eqb, le-ltb}
 use lib.ListN.{length, drop, get_or, set, length-set}
 use lib.Seq.{get_or-set_same, get_or-set_other}
 use Rattle.laws.specs.Any.{any_of}
-use Rattle.laws.proofs.Order.{false_true}
 use Rattle.text.specs.Answer.{is_canonical}
 use Rattle.text.proofs.Outcome.{refused_positive}
 use Rattle.manifest.specs.Answer.{fault_number, Answers}
 use Rattle.manifest.specs.Number.{manifest_text_number}
 use Rattle.manifest.specs.Opened.{no_places, Opens}
-use Rattle.manifest.specs.declared.Checked.{Checked}
-use Rattle.manifest.specs.declared.Checked.TheVariants.{Good, Refused}
+use Rattle.manifest.specs.declared.Good.{Good}
 use Rattle.manifest.specs.declared.Fault.{Fault}
 use Rattle.manifest.specs.declared.Fault.TheVariants.{Text, BadField, BadForm, RepeatedAlias}
-use Rattle.manifest.specs.declared.Places.{Places}
+use Rattle.manifest.specs.Opened.{Places}
 use Rattle.store_record.specs.Image.{Image}
 use Rattle.store_record.specs.Ids.{id_twice}
 use Rattle.store_record.specs.Store.{most_images, store_of, read_records}
@@ -44,22 +42,22 @@ abbrev pub text_at : List ℕ → Record → List ℕ
 text_at b r = between b r.text r.end
 
 -- What checking its manifest answers tells whether an image is fit.
-module _ (b : List ℕ) (r : Record) {x : Checked} (a : Answers (text_at b r) x) where
+module _ (b : List ℕ) (r : Record) {x : Result Good Fault} (a : Answers (text_at b r) x) where
   -- An image whose manifest is refused is not fit.
-  pub refused_unfit : {f : Fault} → x ≡ Refused f → is_unfit (held_in b r) ≡ true
+  pub refused_unfit : {f : Fault} → x ≡ Err f → is_unfit (held_in b r) ≡ true
   unfolding is_unfit held_in
   refused_unfit {f} e =
       let n = (subst (Answers (text_at b r)) e a).number in
       rw (ne_eqb (manifest_text_number (text_at b r)) 0 (λ z. omega (arith, fault_positive f, n))) (or-true (not (is_canonical (text_at b r))))
 
-  module _ {n : ℕ} {c : Bool} {p : Places} (e : x ≡ Good n c p) where
+  module _ {good : Good} (e : x ≡ Ok good) where
     -- An image whose manifest is good but not in canonical form is not fit.
-    pub other_unfit : c ≡ false → is_unfit (held_in b r) ≡ true
+    pub other_unfit : good.canonical ≡ false → is_unfit (held_in b r) ≡ true
     unfolding is_unfit held_in
     other_unfit f = rw (sym (subst (Answers (text_at b r)) e a).tells.1 ∙ f)
 
     -- An image whose manifest is good and in canonical form is fit.
-    pub good_fit : c ≡ true → is_unfit (held_in b r) ≡ false
+    pub good_fit : good.canonical ≡ true → is_unfit (held_in b r) ≡ false
     unfolding is_unfit held_in
     good_fit t =
         let g = subst (Answers (text_at b r)) e a in
@@ -71,10 +69,6 @@ pub record OpenedTo (b : List ℕ) (v : Survey) (places : List Places) (i : ℕ)
   pub space : length places ≡ most_images
   pub each : (k : ℕ) → k < i → Opens (text_at b (get_or v.records k no_record)) (get_or places k no_places)
 
--- what is answered of all manifests
-abbrev pub Fitting : List ℕ → Survey → Bool → List Places → Type 0
-Fitting b v all places = (all ≡ not (any_of is_unfit (images_in b v))) × (all ≡ true → OpenedStore b v places)
-
 -- At the start no manifest is opened.
 pub nothing_opened : (b : List ℕ) (v : Survey) (places : List Places) → length places ≡ most_images → OpenedTo b v places 0
 nothing_opened b v places h = record { fit = refl; space = h; each = λ k l. absurd (omega arith) }
@@ -82,8 +76,8 @@ nothing_opened b v places h = record { fit = refl; space = h; each = λ k l. abs
 module _ (b : List ℕ) (v : Survey) (fits : v.count ≤ length v.records) (places : List Places) (i : ℕ) (p : OpenedTo b v places i) where
   module _ (h : i < v.count) where
     -- the next image is not fit
-    pub found_unfit : is_unfit (held_in b (get_or v.records i no_record)) ≡ true → Fitting b v false places
-    found_unfit t = (sym (ap not (p.fit ∙ any_here b v fits i h is_unfit t)), λ f. false_true f)
+    pub found_unfit : is_unfit (held_in b (get_or v.records i no_record)) ≡ true → any_of is_unfit (images_in b v) ≡ true
+    found_unfit t = p.fit ∙ any_here b v fits i h is_unfit t
 
     -- it is, and its manifest is opened
     pub one_opened :
@@ -99,9 +93,9 @@ module _ (b : List ℕ) (v : Survey) (fits : v.count ≤ length v.records) (plac
             rw f (rw (get_or-set_same places i q no_places (omega (arith, p.space))) o)
 
   -- no record is left
-  pub all_opened : Fills b v → v.count ≤ i → Fitting b v true places
+  pub all_opened : Fills b v → v.count ≤ i → (any_of is_unfit (images_in b v) ≡ false) × OpenedStore b v places
   all_opened f h =
-      (sym (ap not (p.fit ∙ any_image_end b v fits i is_unfit h)), λ t. record { fills = f; space = p.space; opens = λ k l. p.each k (omega arith) })
+      (p.fit ∙ any_image_end b v fits i is_unfit h, record { fills = f; space = p.space; opens = λ k l. p.each k (omega arith) })
 
 module _ (xs : List Image) {t : Bool} (e : t ≡ id_twice xs) where
   -- Images are not apart where an ID stands twice.
@@ -114,13 +108,13 @@ module _ (xs : List Image) {t : Bool} (e : t ≡ id_twice xs) where
 
 module _ (b : List ℕ) (size : ℕ) where
   -- Bytes that no records fill are no store.
-  pub unread_broken : read_records most_images b ≡ none → is_broken size (read_records most_images b) ≡ true
+  pub unread_broken : read_records most_images b ≡ None → is_broken size (read_records most_images b) ≡ true
   unfolding is_broken
   unread_broken e = rw e
 
   -- Of the images that were read from a store, there are never too many.
   pub read_broken :
-      ((j : ℕ) → get_or b j 0 < 256) → length b ≤ size → (xs : List Image) → read_records most_images b ≡ some xs
+      ((j : ℕ) → get_or b j 0 < 256) → length b ≤ size → (xs : List Image) → read_records most_images b ≡ Some xs
       → is_broken size (read_records most_images b) ≡ (any_of is_unfit xs || (id_twice xs || any_clash xs))
   unfolding is_broken are_unsound too_many
   read_broken bytes h xs e =
@@ -128,57 +122,19 @@ module _ (b : List ℕ) (size : ℕ) where
       ap (is_broken size) e
       ∙ rw (le-ltb most_images (length xs) s.1, le-ltb size (length (store_of xs)) (omega (arith, ap length s.0)))
 
--- what is answered of a store
-abbrev pub Sounding : List ℕ → Survey → Bool → List Places → Type 0
-Sounding b v sound places = (sound ≡ not (is_broken (length b) (read_records most_images b))) × (sound ≡ true → OpenedStore b v places)
-
--- Of bytes that no records fill, the right answer is that they are no well-formed store.
-pub unread_sound : (b : List ℕ) (v : Survey) (places : List Places) → read_records most_images b ≡ none → Sounding b v false places
-unread_sound b v places e = (sym (ap not (unread_broken b (length b) e)), λ f. false_true f)
-
-module _ (b : List ℕ) (bytes : (j : ℕ) → get_or b j 0 < 256) (v : Survey) (f : Fills b v) (places : List Places) {all : Bool} (g : Fitting b v all places) where
-  broken_is : is_broken (length b) (read_records most_images b) ≡ (any_of is_unfit (images_in b v) || (id_twice (images_in b v) || any_clash (images_in b v)))
-  broken_is = read_broken b (length b) bytes (omega arith) (images_in b v) f.images
-
+module _ (b : List ℕ) (bytes : (j : ℕ) → get_or b j 0 < 256) (v : Survey) (f : Fills b v) where
   -- where a manifest is not fit, and where all are
   by_fit : {t : Bool} → any_of is_unfit (images_in b v) ≡ t → is_broken (length b) (read_records most_images b)
       ≡ (t || (id_twice (images_in b v) || any_clash (images_in b v)))
-  by_fit e = broken_is ∙ ap (λ (t : Bool). t || (id_twice (images_in b v) || any_clash (images_in b v))) e
+  by_fit e =
+      read_broken b (length b) bytes (omega arith) (images_in b v) f.images
+      ∙ ap (λ (t : Bool). t || (id_twice (images_in b v) || any_clash (images_in b v))) e
 
-  -- Of a store with an image that is not fit, the right answer is that it is not well-formed.
-  pub unfit_sound : all ≡ false → Sounding b v false places
-  unfit_sound e = (sym (ap not (by_fit (not-false (any_of is_unfit (images_in b v)) (sym g.0 ∙ e)))), λ t. false_true t)
+  -- A store with an image that is not fit is not well-formed.
+  pub unfit_broken : any_of is_unfit (images_in b v) ≡ true → is_broken (length b) (read_records most_images b) ≡ true
+  unfit_broken e = by_fit e
 
-  -- Of a store whose images are all fit, the right answer is whether no ID stands twice and no two images clash.
-  pub apart_sound : all ≡ true → {t : Bool} → t ≡ not (id_twice (images_in b v) || any_clash (images_in b v)) → Sounding b v t places
-  apart_sound e h = (h ∙ sym (ap not (by_fit (not-true (any_of is_unfit (images_in b v)) (sym g.0 ∙ e)))), λ t. g.1 e)
-
--- what is known of a store after its manifests were opened, where its records could be read
-pub record Tried (b : List ℕ) (v : Survey) (sound : Bool) (places : List Places) : Type 0 where
-  pub broken : sound ≡ false → Sounding b v sound places
-  pub opened : sound ≡ true → OpenedStore b v places
-  pub apart : sound ≡ true → (t : Bool) → t ≡ not (id_twice (images_in b v) || any_clash (images_in b v)) → Sounding b v t places
-
--- They could not.
-pub unread_tried : (b : List ℕ) (v : Survey) (sound : Bool) (places : List Places) → sound ≡ false → read_records most_images b ≡ none → Tried b v sound places
-unread_tried b v sound places f e =
-    record {
-      broken = λ h. subst (λ (t : Bool). Sounding b v t places) (sym f) (unread_sound b v places e);
-      opened = λ h. false_true (sym f ∙ h);
-      apart = λ h. false_true (sym f ∙ h);
-    }
-
--- They could, and all manifests are fit or not.
-pub fit_tried : (b : List ℕ) → ((j : ℕ) → get_or b j 0 < 256) → (v : Survey) → Fills b v → (places : List Places) (all : Bool) → Fitting b v all places
-    → Tried b v all places
-fit_tried b bytes v f places all g =
-    record {
-      broken = λ h. subst (λ (t : Bool). Sounding b v t places) (sym h) (unfit_sound b bytes v f places g h);
-      opened = g.1;
-      apart = λ h t e. apart_sound b bytes v f places g h e;
-    }
-
--- The same of what they were found to be.
-pub tried_as : {b : List ℕ} {v : Survey} {sound t : Bool} {places q : List Places} → sound ≡ t → places ≡ q → Tried b v t q → Tried b v sound places
-tried_as {b} {v} {sound} {t} {places} {q} e f k =
-    subst (λ (x : Bool). Tried b v x places) (sym e) (subst (λ (x : List Places). Tried b v t x) (sym f) k)
+  -- One whose images are all fit is well-formed exactly if no ID stands twice and no two images clash.
+  pub apart_broken : any_of is_unfit (images_in b v) ≡ false → {t : Bool} → t ≡ not (id_twice (images_in b v) || any_clash (images_in b v))
+      → is_broken (length b) (read_records most_images b) ≡ not t
+  apart_broken e h = by_fit e ∙ sym (ap not h ∙ not-not (id_twice (images_in b v) || any_clash (images_in b v)))

@@ -1,7 +1,7 @@
 // Whether the bytes of a buffer are a well-formed store, and what is found on the way.
 #![tactic(auto)]
 
-ghost use Rattle.std.specs.Prelude.{◌≡◌, true, false, not, ◌||◌, ◌+◌, length};
+ghost use Rattle.std.specs.Prelude.{◌≡◌, true, false, not, ◌||◌, MatchOption, length};
 ghost use Rattle.laws.specs.Any.{any_of};
 ghost use Rattle.manifest.specs.Names.{NameSpace};
 ghost use Rattle.store_record.specs.Ids.{id_twice};
@@ -12,52 +12,43 @@ ghost use Rattle.store_record.specs.Reading.{Fills, images_in};
 ghost use Rattle.store_names.specs.Opened.{OpenedStore};
 ghost use Rattle.store_open.specs.Held.{is_unfit, is_broken};
 
-use manifest::{Checked, Places};
+use manifest::Places;
 use store_record::{MOST_IMAGES, Survey};
 
-// The places in each manifest of a store, where all are canonical and good.
-#[derive(Clone, Copy)]
-pub struct Fit {
-    pub all: bool,
-    pub places: [Places; MOST_IMAGES],
-}
-
-// A store's records and the places in its manifests, where it is well-formed.
+// A well-formed store's records, and the places in its manifests.
 #[derive(Clone, Copy)]
 pub struct Opened {
-    pub sound: bool,
     pub survey: Survey,
     pub places: [Places; MOST_IMAGES],
 }
 
-// Opens each manifest of a store, until one is found that is not canonical or gets one of 1 to 9. What the arrays hold is overwritten.
-pub fn open_all(b: &[u8], v: Survey, names: &mut [u16], spare: &mut [u16]) -> Fit
+// Opens each manifest of a store: the places in them, or none where one is not canonical or gets one of 1 to 9. What the arrays hold is overwritten.
+// It is not inlined, so that its array has left the stack when the images are compared.
+#[inline(never)]
+pub fn open_all(
+    b: &[u8],
+    v: Survey,
+    names: &mut [u16],
+    spare: &mut [u16],
+) -> Option<[Places; MOST_IMAGES]>
     requires { Fills b.now v × NameSpace names.old spare.old }
-    ensures all_value { result.all ≡ not (any_of is_unfit (images_in b.now v)) }
-    ensures opened_store { result.all ≡ true → OpenedStore b.now v result.places }
+    ensures { MatchOption result (any_of is_unfit (images_in b.now v) ≡ true)
+        (λ places. (any_of is_unfit (images_in b.now v) ≡ false) × OpenedStore b.now v places) }
 {
     let mut places = [Places::none(); MOST_IMAGES];
-    let mut i = 0;
-    while i < v.count {
+    for i in 0..v.count {
         let r = v.records[i];
         let start = r.text;
         let end = r.end;
-        match manifest::check_with(&b[start..end], names, spare) {
-            Checked::Refused(_) => return Fit { all: false, places },
-            Checked::Good {
-                length: _,
-                canonical,
-                places: p,
-            } => {
-                if !canonical {
-                    return Fit { all: false, places };
-                }
-                places[i] = p;
-            }
+        let Ok(good) = manifest::check_with(&b[start..end], names, spare) else {
+            return None;
+        };
+        if !good.canonical {
+            return None;
         }
-        i += 1;
+        places[i] = good.places;
     }
-    Fit { all: true, places }
+    Some(places)
 }
 
 // No ID stands twice, and no two images clash. What the arrays hold is overwritten.
@@ -80,8 +71,8 @@ pub fn are_apart(
     !store_clash::any_clash(b, v, places, at, sorted, spare, heads, keys)
 }
 
-// Whether the bytes b are those of a well-formed store, and what is found on the way. The arrays are lent, so that a caller that needs them again has
-// them on its stack once; what they hold is overwritten.
+// Opens the bytes b as a store, if they are a well-formed one. The arrays are lent, so that a caller that needs them again has them on its stack once;
+// what they hold is overwritten.
 pub fn open(
     b: &[u8],
     at: &mut [usize],
@@ -89,25 +80,15 @@ pub fn open(
     spare: &mut [u16],
     heads: &mut [u32],
     keys: &mut [u16],
-) -> Opened
+) -> Option<Opened>
     requires { (length at.old ≡ 4096) × ClashSpace 16384 sorted.old spare.old heads.old keys.old }
-    ensures sound_value { result.sound ≡ not (is_broken (length b.now) (read_records most_images b.now)) }
-    ensures opened_store { result.sound ≡ true → OpenedStore b.now result.survey result.places }
+    ensures { MatchOption result (is_broken (length b.now) (read_records most_images b.now) ≡ true)
+        (λ o. (is_broken (length b.now) (read_records most_images b.now) ≡ false) × OpenedStore b.now o.survey o.places) }
 {
-    let survey = Survey::of(b);
-    let mut sound = survey.whole;
-    let mut places = [Places::none(); MOST_IMAGES];
-    if sound {
-        let fit = open_all(b, survey, sorted, spare);
-        places = fit.places;
-        sound = fit.all;
+    let survey = Survey::of(b)?;
+    let places = open_all(b, survey, sorted, spare)?;
+    if !are_apart(b, survey, places, at, sorted, spare, heads, keys) {
+        return None;
     }
-    if sound {
-        sound = are_apart(b, survey, places, at, sorted, spare, heads, keys);
-    }
-    Opened {
-        sound,
-        survey,
-        places,
-    }
+    Some(Opened { survey, places })
 }

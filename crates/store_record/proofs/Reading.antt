@@ -1,8 +1,8 @@
 -- What reading the body or the record at a position answers, by what stands there.
+use Rattle.std.specs.Prelude.{Option, None, Some}
 use Prim.Native.Nat.{ℕ, suc, ◌+◌, ◌-◌, ◌*◌, ◌≤◌, ◌<◌}
 use mathlib.Core.Path.{◌≡◌, refl, sym, ap, ◌∙◌}
 use mathlib.Core.List.{List, [], ◌∷◌}
-use mathlib.Core.Option.{Option, none, some}
 use native.Mathlib.Omega.{arith}
 use native.Mathlib.Numerals.{add-one}
 use native.Mathlib.Decide.{dec_lt}
@@ -10,16 +10,14 @@ use lib.ListN.{length, take, drop, get_or, length-drop}
 use lib.Seq.{drop-cons, drop-drop, drop_at, take-add, take-take, length-take-le}
 use Rattle.reference_digests.specs.Algorithms.{digest_bytes, numbered}
 use Rattle.reference_digests.specs.declared.algorithm.Algorithm.{Algorithm}
-use Rattle.reference_digests.specs.declared.algorithm.Known.TheVariants.{Is, Unknown}
 use Rattle.store_varint.specs.Varint.{read_varint, Parsed, number, no_number}
 use Rattle.store_varint.specs.Reading.{NumberAt}
 use Rattle.store_varint.proofs.Laws.{read_last, read_on, above}
 use Rattle.store_record.specs.Image.{Image}
 use Rattle.store_record.specs.Record.{read_body, image, no_image, before_rest, read_sized, read_record}
 use Rattle.store_record.specs.Reading.{between, held_in, Reads, BodyAt, ReadsBody}
-use Rattle.store_record.specs.declared.ReadRecord.{ReadRecord}
-use Rattle.store_record.specs.declared.ReadRecord.TheVariants.{At, Missing}
 use Rattle.store_record.proofs.Records.{body_unknown, body_cut, body_whole, sized_short, sized_whole}
+use Rattle.store_record.specs.declared.Record.{Record}
 
 -- the bytes between two positions, taken apart at a third
 module _ (s : List ℕ) where
@@ -51,7 +49,7 @@ module _ (s : List ℕ) where
 
 module _ (s : List ℕ) (i end : ℕ) (space : i ≤ end) (within : end ≤ length s) where
   -- there is no body in no bytes
-  pub no_body : i ≡ end → ReadsBody s i end Missing
+  pub no_body : i ≡ end → ReadsBody s i end None
   unfolding between read_body
   no_body e = let z : end - i ≡ 0 = omega arith in rw (between, z)
 
@@ -63,13 +61,13 @@ module _ (s : List ℕ) (i end : ℕ) (space : i ≤ end) (within : end ≤ leng
     left = between_length s (i + 1) end within
 
     -- no algorithm has that byte
-    pub unknown_body : numbered (get_or s i 0) ≡ Unknown → ReadsBody s i end Missing
+    pub unknown_body : numbered (get_or s i 0) ≡ None → ReadsBody s i end None
     unknown_body e = ap read_body start ∙ body_unknown (get_or s i 0) (between s (i + 1) end) e
 
     -- the algorithm is known, with digests of n bytes
-    module _ (a : Algorithm) (known : numbered (get_or s i 0) ≡ Is a) (n : ℕ) (size : n ≡ digest_bytes a) where
+    module _ (a : Algorithm) (known : numbered (get_or s i 0) ≡ Some a) (n : ℕ) (size : n ≡ digest_bytes a) where
       -- If fewer bytes are left than two digests have, no body stands there.
-      pub cut_body : end - (i + 1) < 2 * n → ReadsBody s i end Missing
+      pub cut_body : end - (i + 1) < 2 * n → ReadsBody s i end None
       cut_body h = ap read_body start ∙ body_cut a (get_or s i 0) (between s (i + 1) end) known (omega (arith, left))
 
       -- If two digests fit into the bytes that are left, a body stands there: they follow the first byte, and then the text.
@@ -121,7 +119,7 @@ rest_shorter (b ∷ s) n r e = by_size (dec_lt b 128) (λ m. rest_shorter s m r)
 
 module _ (s : List ℕ) (i : ℕ) where
   -- no number that the bytes have space for stands there
-  pub no_length : ((n : ℕ) (r : List ℕ) → read_varint (drop i s) ≡ number n r → length s < n) → Reads s i Missing
+  pub no_length : ((n : ℕ) (r : List ℕ) → read_varint (drop i s) ≡ number n r → length s < n) → Reads s i None
   unfolding read_record read_sized
   no_length none_fits = by_number (read_varint (drop i s)) refl
     where
@@ -133,7 +131,7 @@ module _ (s : List ℕ) (i : ℕ) where
   -- the number n stands there, and j is the position after it
   module _ (n j : ℕ) (here : NumberAt s i (length s) n j) where
     -- If the number is more than the bytes that are left, no record stands there.
-    pub too_long : length s - j < n → Reads s i Missing
+    pub too_long : length s - j < n → Reads s i None
     unfolding read_record
     too_long h = ap read_sized here.reads ∙ sized_short n (drop j s) (omega (arith, length-drop j s))
 
@@ -147,12 +145,12 @@ module _ (s : List ℕ) (i : ℕ) where
           ∙ ap (before_rest o) (drop-drop n j s)
 
       -- Where all bytes of the record are there, what is read of its body is read of the record.
-      pub with_body : (f : ReadRecord) → ReadsBody s j (j + n) f → Reads s i f
+      pub with_body : (f : Option Record) → ReadsBody s j (j + n) f → Reads s i f
       unfolding before_rest
-      with_body (At r) b =
+      with_body (Some r) b =
           record {
-            reads = whole (some (held_in s r)) b.reads ∙ ap (λ (k : ℕ). image (held_in s r) (drop k s)) (sym b.end);
+            reads = whole (Some (held_in s r)) b.reads ∙ ap (λ (k : ℕ). image (held_in s r) (drop k s)) (sym b.end);
             is_in = b.is_in;
             later = omega (arith, here.later, b.end);
           }
-      with_body Missing b = whole none b
+      with_body None b = whole None b

@@ -1,8 +1,8 @@
 -- Laws of records: what is written is read back, and nothing else is read.
+use Rattle.std.specs.Prelude.{Option, None, Some}
 use Prim.Native.Nat.{ℕ, ◌+◌, ◌*◌, ◌≤◌, ◌<◌}
 use mathlib.Core.Path.{◌≡◌, refl, sym, ap, ◌∙◌}
 use mathlib.Core.List.{List, [], ◌∷◌, ◌++◌, append_assoc, append-nil}
-use mathlib.Core.Option.{Option, none, some}
 use native.Mathlib.Omega.{arith}
 use native.Mathlib.Decide.{dec_le}
 use borrow.Author.Tests.{le-leb, lt-leb}
@@ -10,8 +10,6 @@ use lib.ListN.{length, take, drop, get_or, length-append, length-drop, take-appe
 use lib.Seq.{take_at, drop_at, drop-drop, length-take-le}
 use Rattle.reference_digests.specs.Algorithms.{digest_bytes, byte_of, numbered}
 use Rattle.reference_digests.specs.declared.algorithm.Algorithm.{Algorithm}
-use Rattle.reference_digests.specs.declared.algorithm.Known.{Known}
-use Rattle.reference_digests.specs.declared.algorithm.Known.TheVariants.{Is, Unknown}
 use Rattle.reference_digests.proofs.Digests.{digest_bounds, numbered_byte, byte_numbered}
 use Rattle.reference.specs.References.{Id, image_id}
 use Rattle.store_varint.specs.Varint.{varint, read_varint, Parsed, number, no_number}
@@ -40,19 +38,19 @@ head_length a s m n h l =
     ∙ ap (λ (k : ℕ). length (varint (k + n)) + k) (id_length a s m h l)
 
 -- Bytes that begin with no algorithm's byte are no body.
-pub body_unknown : (b : ℕ) (s : List ℕ) → numbered b ≡ Unknown → read_body (b ∷ s) ≡ none
+pub body_unknown : (b : ℕ) (s : List ℕ) → numbered b ≡ None → read_body (b ∷ s) ≡ None
 unfolding read_body body_under
 body_unknown b s e = rw e
 
 -- A body whose digests are cut is none.
-pub body_cut : (a : Algorithm) (b : ℕ) (s : List ℕ) → numbered b ≡ Is a → length s < 2 * digest_bytes a → read_body (b ∷ s) ≡ none
+pub body_cut : (a : Algorithm) (b : ℕ) (s : List ℕ) → numbered b ≡ Some a → length s < 2 * digest_bytes a → read_body (b ∷ s) ≡ None
 unfolding read_body body_under
 body_cut a b s e h = rw e (rw (lt-leb (2 * digest_bytes a) (length s) h, body_under))
 
 -- A body with both digests is an image.
-pub body_whole : (a : Algorithm) (b : ℕ) (s : List ℕ) → numbered b ≡ Is a → 2 * digest_bytes a ≤ length s
+pub body_whole : (a : Algorithm) (b : ℕ) (s : List ℕ) → numbered b ≡ Some a → 2 * digest_bytes a ≤ length s
     → read_body (b ∷ s)
-    ≡ some (record {
+    ≡ Some (record {
       ids = image_id a (take (digest_bytes a) s) (take (digest_bytes a) (drop (digest_bytes a) s)) ∷ [];
       text = drop (2 * digest_bytes a) s;
     })
@@ -64,7 +62,7 @@ twice n s = let e : 2 * n ≡ n + n = omega arith in ap (λ (k : ℕ). drop k s)
 
 -- A body is read from its parts.
 pub read_parts : (a : Algorithm) (s m t : List ℕ) → length s ≡ digest_bytes a → length m ≡ digest_bytes a
-    → read_body (byte_of a ∷ (s ++ (m ++ t))) ≡ some (record { ids = image_id a s m ∷ []; text = t })
+    → read_body (byte_of a ∷ (s ++ (m ++ t))) ≡ Some (record { ids = image_id a s m ∷ []; text = t })
 read_parts a s m t h l =
     body_whole a (byte_of a) (s ++ (m ++ t)) (numbered_byte a) (omega (arith, length-append s (m ++ t), length-append m t))
     ∙ rw (first, second, third)
@@ -90,10 +88,10 @@ shape : (x : Image) (h : Shaped x) → x ≡ record { ids = image_id h.algorithm
 shape x h = rw h.ids
 
 -- The body of an image is read back.
-pub body_read_back : (x : Image) → Shaped x → read_body (body_of x) ≡ some x
+pub body_read_back : (x : Image) → Shaped x → read_body (body_of x) ≡ Some x
 body_read_back x h =
     ap (λ (y : Image). read_body (body_of y)) (shape x h) ∙ ap read_body (parts h.algorithm h.signer h.manifest x.text)
-    ∙ read_parts h.algorithm h.signer h.manifest x.text h.signer_size h.manifest_size ∙ ap some (sym (shape x h))
+    ∙ read_parts h.algorithm h.signer h.manifest x.text h.signer_size h.manifest_size ∙ ap Some (sym (shape x h))
 
 -- A record of n bytes that are not all there is none.
 pub sized_short : (n : ℕ) (r : List ℕ) → length r < n → read_sized (number n r) ≡ no_image
@@ -115,7 +113,7 @@ record_read_back x h r =
     ∙ rw (take_at b r (length b) refl, drop_at b r (length b) refl, body_read_back x h)
 
 -- The bytes of a body are its byte, its digests and its text.
-pub body_parts : (a : Algorithm) (b : ℕ) (s : List ℕ) → numbered b ≡ Is a
+pub body_parts : (a : Algorithm) (b : ℕ) (s : List ℕ) → numbered b ≡ Some a
     → b ∷ s
     ≡ body_of (record {
       ids = image_id a (take (digest_bytes a) s) (take (digest_bytes a) (drop (digest_bytes a) s)) ∷ [];
@@ -128,20 +126,20 @@ body_parts a b s e =
     ∙ sym (parts a (take n s) (take n (drop n s)) (drop n (drop n s))))
 
 -- Bytes that an image is read from are its body.
-pub body_read : (s : List ℕ) (x : Image) → read_body s ≡ some x → (s ≡ body_of x) × Shaped x
+pub body_read : (s : List ℕ) (x : Image) → read_body s ≡ Some x → (s ≡ body_of x) × Shaped x
 unfolding read_body
 body_read [] x e = let z : ◌≡◌ {A = ℕ} 0 1 = cc in absurd (omega arith)
 body_read (b ∷ s) x e = by_kind (numbered b) refl
   where
-    by_size : (a : Algorithm) → numbered b ≡ Is a → Dec (2 * digest_bytes a ≤ length s) → (b ∷ s ≡ body_of x) × Shaped x
+    by_size : (a : Algorithm) → numbered b ≡ Some a → Dec (2 * digest_bytes a ≤ length s) → (b ∷ s ≡ body_of x) × Shaped x
     by_size a q (no h) =
-        let f : none ≡ some x = sym (body_cut a b s q (omega arith)) ∙ e in
+        let f : None ≡ Some x = sym (body_cut a b s q (omega arith)) ∙ e in
         let z : ◌≡◌ {A = ℕ} 0 1 = cc in absurd (omega arith)
     by_size a q (yes h) =
         let n = digest_bytes a in
         let l = drop n s in
         let y : Image = record { ids = image_id a (take n s) (take n l) ∷ []; text = drop (2 * n) s } in
-        let f : some y ≡ some x = sym (body_whole a b s q h) ∙ e in
+        let f : Some y ≡ Some x = sym (body_whole a b s q h) ∙ e in
         let g : y ≡ x = cc in (
           body_parts a b s q ∙ ap body_of g,
           record {
@@ -154,11 +152,11 @@ body_read (b ∷ s) x e = by_kind (numbered b) refl
           },
         )
 
-    by_kind : (k : Known) → numbered b ≡ k → (b ∷ s ≡ body_of x) × Shaped x
-    by_kind Unknown q =
-        let f : none ≡ some x = sym (body_unknown b s q) ∙ e in
+    by_kind : (k : Option Algorithm) → numbered b ≡ k → (b ∷ s ≡ body_of x) × Shaped x
+    by_kind None q =
+        let f : None ≡ Some x = sym (body_unknown b s q) ∙ e in
         let z : ◌≡◌ {A = ℕ} 0 1 = cc in absurd (omega arith)
-    by_kind (Is a) q = by_size a q (dec_le (2 * digest_bytes a) (length s))
+    by_kind (Some a) q = by_size a q (dec_le (2 * digest_bytes a) (length s))
 
 -- what a number and its rest are, if an image is read from them
 record Sized (p : Parsed) (x : Image) (r : List ℕ) : Type 0 where
@@ -166,7 +164,7 @@ record Sized (p : Parsed) (x : Image) (r : List ℕ) : Type 0 where
   rest : List ℕ
   read : p ≡ number size rest
   fits : size ≤ length rest
-  body : read_body (take size rest) ≡ some x
+  body : read_body (take size rest) ≡ Some x
   after : drop size rest ≡ r
 
 sized : (p : Parsed) (x : Image) (r : List ℕ) → read_sized p ≡ image x r → Sized p x r
@@ -175,10 +173,10 @@ sized no_number x r e = let z : ◌≡◌ {A = ℕ} 0 1 = cc in absurd (omega ar
 sized (number n t) x r e = by_size (dec_le n (length t))
   where
     by_body : (b : Option Image) → read_body (take n t) ≡ b → n ≤ length t → before_rest b (drop n t) ≡ image x r → Sized (number n t) x r
-    by_body none q h f = let z : ◌≡◌ {A = ℕ} 0 1 = cc in absurd (omega arith)
-    by_body (some y) q h f =
+    by_body None q h f = let z : ◌≡◌ {A = ℕ} 0 1 = cc in absurd (omega arith)
+    by_body (Some y) q h f =
         let g : y ≡ x = cc in
-        record { size = n; rest = t; read = refl; fits = h; body = q ∙ ap some g; after = cc }
+        record { size = n; rest = t; read = refl; fits = h; body = q ∙ ap Some g; after = cc }
 
     by_size : Dec (n ≤ length t) → Sized (number n t) x r
     by_size (no h) =

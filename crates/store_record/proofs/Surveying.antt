@@ -1,37 +1,34 @@
 -- How far a survey has come: the records that were read, and the position where the rest begins.
+use Rattle.std.specs.Prelude.{Option, None, Some}
 use Prim.Native.Nat.{ℕ, suc, ◌+◌, ◌-◌, ◌≤◌, ◌<◌}
 use mathlib.Core.Path.{◌≡◌, refl, sym, ap, ◌∙◌}
-use mathlib.Core.Bool.{true, false}
 use mathlib.Core.List.{List, [], ◌∷◌, ◌++◌, map, map-append, append_assoc, append-nil}
-use mathlib.Core.Option.{Option, none, some}
 use native.Mathlib.Omega.{arith}
 use native.Mathlib.Numerals.{add-one}
 use native.Mathlib.Decide.{dec_lt}
 use lib.ListN.{length, take, drop, get_or, set, length-drop, length-set, drop_of_length-le}
 use lib.Seq.{take-suc-set, get_or-set_same, get_or-set_other}
-use Rattle.laws.proofs.Order.{false_true}
 use Rattle.store_record.specs.Image.{Image}
 use Rattle.store_record.specs.Record.{no_image, read_record}
 use Rattle.store_record.specs.Store.{most_images, and_then, continued, read_records}
-use Rattle.store_record.specs.Reading.{held_in, RecordIn, RecordAt, no_record, images_in, Surveys}
+use Rattle.store_record.specs.Reading.{held_in, RecordIn, RecordAt, no_record, images_in, Fills}
 use Rattle.store_record.specs.declared.Record.{Record}
-use Rattle.store_record.specs.declared.Survey.{Survey}
 use Rattle.store_record.proofs.Stores.{records_end, records_full, records_more}
 
 -- these images in front
 unfoldable pub resumed : List Image → Option (List Image) → Option (List Image)
-resumed xs none = none
-resumed xs (some ys) = some (xs ++ ys)
+resumed xs None = None
+resumed xs (Some ys) = Some (xs ++ ys)
 
 resumed_start : (o : Option (List Image)) → o ≡ resumed [] o
 unfolding resumed
-resumed_start none = refl
-resumed_start (some ys) = refl
+resumed_start None = refl
+resumed_start (Some ys) = refl
 
 resumed_more : (xs : List Image) (x : Image) (o : Option (List Image)) → resumed xs (and_then x o) ≡ resumed (xs ++ (x ∷ [])) o
 unfolding resumed and_then
-resumed_more xs x none = refl
-resumed_more xs x (some ys) = ap some (sym (append_assoc xs (x ∷ []) ys))
+resumed_more xs x None = refl
+resumed_more xs x (Some ys) = ap Some (sym (append_assoc xs (x ∷ []) ys))
 
 -- Of the bytes s, the first `count` records were read, and the rest begins at position i.
 pub record Surveyed (s : List ℕ) (records : List Record) (count i : ℕ) : Type 0 where
@@ -46,30 +43,26 @@ pub nothing_read : (s : List ℕ) (records : List Record) → length records ≡
 nothing_read s records h =
     record { front = resumed_start (read_records most_images s); few = omega arith; within = omega arith; space = h; each = λ k l. absurd (omega arith) }
 
--- what is answered of bytes that no records fill
-pub not_filled : (s : List ℕ) (v : Survey) → v.whole ≡ false → read_records most_images s ≡ none → Surveys s v
-not_filled s v e n = (λ t. false_true (sym e ∙ t), λ f. n)
-
 module _ (s : List ℕ) (records : List Record) (count i : ℕ) (p : Surveyed s records count i) where
   -- no bytes are left
-  pub all_read : length s ≤ i → Surveys s (record { whole = true; count = count; records = records })
+  pub all_read : length s ≤ i → Fills s (record { count = count; records = records })
   unfolding images_in resumed
-  all_read h = (λ t. record { images = filled; few = p.few; each = p.each }, λ f. false_true (sym f))
+  all_read h = record { images = filled; few = p.few; each = p.each }
     where
       held : List Image
       held = map (held_in s) (take count records)
 
-      filled : read_records most_images s ≡ some (map (held_in s) (take count records))
+      filled : read_records most_images s ≡ Some (map (held_in s) (take count records))
       filled =
           p.front ∙ ap (λ (l : List ℕ). resumed held (read_records (most_images - count) l)) (drop_of_length-le s {i = i} h)
-          ∙ ap (resumed held) (records_end (most_images - count)) ∙ ap some (append-nil held)
+          ∙ ap (resumed held) (records_end (most_images - count)) ∙ ap Some (append-nil held)
 
   module _ (more : i < length s) where
     some_left : 0 < length (drop i s)
     some_left = omega (arith, length-drop i s)
 
     -- one record more than a store may have
-    pub too_many : count ≡ most_images → read_records most_images s ≡ none
+    pub too_many : count ≡ most_images → read_records most_images s ≡ None
     unfolding resumed
     too_many e =
         let z : most_images - count ≡ 0 = omega arith in
@@ -84,7 +77,7 @@ module _ (s : List ℕ) (records : List Record) (count i : ℕ) (p : Surveyed s 
           ap (λ (k : ℕ). read_records k (drop i s)) e ∙ records_more (most_images - (count + 1)) (drop i s) some_left
 
       -- no record stands there
-      pub no_more : read_record (drop i s) ≡ no_image → read_records most_images s ≡ none
+      pub no_more : read_record (drop i s) ≡ no_image → read_records most_images s ≡ None
       unfolding resumed continued
       no_more e =
           p.front ∙ ap (resumed (map (held_in s) (take count records))) (next ∙ ap (continued (λ r. read_records (most_images - (count + 1)) r)) e)

@@ -1,6 +1,6 @@
 -- Tests of the elements of a list from a position on, and of the images of a survey: what a loop over positions answers.
 use Prim.Native.Nat.{ℕ, ◌+◌, ◌≤◌, ◌<◌}
-use mathlib.Core.Path.{◌≡◌, sym, ap, ◌∙◌}
+use mathlib.Core.Path.{◌≡◌, ap, ◌∙◌}
 use mathlib.Core.List.{List}
 use mathlib.Core.Bool.{Bool, true, false, ◌||◌}
 use native.Mathlib.Omega.{arith}
@@ -41,7 +41,7 @@ module _ {A : Type 0} (p : A → A → Bool) (xs : List A) (k : ℕ) where
 
 -- The array of a survey has 64 records: what owning a survey, as a parameter `v`, tells.
 pub records_size : (v : Survey) {vs : List Val} → Is (row the_type) v vs → length v.records ≡ 64
-records_size v g = g.1.1.1.1.0.1.0.1
+records_size v g = g.1.1.1.0.1.0.1
 
 module _ (s : List ℕ) (v : Survey) (fits : v.count ≤ length v.records) where
   -- A survey has as many images as it counts.

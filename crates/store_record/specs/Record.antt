@@ -1,12 +1,9 @@
 -- The record of an image (document 01, "The room"): the length of the rest as a number, one byte for the algorithm, the signer's digest, the
 -- manifest's digest, and the canonical manifest to the end.
-use Rattle.std.specs.Prelude.{ℕ, ◌+◌, ◌*◌, ◌≡◌, List, [], ◌∷◌, ◌++◌, true, false, leb, length, take, drop}
-use Rattle.std.proofs.Math.Option.{Option, none, some}
+use Rattle.std.specs.Prelude.{ℕ, ◌+◌, ◌*◌, ◌≡◌, List, [], ◌∷◌, ◌++◌, true, false, leb, length, take, drop, Option, None, Some}
 use Rattle.reference_digests.specs.Algorithms.{digest_bytes, byte_of, numbered}
 use Rattle.reference.specs.References.{Id, image_id, no_id}
 use Rattle.reference_digests.specs.declared.algorithm.Algorithm.{Algorithm}
-use Rattle.reference_digests.specs.declared.algorithm.Known.{Known}
-use Rattle.reference_digests.specs.declared.algorithm.Known.TheVariants.{Is, Unknown}
 use Rattle.store_varint.specs.Varint.{varint, read_varint, Parsed, number, no_number}
 use Rattle.store_record.specs.Image.{Image}
 
@@ -43,20 +40,20 @@ pub record Shaped (x : Image) : Type 0 where
   pub manifest_size : length manifest ≡ digest_bytes algorithm
 
 -- the image whose ID has that algorithm, by what follows its byte; none where a digest is cut
-unfoldable pub body_under : Known → List ℕ → Option Image
-body_under Unknown s = none
-body_under (Is a) s =
+unfoldable pub body_under : Option Algorithm → List ℕ → Option Image
+body_under None s = None
+body_under (Some a) s =
     elim (leb (2 * digest_bytes a) (length s)) [
       | true ↦
-          some (record {
+          Some (record {
             ids = image_id a (take (digest_bytes a) s) (take (digest_bytes a) (drop (digest_bytes a) s)) ∷ [];
             text = drop (2 * digest_bytes a) s;
           })
-      | false ↦ none
+      | false ↦ None
     ]
 
 unfoldable pub read_body : List ℕ → Option Image
-read_body [] = none
+read_body [] = None
 read_body (b ∷ s) = body_under (numbered b) s
 
 -- what some bytes begin with: the record of an image, and what follows it; or none
@@ -65,8 +62,8 @@ pub data Begins : Type 0 where
   no_image : Begins
 
 unfoldable pub before_rest : Option Image → List ℕ → Begins
-before_rest none r = no_image
-before_rest (some x) r = image x r
+before_rest None r = no_image
+before_rest (Some x) r = image x r
 
 -- a record of n bytes after its length, whose bytes are all there
 unfoldable pub read_sized : Parsed → Begins

@@ -1,14 +1,14 @@
 // The records of a store: one record read, and the survey of all records.
 #![tactic(auto)]
 
-ghost use Rattle.std.specs.Prelude.{◌≡◌, false, ◌&&◌, eqb, ◌≤◌, length};
+ghost use Rattle.std.specs.Prelude.{◌≡◌, ◌&&◌, eqb, ◌≤◌, length};
 ghost use Rattle.laws.specs.Order.{same};
 ghost use Rattle.reference_digests.specs.Algorithms.{byte_of};
 ghost use Rattle.reference.specs.References.{image_id};
 ghost use Rattle.store_record.specs.Ids.{has_id};
 ghost use Rattle.store_record.specs.Reading.{between, held_in, RecordIn, Reads, ReadsBody, Surveys, no_record};
 
-use reference_digests::algorithm::{Algorithm, Known};
+use reference_digests::algorithm::Algorithm;
 use reference_digests::digest;
 use store_varint::Number;
 
@@ -55,63 +55,47 @@ impl Record {
     }
 }
 
-// A record, or none that is whole.
-#[derive(Clone, Copy)]
-pub enum ReadRecord {
-    At(Record),
-    Missing,
-}
-
-// The records of a store, if at most 64 fill it exactly.
+// The records of a store: at most 64, of which the first `count` places of the array hold the positions.
 #[derive(Clone, Copy)]
 pub struct Survey {
-    pub whole: bool,
     pub count: usize,
     pub records: [Record; MOST_IMAGES],
 }
 
 // The record that begins at position i.
-pub fn read(s: &[u8], i: usize) -> ReadRecord
+pub fn read(s: &[u8], i: usize) -> Option<Record>
     ensures { Reads s.now i result }
 {
-    match store_varint::read(s, i, s.len()) {
-        Number::Missing => ReadRecord::Missing,
-        Number::At { value, next } => {
-            if s.len() - next < value {
-                return ReadRecord::Missing;
-            }
-            body(s, next, next + value)
-        }
+    let Number { value, next } = store_varint::read(s, i, s.len())?;
+    if s.len() - next < value {
+        return None;
     }
+    body(s, next, next + value)
 }
 
 // The record whose algorithm's byte stands at position i, and which ends at `end`.
-fn body(s: &[u8], i: usize, end: usize) -> ReadRecord
+fn body(s: &[u8], i: usize, end: usize) -> Option<Record>
     requires { (i ≤ end) × (end ≤ length s.now) }
     ensures { ReadsBody s.now i end result }
 {
     if i == end {
-        return ReadRecord::Missing;
+        return None;
     }
-    match Algorithm::from_byte(s[i]) {
-        Known::Unknown => ReadRecord::Missing,
-        Known::Is(algorithm) => {
-            let n = algorithm.digest_bytes();
-            let signer = i + 1;
-            if end - signer < 2 * n {
-                return ReadRecord::Missing;
-            }
-            let manifest = signer + n;
-            let text = manifest + n;
-            ReadRecord::At(Record {
-                algorithm,
-                signer,
-                manifest,
-                text,
-                end,
-            })
-        }
+    let algorithm = Algorithm::from_byte(s[i])?;
+    let n = algorithm.digest_bytes();
+    let signer = i + 1;
+    if end - signer < 2 * n {
+        return None;
     }
+    let manifest = signer + n;
+    let text = manifest + n;
+    Some(Record {
+        algorithm,
+        signer,
+        manifest,
+        text,
+        end,
+    })
 }
 
 // A record that stands nowhere.
@@ -128,41 +112,23 @@ fn no_record() -> Record
 }
 
 impl Survey {
-    // The records that fill the bytes s.
-    pub fn of(s: &[u8]) -> Survey
+    // The records of the bytes s, if at most 64 fill them exactly.
+    pub fn of(s: &[u8]) -> Option<Survey>
         ensures { Surveys s.now result }
     {
         let mut records = [no_record(); MOST_IMAGES];
         let mut count = 0;
         let mut i = 0;
+        // no `for` counts `i`: it goes on where the record ends
         while i < s.len() {
             if count == MOST_IMAGES {
-                return broken();
+                return None;
             }
-            match read(s, i) {
-                ReadRecord::Missing => return broken(),
-                ReadRecord::At(r) => {
-                    records[count] = r;
-                    count += 1;
-                    i = r.end;
-                }
-            }
+            let r = read(s, i)?;
+            records[count] = r;
+            count += 1;
+            i = r.end;
         }
-        Survey {
-            whole: true,
-            count,
-            records,
-        }
-    }
-}
-
-// What is answered of bytes that no such records fill.
-fn broken() -> Survey
-    ensures { result.whole ≡ false }
-{
-    Survey {
-        whole: false,
-        count: 0,
-        records: [no_record(); MOST_IMAGES],
+        Some(Survey { count, records })
     }
 }

@@ -17,13 +17,11 @@ fn first_signed(b: &[u8], v: Survey, a: Algorithm, signer: &[u8], k: usize) -> u
     requires { Fills b.now v × (k ≤ v.count) }
     ensures { FirstSigned b.now v a signer.now k result }
 {
-    let mut j = 0;
-    while j < k {
+    for j in 0..k {
         let r = v.records[j];
         if r.is_signed_by(b, a, signer) {
             return j;
         }
-        j += 1;
     }
     k
 }
@@ -33,15 +31,13 @@ pub fn group_all(b: &[u8], v: Survey, groups: &mut [u16])
     requires { Fills b.now v × (length groups.old ≡ 64) }
     ensures { (length groups.new ≡ 64) × GroupsOf b.now v v.count groups.new }
 {
-    let mut i = 0;
-    while i < v.count {
+    for i in 0..v.count {
         let r = v.records[i];
         let a = r.algorithm;
         let from = r.signer;
         let to = r.manifest;
         let g = first_signed(b, v, a, &b[from..to], i);
         groups[i] = g as u16;
-        i += 1;
     }
 }
 
@@ -67,13 +63,10 @@ fn meets(order: &[u16], groups: &[u16], start: usize, m: usize) -> bool
 {
     let e = order[m] as usize;
     let g = groups[e / MOST_ENTRIES];
-    let mut k = start;
-    while k < m {
-        let f = order[k] as usize;
-        if g == groups[f / MOST_ENTRIES] {
+    for f in &order[start..m] {
+        if g == groups[*f as usize / MOST_ENTRIES] {
             return true;
         }
-        k += 1;
     }
     false
 }
@@ -84,13 +77,11 @@ pub fn shares_any(b: &[u8], at: &[usize], order: &[u16], groups: &[u16]) -> bool
     ensures { result ≡ any_pair (shared b.now at.now groups.now) order.now }
 {
     let mut start = 0;
-    let mut m = 0;
-    while m < order.len() {
+    for m in 0..order.len() {
         start = run_start(b, at, order, start, m);
         if meets(order, groups, start, m) {
             return true;
         }
-        m += 1;
     }
     false
 }

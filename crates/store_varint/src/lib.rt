@@ -29,48 +29,44 @@ pub fn write(n: usize, out: &mut [u8]) -> usize
     1 + write(n / 128, &mut out[1..])
 }
 
-// A number and the position after it; or none that is in shortest form, whole and small enough.
+// A number and the position after it.
 #[derive(Clone, Copy)]
-pub enum Number {
-    At { value: usize, next: usize },
-    Missing,
+pub struct Number {
+    pub value: usize,
+    pub next: usize,
 }
 
-// The number at position i, if it is at most `most`. Its groups may be more than any integer type holds: reading stops where the number is
-// larger whatever follows.
-pub fn read(s: &[u8], i: usize, most: usize) -> Number
+// The number at position i, in shortest form, if it is at most `most`. Its groups may be more than any integer type holds: reading stops
+// where the number is larger whatever follows.
+pub fn read(s: &[u8], i: usize, most: usize) -> Option<Number>
     ensures { Reads s.now i most result }
 {
     if s.len() <= i {
-        return Number::Missing;
+        return None;
     }
     let b = s[i] as usize;
     if b < 128 {
         if most < b {
-            return Number::Missing;
+            return None;
         }
-        return Number::At {
+        return Some(Number {
             value: b,
             next: i + 1,
-        };
+        });
     }
     if most < 128 {
-        return Number::Missing;
+        return None;
     }
     let low = b - 128;
-    match read(s, i + 1, most / 128) {
-        Number::Missing => Number::Missing,
-        Number::At { value, next } => {
-            if value == 0 {
-                return Number::Missing;
-            }
-            if (most - low) / 128 < value {
-                return Number::Missing;
-            }
-            Number::At {
-                value: low + 128 * value,
-                next,
-            }
-        }
+    let Number { value, next } = read(s, i + 1, most / 128)?;
+    if value == 0 {
+        return None;
     }
+    if (most - low) / 128 < value {
+        return None;
+    }
+    Some(Number {
+        value: low + 128 * value,
+        next,
+    })
 }

@@ -13,6 +13,7 @@ pub fn copy(from: &[u8], out: &mut [u8])
     requires { length from.now ≤ length out.old }
     ensures { out.new ≡ from.now ++ drop (length from.now) out.old }
 {
+    // a loop, since `copy_from_slice` calls libc's memmove, and the header promises that only memcpy and memset are called
     let mut i = 0;
     while i < from.len() {
         out[i] = from[i];

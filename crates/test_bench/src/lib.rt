@@ -6,18 +6,13 @@ ghost use Rattle.text.specs.Answer.{checked, number_of, is_canonical};
 ghost use Rattle.manifest.specs.Number.{manifest_text_number};
 ghost use Rattle.test_bench.specs.Bit.{bit};
 
-use text::Checked;
-
 // The lowest of the numbers 1 to 6 that applies to any text, 0 where none does.
 fn text_number_of(s: &[u8]) -> usize
     ensures { result ≡ number_of (checked s.now) }
 {
     match text::check(s) {
-        Checked::Refused(f) => f.number(),
-        Checked::Accepted {
-            length: _,
-            canonical: _,
-        } => 0,
+        Err(f) => f.number(),
+        Ok(_) => 0,
     }
 }
 

@@ -44,6 +44,7 @@ fn is_gap(s: &[u8], at: usize) -> bool
 fn show_all(s: &[u8]) {
     let mut start = 0;
     let mut i = 0;
+    // no `for` counts `i`: it passes two bytes at a gap
     while i < s.len() {
         if is_gap(s, i) {
             show(&s[start..i]);

@@ -8,10 +8,9 @@ ghost use Rattle.std.specs.Prelude.{◌≡◌, ℕ, ◌≤◌, ◌<◌, length, 
 ghost use Rattle.manifest_index.specs.Index.{NumberOf, SomeNameIndex};
 ghost use Rattle.manifest.specs.Opened.{Opens};
 
-use manifest::{Checked, Fault, Places, SignalNumber};
+use manifest::{Fault, Good, Places, SignalNumber};
 use reference::LayerIndex;
 use reference_digests::algorithm::Algorithm;
-use test_names::Pair;
 
 fn show_flag(b: bool) {
     if b {
@@ -39,14 +38,12 @@ fn show_listed(s: &[u8], p: Places, layers: bool)
     } else {
         manifest::signal_count(s, p)
     };
-    let mut i = 0;
-    while i < n {
+    for i in 0..n {
         if layers {
             test_names::show_layer(manifest::layer(s, p, LayerIndex(i)));
         } else {
             show_signal(manifest::signal(s, p, i));
         }
-        i += 1;
     }
 }
 
@@ -77,12 +74,14 @@ fn show_fault(f: Fault) {
 
 fn show_one(s: &[u8]) {
     match manifest::check(s) {
-        Checked::Refused(f) => show_fault(f),
-        Checked::Good {
-            length,
-            canonical,
-            places,
-        } => show_good(s, length, canonical, places),
+        Err(f) => show_fault(f),
+        Ok(
+            Good {
+                length,
+                canonical,
+                places,
+            },
+        ) => show_good(s, length, canonical, places),
     }
 }
 
@@ -100,13 +99,11 @@ fn show_rules(
 {
     let mut at_rules = [0usize; manifest::MOST_ENTRIES];
     let n = manifest_rules::place(s, p, &mut at_rules);
-    let mut i = 0;
-    while i < n {
+    for i in 0..n {
         let rule = manifest_rules::read(s, at_rules[i]);
         let r = manifest_index::asked(t, at, order, s, rule);
         let named = r.from < r.to;
         show_flag(manifest_rules::matches(s, rule, Algorithm::Sha224, signer, digest, named));
-        i += 1;
     }
 }
 
@@ -116,10 +113,8 @@ fn index_names(t: &[u8], at: &[usize], n: usize, order: &mut [u16])
     ensures { SomeNameIndex t.now at.now (take n order.new)
         × (length order.new ≡ length order.old) }
 {
-    let mut k = 0;
-    while k < n {
+    for k in 0..n {
         manifest_index::add(t, at, order, k, k as u16);
-        k += 1;
     }
 }
 
@@ -147,8 +142,8 @@ fn show_accepts(s: &[u8], p: Places, t: &[u8], q: Places)
 
 fn show_two(s: &[u8], t: &[u8]) {
     match test_names::open(s, t) {
-        Pair::Good { first, second } => show_accepts(s, first, t, second),
-        Pair::Bad => {
+        Some(pair) => show_accepts(s, pair.first, t, pair.second),
+        None => {
             io::write_all(1, b" bad\n");
         }
     }
@@ -158,7 +153,7 @@ pub fn show(line: &[u8]) {
     let n = lines::find(line, 0, b'\t');
     if n < line.len() {
         let second = n + 1;
-        show_two(&line[0..n], &line[second..]);
+        show_two(&line[..n], &line[second..]);
         return;
     }
     show_one(line);

@@ -1,10 +1,10 @@
 -- What loops over the words of a line keep: the answer for the bytes from a position on is the answer for all; and the values of digits.
+use Rattle.std.specs.Prelude.{Some, None}
 use Prim.Native.Nat.{ℕ, ◌+◌, ◌-◌, ◌*◌, ◌≤◌, ◌<◌}
-use mathlib.Core.Path.{◌≡◌, refl, ap, ◌∙◌}
-use mathlib.Core.List.{List, [], ◌∷◌}
-use mathlib.Core.Bool.{Bool, true, false, ◌&&◌, and-false}
+use mathlib.Core.Path.{◌≡◌, ap, ◌∙◌}
+use mathlib.Core.List.{List, ◌∷◌}
+use mathlib.Core.Bool.{Bool, true, false, ◌&&◌}
 use native.Mathlib.Omega.{arith}
-use lib.Dec.{eqb}
 use lib.ListN.{length, drop, get_or, set, drop_of_length-le}
 use lib.Seq.{get_or-set_same, get_or-set_other}
 use borrow.Author.Count.{below_more}
@@ -14,50 +14,11 @@ use Rattle.text_json.proofs.ByteTests.{between_true}
 use Rattle.text_json.proofs.Places.{drop_next}
 use Rattle.text_chars.specs.Measure.{every}
 use Rattle.reference_parts.specs.Hex.{is_lower_hex}
-use Rattle.test_lines.specs.Words.{begins, place_after, number_from, number_of, digit_value}
-use Rattle.test_lines.specs.declared.Number.TheVariants.{Is, Bad}
-
--- A line that is shorter than a word does not begin with it.
-pub too_short : (line word : List ℕ) → length line < length word → begins line word ≡ false
-unfolding begins
-too_short line [] h = absurd (omega arith)
-too_short [] (w ∷ word) h = refl
-too_short (b ∷ line) (w ∷ word) h = ap (λ (t : Bool). eqb b w && t) (too_short line word (omega arith)) ∙ and-false (eqb b w)
-
-module _ (line word : List ℕ) where
-  -- A line that begins with the word goes on after it.
-  pub goes_on : begins line word ≡ true → place_after line word ≡ length word
-  unfolding place_after
-  goes_on e = rw (e, place_after)
-
-  -- A line that does not begin with the word goes on nowhere.
-  pub goes_nowhere : begins line word ≡ false → place_after line word ≡ 0
-  unfolding place_after
-  goes_nowhere e = rw (e, place_after)
-
-  module _ (i : ℕ) where
-    -- Past the word nothing is left to compare.
-    pub all_begins : length word ≤ i → begins (drop i line) (drop i word) ≡ true
-    unfolding begins
-    all_begins h = ap (begins (drop i line)) (drop_of_length-le word {i = i} h)
-
-    module _ (h : i < length line) (l : i < length word) where
-      -- both go on with a byte
-      first : begins (drop i line) (drop i word) ≡ (eqb (get_or line i 0) (get_or word i 0) && begins (drop (i + 1) line) (drop (i + 1) word))
-      unfolding begins
-      first = rw (drop_next line i h, drop_next word i l)
-
-      -- After equal bytes the answer is that of the rest.
-      pub begins_next : get_or line i 0 ≡ get_or word i 0 → begins (drop i line) (drop i word) ≡ begins (drop (i + 1) line) (drop (i + 1) word)
-      begins_next e = first ∙ ap (λ (t : Bool). t && begins (drop (i + 1) line) (drop (i + 1) word)) (eq-eqb _ _ e)
-
-      -- Two bytes that differ decide.
-      pub begins_not : (get_or line i 0 ≡ get_or word i 0 → ⊥) → begins (drop i line) (drop i word) ≡ false
-      begins_not n = first ∙ ap (λ (t : Bool). t && begins (drop (i + 1) line) (drop (i + 1) word)) (ne_eqb _ _ n)
+use Rattle.test_lines.specs.Words.{number_from, number_of, digit_value}
 
 module _ (s : List ℕ) where
   -- No bytes spell no number.
-  pub no_number : length s ≡ 0 → number_of s ≡ Bad
+  pub no_number : length s ≡ 0 → number_of s ≡ None
   unfolding number_of
   no_number e = rw (eq-eqb (length s) 0 e, number_of)
 
@@ -68,7 +29,7 @@ module _ (s : List ℕ) where
 
   module _ (n i : ℕ) where
     -- Past the end the number is read.
-    pub number_read : length s ≤ i → number_from n (drop i s) ≡ Is n
+    pub number_read : length s ≤ i → number_from n (drop i s) ≡ Some n
     unfolding number_from
     number_read h = ap (number_from n) (drop_of_length-le s {i = i} h)
 
@@ -78,13 +39,13 @@ module _ (s : List ℕ) where
       at_digit = ap (number_from n) (drop_next s i h)
 
       -- A byte that is no digit spells no number.
-      pub no_digit : is_digit (get_or s i 0) ≡ false → number_from n (drop i s) ≡ Bad
+      pub no_digit : is_digit (get_or s i 0) ≡ false → number_from n (drop i s) ≡ None
       unfolding number_from
       no_digit e = at_digit ∙ rw (e, number_from)
 
       module _ (e : is_digit (get_or s i 0) ≡ true) where
         -- A number that another digit could take out of 64 bits is not read.
-        pub too_large : 1844674407370955160 < n → number_from n (drop i s) ≡ Bad
+        pub too_large : 1844674407370955160 < n → number_from n (drop i s) ≡ None
         unfolding number_from
         too_large l = at_digit ∙ rw (e, lt-leb n 1844674407370955160 l, number_from)
 

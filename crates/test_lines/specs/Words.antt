@@ -1,30 +1,18 @@
--- What the words of a line say: where the line goes on after one, a number by its decimal digits, and bytes by pairs of hexadecimal digits.
-use Rattle.std.specs.Prelude.{ℕ, ◌+◌, ◌-◌, ◌*◌, ◌%◌, List, [], ◌∷◌, Bool, true, false, ◌&&◌, eqb, leb, length, get_or}
+-- What the words of a line say: a number by its decimal digits, and bytes by pairs of hexadecimal digits.
+use Rattle.std.specs.Prelude.{ℕ, ◌+◌, ◌-◌, ◌*◌, ◌%◌, List, [], ◌∷◌, Bool, true, false, ◌&&◌, eqb, leb, length, get_or, Option, Some, None}
 use Rattle.text_json.specs.Bytes.{between, is_digit}
 use Rattle.text_chars.specs.Measure.{every}
 use Rattle.reference_parts.specs.Hex.{is_lower_hex}
-use Rattle.test_lines.specs.declared.Number.{Number}
-use Rattle.test_lines.specs.declared.Number.TheVariants.{Is, Bad}
-
--- the line begins with the word
-unfoldable pub begins : List ℕ → List ℕ → Bool
-begins line [] = true
-begins [] (w ∷ word) = false
-begins (b ∷ line) (w ∷ word) = eqb b w && begins line word
-
--- where it goes on after the word; 0 where it does not begin with it
-unfoldable pub place_after : List ℕ → List ℕ → ℕ
-place_after line word = elim (begins line word) [ true ↦ length word | false ↦ 0 ]
 
 -- the number that n and the decimal digits after it spell, which is read as long as it cannot leave 64 bits: ten times the number that n is compared
 -- with, and a digit, is less than 2 to the power of 64
-unfoldable pub number_from : ℕ → List ℕ → Number
-number_from n [] = Is n
-number_from n (b ∷ s) = elim (is_digit b && leb n 1844674407370955160) [ true ↦ number_from (n * 10 + (b - 0x30)) s | false ↦ Bad ]
+unfoldable pub number_from : ℕ → List ℕ → Option ℕ
+number_from n [] = Some n
+number_from n (b ∷ s) = elim (is_digit b && leb n 1844674407370955160) [ true ↦ number_from (n * 10 + (b - 0x30)) s | false ↦ None ]
 
 -- the number that decimal digits spell, one at least
-unfoldable pub number_of : List ℕ → Number
-number_of s = elim (eqb (length s) 0) [ true ↦ Bad | false ↦ number_from 0 s ]
+unfoldable pub number_of : List ℕ → Option ℕ
+number_of s = elim (eqb (length s) 0) [ true ↦ None | false ↦ number_from 0 s ]
 
 -- all are lower-case hexadecimal digits, and each digit has a second one
 unfoldable pub are_pairs : List ℕ → Bool

@@ -9,7 +9,7 @@
 #![tactic(auto)]
 
 ghost use Rattle.std.specs.Prelude.{◌≡◌, ℕ, ◌≤◌, ◌<◌, ◌*◌, length, get_or};
-ghost use Rattle.test_lines.specs.Words.{place_after, number_of, are_pairs, digit_value, byte_at};
+ghost use Rattle.test_lines.specs.Words.{number_of, are_pairs, digit_value, byte_at};
 
 // The byte that a new buffer is filled with.
 pub const FILL: u8 = 0xEE;
@@ -24,68 +24,38 @@ pub struct State {
     pub used: usize,
 }
 
-// A number that was read, or none.
-#[derive(Clone, Copy)]
-pub enum Number {
-    Is(usize),
-    Bad,
-}
-
 pub fn print_bad() {
     io::write_all(1, b"bad\n");
 }
 
-// Where the line goes on after a word that it begins with; 0 where it does not begin with it.
-pub fn after(line: &[u8], word: &[u8]) -> usize
-    ensures value { result ≡ place_after line.now word.now }
-    ensures upper_bound { result ≤ length line.now }
-{
-    if line.len() < word.len() {
-        return 0;
-    }
-    let mut i = 0;
-    while i < word.len() {
-        if line[i] != word[i] {
-            return 0;
-        }
-        i += 1;
-    }
-    word.len()
-}
-
 // The number that all of s spells in decimal digits. It is read as long as it cannot leave 64 bits.
-pub fn decimal(s: &[u8]) -> Number
+pub fn decimal(s: &[u8]) -> Option<usize>
     ensures { result ≡ number_of s.now }
 {
-    if s.len() == 0 {
-        return Number::Bad;
+    if s.is_empty() {
+        return None;
     }
     let mut n = 0;
-    let mut i = 0;
-    while i < s.len() {
-        let b = s[i];
-        if !text_json::bytes::is_digit(b) {
-            return Number::Bad;
+    for b in s {
+        if !text_json::bytes::is_digit(*b) {
+            return None;
         }
         if TENTH < n {
-            return Number::Bad;
+            return None;
         }
-        n = n * 10 + (b - b'0') as usize;
-        i += 1;
+        n = n * 10 + (*b - b'0') as usize;
     }
-    Number::Is(n)
+    Some(n)
 }
 
 // All bytes are lower-case hexadecimal digits, and each digit has a second one.
 pub fn are_pairs(hex: &[u8]) -> bool
     ensures { result ≡ are_pairs hex.now }
 {
-    let mut i = 0;
-    while i < hex.len() {
-        if !reference_parts::part::is_lower_hex(hex[i] as u32) {
+    for b in hex {
+        if !reference_parts::part::is_lower_hex(*b as u32) {
             return false;
         }
-        i += 1;
     }
     hex.len() % 2 == 0
 }
@@ -109,40 +79,20 @@ pub fn write_pairs(hex: &[u8], out: &mut [u8])
     ensures out_len_unchanged { length out.new ≡ length out.old }
     ensures by_index { (k : ℕ) → k < length out.old → get_or out.new k 0 ≡ byte_at hex.now k }
 {
-    let mut i = 0;
-    while i < out.len() {
-        out[i] = digit(hex[i * 2]) * 16 + digit(hex[i * 2 + 1]);
-        i += 1;
-    }
-}
-
-fn fill(out: &mut [u8]) {
-    let mut i = 0;
-    while i < out.len() {
-        out[i] = FILL;
-        i += 1;
+    for (i, byte) in out.iter_mut().enumerate() {
+        *byte = digit(hex[i * 2]) * 16 + digit(hex[i * 2 + 1]);
     }
 }
 
 // How many bytes are not those of a new buffer.
 fn count_changed(s: &[u8]) -> usize {
-    let mut n = 0;
-    let mut i = 0;
-    while i < s.len() {
-        if s[i] != FILL {
-            n += 1;
-        }
-        i += 1;
-    }
-    n
+    s.iter().filter(|b| **b != FILL).count()
 }
 
 // Each byte in two hexadecimal digits.
 pub fn print_bytes(s: &[u8]) {
-    let mut i = 0;
-    while i < s.len() {
-        io::print_hex(1, s[i] as u64, 2);
-        i += 1;
+    for b in s {
+        io::print_hex(1, *b as u64, 2);
     }
 }
 
@@ -160,7 +110,7 @@ pub fn show(s: &[u8], used: usize) {
         print_bad();
         return;
     }
-    print_bytes(&s[0..used]);
+    print_bytes(&s[..used]);
     io::write_all(1, b"\n");
     io::print_decimal(1, count_changed(&s[used..]) as u64);
     io::write_all(1, b"\n");
@@ -183,46 +133,42 @@ fn put_at(offset: usize, hex: &[u8], store: &mut [u8]) {
 
 // `put`: an offset, a space, and bytes.
 fn put(words: &[u8], store: &mut [u8]) {
-    let space = lines::find(words, 0, b' ');
-    if space == words.len() {
+    let Some(space) = words.iter().position(|b| *b == b' ') else {
+        print_bad();
+        return;
+    };
+    let hex = &words[space + 1..];
+    if !are_pairs(hex) {
         print_bad();
         return;
     }
-    let from = space + 1;
-    if !are_pairs(&words[from..]) {
-        print_bad();
-        return;
-    }
-    match decimal(&words[0..space]) {
-        Number::Bad => print_bad(),
-        Number::Is(offset) => put_at(offset, &words[from..], store),
+    match decimal(&words[..space]) {
+        None => print_bad(),
+        Some(offset) => put_at(offset, hex, store),
     }
 }
 
 // `used`: the new used count, which may be more than the store has.
 fn set_used(words: &[u8], used: usize) -> usize {
     match decimal(words) {
-        Number::Bad => {
+        None => {
             print_bad();
             used
         }
-        Number::Is(n) => n,
+        Some(n) => n,
     }
 }
 
 // A line that works on the store; answers the used count after it.
 fn work(line: &[u8], store: &mut [u8], used: usize) -> usize {
-    let written = after(line, b"put ");
-    if 0 < written {
-        put(&line[written..], store);
+    if let Some(words) = line.strip_prefix(b"put ") {
+        put(words, store);
         return used;
     }
-    let counted = after(line, b"used ");
-    if 0 < counted {
-        return set_used(&line[counted..], used);
+    if let Some(words) = line.strip_prefix(b"used ") {
+        return set_used(words, used);
     }
-    let shown = after(line, b"show");
-    if 0 < shown && shown == line.len() {
+    if line == b"show".as_slice() {
         show(store, used);
         return used;
     }
@@ -236,16 +182,16 @@ fn renew(words: &[u8], buffer: &mut [u8], t: State) -> State
     ensures { result.size ≤ length buffer.old }
 {
     match decimal(words) {
-        Number::Bad => {
+        None => {
             print_bad();
             t
         }
-        Number::Is(size) => {
+        Some(size) => {
             if buffer.len() < size {
                 print_bad();
                 return t;
             }
-            fill(&mut buffer[0..size]);
+            buffer[..size].fill(FILL);
             State { size, used: 0 }
         }
     }
@@ -256,11 +202,9 @@ pub fn obey(line: &[u8], buffer: &mut [u8], t: State) -> State
     requires { t.size ≤ length buffer.old }
     ensures { result.size ≤ length buffer.old }
 {
-    let renewed = after(line, b"new ");
-    if 0 < renewed {
-        return renew(&line[renewed..], buffer, t);
+    if let Some(words) = line.strip_prefix(b"new ") {
+        return renew(words, buffer, t);
     }
-    let size = t.size;
-    let used = work(line, &mut buffer[0..size], t.used);
-    State { size, used }
+    let used = work(line, &mut buffer[..t.size], t.used);
+    State { used, ..t }
 }

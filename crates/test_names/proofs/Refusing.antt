@@ -10,8 +10,8 @@ use Rattle.manifest.specs.Number.{manifest_text_number}
 use Rattle.manifest.specs.Answer.{fault_number, number_of, Answers}
 use Rattle.manifest.specs.declared.Fault.{Fault}
 use Rattle.manifest.specs.declared.Fault.TheVariants.{Text, BadField, BadForm, RepeatedAlias}
-use Rattle.manifest.specs.declared.Checked.{Checked}
-use Rattle.manifest.specs.declared.Checked.TheVariants.{Refused}
+use Rattle.manifest.specs.declared.Good.{Good}
+use Rattle.std.specs.Prelude.{Result, Err}
 
 text_numbered : (f : TextFault) → 0 < text_fault_number f
 text_numbered TooLong = omega arith
@@ -28,7 +28,7 @@ numbered BadForm = omega arith
 numbered RepeatedAlias = omega arith
 
 -- What checking refuses does not get the number 0.
-pub refused_numbered : (s : List ℕ) {r : Checked} {f : Fault} → Answers s r → r ≡ Refused f → manifest_text_number s ≡ 0 → ⊥
+pub refused_numbered : (s : List ℕ) {r : Result Good Fault} {f : Fault} → Answers s r → r ≡ Err f → manifest_text_number s ≡ 0 → ⊥
 refused_numbered s {r} {f} a e z =
     let n : fault_number f ≡ 0 = ap number_of (sym e) ∙ a.number ∙ z in
     absurd (omega (arith, numbered f))

@@ -7,7 +7,7 @@ ghost use Rattle.std.specs.Prelude.{ℕ, List};
 ghost use Rattle.manifest.specs.Opened.{Opens};
 ghost use Rattle.test_names.specs.Pairs.{OpenPair};
 
-use manifest::{Checked, MOST_NAMES, Places};
+use manifest::{MOST_NAMES, Places};
 use manifest_aliases::Object;
 use reference::LayerIndex;
 use reference::layer::Layer;
@@ -15,38 +15,33 @@ use reference::layer::Layer;
 // The most bytes that a manifest may have.
 const MOST_BYTES: usize = 16384;
 
-// What opening two manifests gives, where both are good.
+// What opening two good manifests gives.
 #[derive(Clone, Copy)]
-pub enum Pair {
-    Good { first: Places, second: Places },
-    Bad,
+pub struct Pair {
+    pub first: Places,
+    pub second: Places,
 }
 
 // Checks two manifests.
-pub fn open(s: &[u8], t: &[u8]) -> Pair
+pub fn open(s: &[u8], t: &[u8]) -> Option<Pair>
     ensures { OpenPair s.now t.now result }
 {
     match manifest::check(s) {
-        Checked::Refused(_) => Pair::Bad,
-        Checked::Good {
-            length: _,
-            canonical: _,
-            places: first,
-        } => open_second(first, t),
+        Err(_) => None,
+        Ok(good) => open_second(good.places, t),
     }
 }
 
 // Checks the second of them, where the first one is good.
-fn open_second(first: Places, t: &[u8]) -> Pair
+fn open_second(first: Places, t: &[u8]) -> Option<Pair>
     ensures { (s : List ℕ) → Opens s first → OpenPair s t.now result }
 {
     match manifest::check(t) {
-        Checked::Refused(_) => Pair::Bad,
-        Checked::Good {
-            length: _,
-            canonical: _,
-            places: second,
-        } => Pair::Good { first, second },
+        Err(_) => None,
+        Ok(good) => Some(Pair {
+            first,
+            second: good.places,
+        }),
     }
 }
 
@@ -86,32 +81,28 @@ fn show_conflict(s: &[u8], p: Places, t: &[u8], q: Places)
 }
 
 // What a layer or an object is: a digest or an alias.
-pub fn show_layer(x: Layer) {
+pub fn show_layer(x: Option<Layer>) {
     match x {
-        Layer::Digest(_, _) => {
+        Some(Layer::Digest(_, _)) => {
             io::write_all(1, b" digest");
         }
-        Layer::Alias {
-            algorithm: _,
-            signer: _,
-            alias: _,
-        } => {
+        Some(Layer::Alias { .. }) => {
             io::write_all(1, b" alias");
         }
-        Layer::Bad => {
+        None => {
             io::write_all(1, b" bad");
         }
     }
 }
 
-fn show_found(o: Object) {
-    match o {
-        Object::Missing => {
+fn show_found(found: Option<Object>) {
+    match found {
+        None => {
             io::write_all(1, b"-\n");
         }
-        Object::At { index, object } => {
-            io::print_decimal(1, index as u64);
-            show_layer(object);
+        Some(found) => {
+            io::print_decimal(1, found.index as u64);
+            show_layer(found.object);
             io::write_all(1, b"\n");
         }
     }
@@ -123,15 +114,11 @@ fn show_object(s: &[u8], p: Places, t: &[u8], q: Places)
 {
     let n = manifest::layer_count(t, q);
     if 0 < n {
-        let x = manifest::layer(t, q, LayerIndex(0));
-        if let Layer::Alias {
-            algorithm: _,
-            signer: _,
-            alias: _,
-        } = x
-        {
-            show_found(manifest_aliases::object_of(s, p, t, x));
-            return;
+        if let Some(x) = manifest::layer(t, q, LayerIndex(0)) {
+            if let Layer::Alias { .. } = x {
+                show_found(manifest_aliases::object_of(s, p, t, x));
+                return;
+            }
         }
     }
     io::write_all(1, b"-\n");
@@ -139,12 +126,12 @@ fn show_object(s: &[u8], p: Places, t: &[u8], q: Places)
 
 fn show_pair(s: &[u8], t: &[u8]) {
     match open(s, t) {
-        Pair::Good { first, second } => {
+        Some(Pair { first, second }) => {
             show_shared(s, first, t, second);
             show_conflict(s, first, t, second);
             show_object(s, first, t, second);
         }
-        Pair::Bad => {
+        None => {
             io::write_all(1, b"bad\n");
         }
     }
@@ -154,7 +141,7 @@ pub fn show(line: &[u8]) {
     let tab = lines::find(line, 0, b'\t');
     if tab < line.len() {
         let second = tab + 1;
-        show_pair(&line[0..tab], &line[second..]);
+        show_pair(&line[..tab], &line[second..]);
         return;
     }
     io::write_all(1, b"bad\n");

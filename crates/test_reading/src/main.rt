@@ -14,24 +14,20 @@ fn show_number(s: &[u8]) {
 }
 
 fn show(line: &[u8]) {
-    let number = test_lines::after(line, b"number ");
-    if 0 < number {
-        show_number(&line[number..]);
+    if let Some(words) = line.strip_prefix(b"number ") {
+        show_number(words);
         return;
     }
-    let facade = test_lines::after(line, b"facade ");
-    if 0 < facade {
-        test_facade::show(&line[facade..]);
+    if let Some(words) = line.strip_prefix(b"facade ") {
+        test_facade::show(words);
         return;
     }
-    let names = test_lines::after(line, b"names ");
-    if 0 < names {
-        test_names::show(&line[names..]);
+    if let Some(words) = line.strip_prefix(b"names ") {
+        test_names::show(words);
         return;
     }
-    let reference = test_lines::after(line, b"reference ");
-    if 0 < reference {
-        test_references::show(&line[reference..]);
+    if let Some(words) = line.strip_prefix(b"reference ") {
+        test_references::show(words);
         return;
     }
     test_lines::print_bad();
@@ -39,6 +35,7 @@ fn show(line: &[u8]) {
 
 fn show_all(s: &[u8]) {
     let mut start = 0;
+    // no `for` counts `start`: it goes on after the line that was found
     while start < s.len() {
         let end = lines::find(s, start, b'\n');
         show(&s[start..end]);

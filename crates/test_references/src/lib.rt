@@ -4,47 +4,27 @@
 // these, these without the first, and these with the last one changed.
 #![tactic(auto)]
 
-ghost use Rattle.std.specs.Prelude.{◌≡◌, true, ◌≤◌, length};
+ghost use Rattle.std.specs.Prelude.{◌≡◌, true, ◌≤◌, length, IfSome};
 ghost use Rattle.text_strings.specs.InString.{Inside};
 ghost use Rattle.reference_digests.specs.Readings.{DigestAt, PlainDigest};
 ghost use Rattle.reference.specs.Readings.{SignerAt, ManifestAt};
 
-use reference::id::Id;
 use reference::layer::Layer;
-use reference::rule::{Manifest, Rule, Signer};
-use reference_digests::algorithm::{Algorithm, Known};
-use text::Checked;
+use reference::rule::{Manifest, Signer};
+use reference_digests::algorithm::Algorithm;
 use text_view::Kind;
 
 // Where the content of a string begins, in a text that is one.
-#[derive(Clone, Copy)]
-struct Place {
-    found: bool,
-    at: usize,
-}
-
-fn content_of(s: &[u8]) -> Place
-    ensures { result.found ≡ true → Inside s.now result.at }
+fn content_of(s: &[u8]) -> Option<usize>
+    ensures { IfSome result (λ at. Inside s.now at) }
 {
     match text::check(s) {
-        Checked::Refused(_) => Place {
-            found: false,
-            at: 0,
-        },
-        Checked::Accepted {
-            length: _,
-            canonical: _,
-        } => {
+        Err(_) => None,
+        Ok(_) => {
             let at = text_view::value::root(s);
             match text_view::value::kind(s, at) {
-                Kind::String => Place {
-                    found: true,
-                    at: at + 1,
-                },
-                _ => Place {
-                    found: false,
-                    at: 0,
-                },
+                Kind::String => Some(at + 1),
+                _ => None,
             }
         }
     }
@@ -125,16 +105,18 @@ fn show_layer(s: &[u8], i: usize)
     requires { Inside s.now i }
 {
     match reference::layer::read(s, i) {
-        Layer::Bad => show_bad(),
-        Layer::Digest(a, p) => {
+        None => show_bad(),
+        Some(Layer::Digest(a, p)) => {
             print_algorithm(b"digest ", a);
             show_digest_at(b" at ", s, p, a);
         }
-        Layer::Alias {
-            algorithm,
-            signer,
-            alias,
-        } => {
+        Some(
+            Layer::Alias {
+                algorithm,
+                signer,
+                alias,
+            },
+        ) => {
             print_algorithm(b"alias ", algorithm);
             show_digest_at(b" signer at ", s, signer, algorithm);
             print_at(b" name at ", alias);
@@ -169,32 +151,24 @@ fn show_rule(s: &[u8], i: usize)
     requires { Inside s.now i }
 {
     match reference::rule::read(s, i) {
-        Rule::Bad => show_bad(),
-        Rule::Accepts {
-            algorithm,
-            signer,
-            manifest,
-        } => {
-            print_algorithm(b"rule ", algorithm);
-            show_signer(s, algorithm, signer);
-            show_manifest(s, algorithm, manifest);
+        None => show_bad(),
+        Some(rule) => {
+            print_algorithm(b"rule ", rule.algorithm);
+            show_signer(s, rule.algorithm, rule.signer);
+            show_manifest(s, rule.algorithm, rule.manifest);
         }
     }
 }
 
 fn show_id(id: &[u8]) {
     match reference::id::read(id) {
-        Id::Bad => show_bad(),
-        Id::Image {
-            algorithm,
-            signer,
-            manifest,
-        } => {
-            print_algorithm(b"image ", algorithm);
-            print_at(b" signer at ", signer);
-            show_plain_digest(id, signer, algorithm);
-            print_at(b" digest at ", manifest);
-            show_plain_digest(id, manifest, algorithm);
+        None => show_bad(),
+        Some(image) => {
+            print_algorithm(b"image ", image.algorithm);
+            print_at(b" signer at ", image.signer);
+            show_plain_digest(id, image.signer, image.algorithm);
+            print_at(b" digest at ", image.manifest);
+            show_plain_digest(id, image.manifest, image.algorithm);
         }
     }
 }
@@ -202,10 +176,10 @@ fn show_id(id: &[u8]) {
 // The algorithm with that byte, and the length of its digests.
 fn show_byte(b: u8) {
     match Algorithm::from_byte(b) {
-        Known::Unknown => {
+        None => {
             io::write_all(1, b"no algorithm");
         }
-        Known::Is(a) => {
+        Some(a) => {
             print_algorithm(b"algorithm ", a);
             print_at(b" of ", a.digest_bytes());
         }
@@ -234,12 +208,10 @@ fn print_alias(good: bool) {
 
 // A string of a JSON text, by the letter that says what is asked.
 fn show_string(letter: u8, s: &[u8]) {
-    let p = content_of(s);
-    if !p.found {
+    let Some(at) = content_of(s) else {
         io::write_all(1, b"no string");
         return;
-    }
-    let at = p.at;
+    };
     match letter {
         b'L' => show_layer(s, at),
         b'R' => show_rule(s, at),

@@ -13,7 +13,7 @@ ghost use Rattle.std.specs.Prelude.{◌≤◌, ◌*◌, length};
 
 use answer::TextAnswer;
 use reference::ImageIndex;
-use test_lines::{FILL, Number, State};
+use test_lines::{FILL, State};
 
 // The longest output buffer that a line may ask for.
 const MOST_OUTPUT: usize = 4096;
@@ -30,13 +30,11 @@ fn print_load(a: TextAnswer) {
 
 // `load`: an Image ID, a space, and a manifest. Answers the used count after it.
 fn load(words: &[u8], store: &mut [u8], used: usize) -> usize {
-    let space = lines::find(words, 0, b' ');
-    if space == words.len() {
+    let Some(space) = words.iter().position(|b| *b == b' ') else {
         test_lines::print_bad();
         return used;
-    }
-    let from = space + 1;
-    let a = store::load(&words[0..space], &words[from..], store, used);
+    };
+    let a = store::load(&words[..space], &words[space + 1..], store, used);
     print_load(a);
     if a.number == 0 { a.value } else { used }
 }
@@ -58,13 +56,13 @@ fn judge(words: &[u8], store: &[u8], used: usize) {
     let mut space = [FILL; 8192];
     let report: &mut [u8] = &mut space;
     match test_lines::decimal(words) {
-        Number::Bad => test_lines::print_bad(),
-        Number::Is(n) => {
+        None => test_lines::print_bad(),
+        Some(n) => {
             if report.len() < n {
                 test_lines::print_bad();
                 return;
             }
-            judge_into(store, used, &mut report[0..n]);
+            judge_into(store, used, &mut report[..n]);
         }
     }
 }
@@ -100,42 +98,38 @@ fn with_list(hex: &[u8], store: &[u8], used: usize, place: usize, out: &mut [u8]
         test_lines::print_bad();
         return;
     }
-    resolve_into(hex, &mut list[0..n], store, used, place, out);
+    resolve_into(hex, &mut list[..n], store, used, place, out);
 }
 
 // How long the output buffer is, a space, and the layer list.
 fn with_buffer(words: &[u8], store: &[u8], used: usize, place: usize) {
     let mut space = [FILL; MOST_OUTPUT];
     let out: &mut [u8] = &mut space;
-    let end = lines::find(words, 0, b' ');
-    if end == words.len() {
+    let Some(space) = words.iter().position(|b| *b == b' ') else {
         test_lines::print_bad();
         return;
-    }
-    let from = end + 1;
-    match test_lines::decimal(&words[0..end]) {
-        Number::Bad => test_lines::print_bad(),
-        Number::Is(n) => {
+    };
+    match test_lines::decimal(&words[..space]) {
+        None => test_lines::print_bad(),
+        Some(n) => {
             if out.len() < n {
                 test_lines::print_bad();
                 return;
             }
-            with_list(&words[from..], store, used, place, &mut out[0..n]);
+            with_list(&words[space + 1..], store, used, place, &mut out[..n]);
         }
     }
 }
 
 // `resolve`: the place of an image, a space, and what follows.
 fn resolve(words: &[u8], store: &[u8], used: usize) {
-    let end = lines::find(words, 0, b' ');
-    if end == words.len() {
+    let Some(space) = words.iter().position(|b| *b == b' ') else {
         test_lines::print_bad();
         return;
-    }
-    let from = end + 1;
-    match test_lines::decimal(&words[0..end]) {
-        Number::Bad => test_lines::print_bad(),
-        Number::Is(place) => with_buffer(&words[from..], store, used, place),
+    };
+    match test_lines::decimal(&words[..space]) {
+        None => test_lines::print_bad(),
+        Some(place) => with_buffer(&words[space + 1..], store, used, place),
     }
 }
 
@@ -144,20 +138,16 @@ fn obey(line: &[u8], buffer: &mut [u8], t: State) -> State
     requires { t.size ≤ length buffer.old }
     ensures { result.size ≤ length buffer.old }
 {
-    let size = t.size;
-    let loaded = test_lines::after(line, b"load ");
-    if 0 < loaded {
-        let used = load(&line[loaded..], &mut buffer[0..size], t.used);
-        return State { size, used };
+    if let Some(words) = line.strip_prefix(b"load ") {
+        let used = load(words, &mut buffer[..t.size], t.used);
+        return State { used, ..t };
     }
-    let judged = test_lines::after(line, b"judge ");
-    if 0 < judged {
-        judge(&line[judged..], &buffer[0..size], t.used);
+    if let Some(words) = line.strip_prefix(b"judge ") {
+        judge(words, &buffer[..t.size], t.used);
         return t;
     }
-    let resolved = test_lines::after(line, b"resolve ");
-    if 0 < resolved {
-        resolve(&line[resolved..], &buffer[0..size], t.used);
+    if let Some(words) = line.strip_prefix(b"resolve ") {
+        resolve(words, &buffer[..t.size], t.used);
         return t;
     }
     test_lines::obey(line, buffer, t)
@@ -167,6 +157,7 @@ fn obey(line: &[u8], buffer: &mut [u8], t: State) -> State
 fn obey_all(s: &[u8], buffer: &mut [u8]) {
     let mut t = State { size: 0, used: 0 };
     let mut start = 0;
+    // no `for` counts `start`: it goes on after the line that was found
     while start < s.len() {
         let end = lines::find(s, start, b'\n');
         t = obey(&s[start..end], buffer, t);

@@ -1,4 +1,5 @@
 -- The keys that the checking of a text leaves, and what the writing of its form asks of them.
+use Rattle.std.specs.Prelude.{Result, Err, Ok}
 use Prim.Native.Nat.{ℕ}
 use mathlib.Core.Path.{◌≡◌, refl, sym, ap, subst, ◌∙◌}
 use mathlib.Core.List.{List, [], ◌∷◌}
@@ -20,22 +21,22 @@ use Rattle.text_canonical.proofs.Collect.{object_opened}
 use Rattle.text_canonical.proofs.Given.{given}
 use Rattle.text.specs.Keys.{RootKeys, refused_text, with_count}
 use Rattle.text.specs.declared.Fault.{Fault}
-use Rattle.text.specs.declared.Checked.{Checked}
-use Rattle.text.specs.declared.Checked.TheVariants.{Accepted, Refused}
 use Rattle.text.specs.declared.CheckedWithKeys.{CheckedWithKeys}
+use Rattle.text.specs.Accepted.{accepted_text}
+use Rattle.text.specs.declared.Accepted.{Accepted}
 
 -- What is known of a text that is refused has the refusal as its answer, and leaves no keys.
-pub refused_keys : (s keys : List ℕ) (x : Checked) (r : CheckedWithKeys) (f : Fault) → r ≡ refused_text f → Refused f ≡ x
+pub refused_keys : (s keys : List ℕ) (x : Result Accepted Fault) (r : CheckedWithKeys) (f : Fault) → r ≡ refused_text f → Err f ≡ x
     → (r.answer ≡ x) × RootKeys s r.answer r.count keys
 refused_keys s keys x r f e q = subst (λ (y : CheckedWithKeys). (y.answer ≡ x) × RootKeys s y.answer y.count keys) (sym e) (q, refl)
 
 -- the count is kept where the text is taken
-pub taken_count : (x : Checked) (n m : ℕ) (c : Bool) → x ≡ Accepted m c → ◌≡◌ {A = CheckedWithKeys} (record { answer = x; count = n }) (with_count x n)
+pub taken_count : (x : Result Accepted Fault) (n m : ℕ) (c : Bool) → x ≡ accepted_text m c → ◌≡◌ {A = CheckedWithKeys} (record { answer = x; count = n }) (with_count x n)
 taken_count x n m c e = rw e
 
 -- For a text that is refused, whatever the count of keys, what is known is the refusal without keys.
-pub refused_count : (x : Checked) (n : ℕ) (f : Fault) (r : CheckedWithKeys) → x ≡ Refused f → r ≡ refused_text f → r ≡ with_count x n
-refused_count x n f r e q = q ∙ sym (ap (λ (y : Checked). with_count y n) e)
+pub refused_count : (x : Result Accepted Fault) (n : ℕ) (f : Fault) (r : CheckedWithKeys) → x ≡ Err f → r ≡ refused_text f → r ≡ with_count x n
+refused_count x n f r e q = q ∙ sym (ap (λ (y : Result Accepted Fault). with_count y n) e)
 
 -- how many keys a text's value has itself, as the scan counts them
 pub own_keys : (s : List ℕ) (f : ScannedValue) (p : IsValue s (read_text 8 s) f) (t : Syntax) (q : List ℕ) → read_text 8 s ≡ found t q → f.count ≡ own_key_count t
@@ -45,12 +46,12 @@ own_keys s f p t q e =
     p.count ∙ ap own_key_count h
 
 -- the keys of a text that was read, whatever its faults are
-pub root_keys : (s keys : List ℕ) (x : Checked) (n : ℕ) (r : CheckedWithKeys) → r ≡ with_count x n → ((t : Syntax) (q : List ℕ)
+pub root_keys : (s keys : List ℕ) (x : Result Accepted Fault) (n : ℕ) (r : CheckedWithKeys) → r ≡ with_count x n → ((t : Syntax) (q : List ℕ)
     → read_text 8 s ≡ found t q → n ≡ own_key_count t)
     → KeysOf s (read_text 8 s) n keys → (r.answer ≡ x) × RootKeys s r.answer r.count keys
-root_keys s keys (Accepted m c) n r e h k = subst (λ (y : CheckedWithKeys). (y.answer ≡ Accepted m c)
+root_keys s keys (Ok a) n r e h k = subst (λ (y : CheckedWithKeys). (y.answer ≡ Ok a)
     × RootKeys s y.answer y.count keys) (sym e) (refl, (h, k))
-root_keys s keys (Refused f) n r e h k = refused_keys s keys (Refused f) r f e refl
+root_keys s keys (Err f) n r e h k = refused_keys s keys (Err f) r f e refl
 
 -- the keys of the object that is a text's value, at its position
 pub root_sorted : (s : List ℕ) (at n : ℕ) (keys : List ℕ) (t : Syntax) → At s at (spaces s) → read_text 8 s ≡ found t [] → KeysOf s (read_text 8 s) n keys

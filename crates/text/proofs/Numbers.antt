@@ -1,4 +1,5 @@
 -- The number that checking answers is the lowest of the questions that apply.
+use Rattle.std.specs.Prelude.{Result, Ok, Err}
 use Prim.Native.Nat.{ℕ}
 use mathlib.Core.Path.{◌≡◌, refl, sym, ◌∙◌}
 use mathlib.Core.List.{List}
@@ -7,8 +8,6 @@ use native.Mathlib.Omega.{arith}
 use lib.Dec.{ltb}
 use Rattle.laws.proofs.Order.{by_test}
 use Rattle.text_utf8.specs.Utf8.{utf8, verdict}
-use Rattle.text_utf8.specs.declared.Verdict.{Verdict}
-use Rattle.text_utf8.specs.declared.Verdict.TheVariants.{WellFormed, Bad}
 use Rattle.text_utf8.proofs.Place.{verdict_well_formed}
 use Rattle.text_json.specs.Syntax.{Syntax}
 use Rattle.text_json.specs.Read.{Read, found, stuck, read_text}
@@ -44,7 +43,7 @@ is_utf8 : (s : List ℕ) → utf8 s ≡ true → not_utf8 s ≡ false
 unfolding not_utf8
 is_utf8 s e = rw e
 
-is_not_utf8 : (s : List ℕ) (k : ℕ) → verdict s ≡ Bad k → not_utf8 s ≡ true
+is_not_utf8 : (s : List ℕ) (k : ℕ) → verdict s ≡ Err k → not_utf8 s ≡ true
 unfolding not_utf8
 is_not_utf8 s k e =
     by_test (utf8 s) (λ f. let g = (verdict_well_formed s).1 f in let z : ◌≡◌ {A = ℕ} 0 1 = cc in absurd (omega arith)) (λ f. rw f)
@@ -54,6 +53,6 @@ pub number_checked : (s : List ℕ) → number_of (checked s) ≡ text_number s
 unfolding checked by_verdict not_json bad_string bad_number same_keys
 number_checked s = by_test (is_too_long s) (λ e. rw (e, checked) (sym (number_long s e))) (λ e. rw (e, checked) (go (verdict s) refl e))
   where
-    go : (v : Verdict) → verdict s ≡ v → is_too_long s ≡ false → number_of (by_verdict s v) ≡ text_number s
-    go WellFormed e f = tree_number s (read_text 8 s) ∙ sym (number_after s f (is_utf8 s ((verdict_well_formed s).0 e)))
-    go (Bad k) e f = sym (number_utf8 s f (is_not_utf8 s k e))
+    go : (v : Result (Unit {0}) ℕ) → verdict s ≡ v → is_too_long s ≡ false → number_of (by_verdict s v) ≡ text_number s
+    go (Ok tt) e f = tree_number s (read_text 8 s) ∙ sym (number_after s f (is_utf8 s ((verdict_well_formed s).0 e)))
+    go (Err k) e f = sym (number_utf8 s f (is_not_utf8 s k e))

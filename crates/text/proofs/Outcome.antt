@@ -1,4 +1,5 @@
 -- What checking says of the answers of canonical and is_canonical.
+use Rattle.std.specs.Prelude.{Result, Ok, Err}
 use Prim.Native.Nat.{ℕ, ◌<◌, ◌≤◌}
 use mathlib.Core.Path.{◌≡◌, refl, sym, ap, ◌∙◌}
 use mathlib.Core.Logic.{◌⊎◌, ⊎_elim}
@@ -13,8 +14,6 @@ use Rattle.laws.specs.Order.{same}
 use Rattle.laws.proofs.Order.{by_test, same_eq}
 use Rattle.text_utf8.specs.Utf8.{verdict}
 use Rattle.text_utf8.proofs.Ranges.{and_both}
-use Rattle.text_utf8.specs.declared.Verdict.{Verdict}
-use Rattle.text_utf8.specs.declared.Verdict.TheVariants.{WellFormed, Bad}
 use Rattle.text_json.specs.Syntax.{Syntax}
 use Rattle.text_json.specs.Read.{Read, found, stuck, read_text}
 use Rattle.text_content.specs.Fault.{string_fault, number_fault, key_fault}
@@ -23,10 +22,10 @@ use Rattle.text.specs.Answer.{fault_number, by_faults, by_tree, by_verdict, chec
 use Rattle.text.specs.Answer.{canonical_bytes, is_canonical}
 use Rattle.text.specs.declared.Fault.{Fault}
 use Rattle.text.specs.declared.Fault.TheVariants.{TooLong, NotUtf8, NotJson, BadString, BadNumber, SameKeys}
-use Rattle.text.specs.declared.Checked.{Checked}
-use Rattle.text.specs.declared.Checked.TheVariants.{Accepted, Refused}
 use Rattle.text.proofs.Numbers.{number_checked}
 use Rattle.text.proofs.Taken.{taken, form_short, text_small}
+use Rattle.text.specs.Accepted.{accepted_text}
+use Rattle.text.specs.declared.Accepted.{Accepted}
 
 -- the number of a fault is not 0
 fault_positive : (f : Fault) → 0 < fault_number f
@@ -42,9 +41,9 @@ pub refused_positive : (f : Fault) (n : ℕ) → n ≡ fault_number f → 0 < n
 refused_positive f n e = let h = fault_positive f in omega arith
 
 -- what is taken has the length of its form, and whether it is its form
-data Outcome (s f : List ℕ) : Checked → Type 0 where
-  is_refused : {x : Fault} → Outcome s f (Refused x)
-  is_accepted : Outcome s f (Accepted (length f) (same f s))
+data Outcome (s f : List ℕ) : Result Accepted Fault → Type 0 where
+  is_refused : {x : Fault} → Outcome s f (Err x)
+  is_accepted : Outcome s f (accepted_text (length f) (same f s))
 
 told_by_tree : (s : List ℕ) (x : Read Syntax) → Outcome s (form_of x) (by_tree s x)
 unfolding by_tree by_faults form_of
@@ -58,20 +57,27 @@ outcome : (s : List ℕ) → Outcome s (form s) (checked s)
 unfolding checked by_verdict form
 outcome s = by_test (is_too_long s) (λ e. rw (e, checked) is_refused) (λ e. rw (e, checked) (go (verdict s)))
   where
-    go : (v : Verdict) → Outcome s (form_of (read_text 8 s)) (by_verdict s v)
-    go WellFormed = told_by_tree s (read_text 8 s)
-    go (Bad k) = is_refused
+    go : (v : Result (Unit {0}) ℕ) → Outcome s (form_of (read_text 8 s)) (by_verdict s v)
+    go (Ok tt) = told_by_tree s (read_text 8 s)
+    go (Err k) = is_refused
 
-holds : (s f : List ℕ) (x : Checked) (n : ℕ) (c : Bool) → Outcome s f x → x ≡ Accepted n c → (n ≡ length f) × (c ≡ same f s)
+-- what is told of a text that is taken
+abbrev length_of : Result Accepted Fault → ℕ
+length_of (Ok a) = a.length
+length_of (Err f) = 0
+
+abbrev flag_of : Result Accepted Fault → Bool
+flag_of (Ok a) = a.canonical
+flag_of (Err f) = false
+
+holds : (s f : List ℕ) (x : Result Accepted Fault) (n : ℕ) (c : Bool) → Outcome s f x → x ≡ accepted_text n c → (n ≡ length f) × (c ≡ same f s)
 holds s f x n c is_accepted e =
-    let l : length f ≡ n = cc in
-    let d : same f s ≡ c = cc in
-    (sym l, sym d)
+    (sym (ap length_of e), sym (ap flag_of e))
 holds s f x n c is_refused e = let z : ◌≡◌ {A = ℕ} 0 1 = cc in absurd (omega arith)
 
 module _ (s out : List ℕ) where
   -- a refusal by 1 to 6
-  module _ (f : Fault) (e : checked s ≡ Refused f) where
+  module _ (f : Fault) (e : checked s ≡ Err f) where
     number_is : text_number s ≡ fault_number f
     number_is = sym (number_checked s) ∙ ap number_of e
 
@@ -81,7 +87,7 @@ module _ (s out : List ℕ) where
     -- Where checking refuses a text, canonical's number is that of the fault.
     pub refused_number : fault_number f ≡ canonical_number s (length out)
     unfolding canonical_number
-    refused_number = sym (ap (λ (x : Checked). number_within x (length out)) e)
+    refused_number = sym (ap (λ (x : Result Accepted Fault). number_within x (length out)) e)
 
   -- any refusal
   module _ (n : ℕ) (h : 0 < n) (e : n ≡ canonical_number s (length out)) where
@@ -98,7 +104,7 @@ module _ (s out : List ℕ) where
     unfolding canonical_bytes
     refused_bytes = sym (rw (is_a_number, canonical_bytes))
 
-  module _ (n : ℕ) (c : Bool) (e : checked s ≡ Accepted n c) where
+  module _ (n : ℕ) (c : Bool) (e : checked s ≡ accepted_text n c) where
     -- A text that checking accepts gets the number 0.
     pub accepted_number : text_number s ≡ 0
     accepted_number = sym (number_checked s) ∙ ap number_of e
@@ -106,12 +112,12 @@ module _ (s out : List ℕ) where
     -- 20
     pub too_small : length out < n → 20 ≡ canonical_number s (length out)
     unfolding canonical_number
-    too_small h = sym (ap (λ (x : Checked). number_within x (length out)) e ∙ rw (lt-ltb (length out) n h, number_within))
+    too_small h = sym (ap (λ (x : Result Accepted Fault). number_within x (length out)) e ∙ rw (lt-ltb (length out) n h, number_within))
 
     -- If the form of an accepted text fits in the buffer, canonical's number is 0.
     pub done_number : n ≤ length out → 0 ≡ canonical_number s (length out)
     unfolding canonical_number
-    done_number h = sym (ap (λ (x : Checked). number_within x (length out)) e ∙ rw (le-ltb (length out) n h, number_within))
+    done_number h = sym (ap (λ (x : Result Accepted Fault). number_within x (length out)) e ∙ rw (le-ltb (length out) n h, number_within))
 
     module _ (h : n ≤ length out) where
       is_zero : eqb (canonical_number s (length out)) 0 ≡ true
@@ -135,7 +141,7 @@ unfolding canonical_number
 canonical_lowest s m = go (checked s) (text_number s) (number_checked s) (outcome s)
   where
     go :
-        (x : Checked) (n : ℕ) → number_of x ≡ n → Outcome s (form s) x
+        (x : Result Accepted Fault) (n : ℕ) → number_of x ≡ n → Outcome s (form s) x
         → number_within x m ≡ elim (eqb n 0) [ true ↦ elim (ltb m (length (form s))) [ true ↦ 20 | false ↦ 0 ] | false ↦ n ]
     go x n e (is_refused {x = f}) = rw (ne_eqb n 0 (λ z. omega (arith, fault_positive f, e))) e
     go x n e is_accepted = rw (eq-eqb n 0 (sym e))
@@ -192,17 +198,17 @@ length_within s m =
         (λ f. ltb-false m (length (form s)) f)
 
 -- the length that is told of a text that is taken is that of its form
-pub accepted_length : (s : List ℕ) (n : ℕ) (c : Bool) → checked s ≡ Accepted n c → n ≡ length (form s)
+pub accepted_length : (s : List ℕ) (n : ℕ) (c : Bool) → checked s ≡ accepted_text n c → n ≡ length (form s)
 accepted_length s n c e = (holds s (form s) (checked s) n c (outcome s) e).0
 
 -- the flag of a text that is taken says whether it is its own form
-pub accepted_flag : (s : List ℕ) (n : ℕ) (c : Bool) → checked s ≡ Accepted n c → c ≡ is_canonical s
+pub accepted_flag : (s : List ℕ) (n : ℕ) (c : Bool) → checked s ≡ accepted_text n c → c ≡ is_canonical s
 unfolding is_canonical
 accepted_flag s n c e =
     (holds s (form s) (checked s) n c (outcome s) e).1 ∙ sym (rw (eq-eqb (text_number s) 0 (accepted_number s [] n c e)))
 
 -- a text that is refused is not
-pub refused_flag : (s : List ℕ) (f : Fault) → checked s ≡ Refused f → is_canonical s ≡ false
+pub refused_flag : (s : List ℕ) (f : Fault) → checked s ≡ Err f → is_canonical s ≡ false
 unfolding is_canonical
 refused_flag s f e = rw (not_zero s [] f e)
 
@@ -212,13 +218,13 @@ unfolding is_canonical
 canonical_own s e = same_eq (form s) s (and_both (eqb (text_number s) 0) (same (form s) s) e).1
 
 -- and is taken as one.
-pub canonical_checked : (s : List ℕ) → is_canonical s ≡ true → checked s ≡ Accepted (length s) true
+pub canonical_checked : (s : List ℕ) → is_canonical s ≡ true → checked s ≡ accepted_text (length s) true
 unfolding is_canonical
 canonical_checked s e = by_outcome (checked s) (number_checked s) (outcome s)
   where
     parts : (eqb (text_number s) 0 ≡ true) × (same (form s) s ≡ true)
     parts = and_both (eqb (text_number s) 0) (same (form s) s) e
 
-    by_outcome : (x : Checked) → number_of x ≡ text_number s → Outcome s (form s) x → x ≡ Accepted (length s) true
+    by_outcome : (x : Result Accepted Fault) → number_of x ≡ text_number s → Outcome s (form s) x → x ≡ accepted_text (length s) true
     by_outcome x n (is_refused {x = f}) = absurd (omega (arith, fault_positive f, eqb-true (text_number s) 0 parts.0))
     by_outcome x n is_accepted = rw (parts.1, canonical_own s e)

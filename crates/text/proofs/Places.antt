@@ -1,4 +1,5 @@
 -- Where the fault of a text stands (request 2026-01): what the offsets for the numbers 2 to 6 say of the text.
+use Rattle.std.specs.Prelude.{Result, Ok, Err}
 use Prim.Native.Nat.{ℕ, ◌-◌, ◌≤◌, ◌<◌}
 use native.Mathlib.Omega.{arith}
 use mathlib.Core.Path.{◌≡◌, refl, sym, ap, subst, ◌∙◌}
@@ -10,8 +11,6 @@ use lib.ListN.{length, drop}
 use borrow.Author.Tests.{ltb-false, ltb-true}
 use Rattle.laws.proofs.Order.{by_test, false_true}
 use Rattle.text_utf8.specs.Utf8.{verdict}
-use Rattle.text_utf8.specs.declared.Verdict.{Verdict}
-use Rattle.text_utf8.specs.declared.Verdict.TheVariants.{WellFormed, Bad}
 use Rattle.text_utf8.proofs.Place.{Longest, verdict_bad}
 use Rattle.text_json.specs.Bytes.{AllBytes}
 use Rattle.text_json.specs.Syntax.{Syntax}
@@ -25,19 +24,19 @@ use Rattle.text.specs.Places.{Within, LongestStart, FaultyString, FaultyNumber, 
 use Rattle.text.specs.Answer.{fault_place, number_of, place_of, by_faults, by_tree, by_verdict, checked, text_place, number_within, canonical_number}
 use Rattle.text.specs.declared.Fault.{Fault}
 use Rattle.text.specs.declared.Fault.TheVariants.{TooLong, NotUtf8, NotJson, BadString, BadNumber, SameKeys}
-use Rattle.text.specs.declared.Checked.{Checked}
-use Rattle.text.specs.declared.Checked.TheVariants.{Accepted, Refused}
 use Rattle.text.proofs.Numbers.{number_checked}
 use Rattle.text.proofs.Outcome.{refused_positive}
 use Rattle.text.proofs.FirstFault.{first_string, first_number, first_key, first_string_quoted, first_key_quoted}
+use Rattle.text.specs.Accepted.{accepted_text}
+use Rattle.text.specs.declared.Accepted.{Accepted}
 
 -- A text that is refused has the place of its fault.
-pub refused_place : (s : List ℕ) (f : Fault) → checked s ≡ Refused f → fault_place f ≡ text_place s
+pub refused_place : (s : List ℕ) (f : Fault) → checked s ≡ Err f → fault_place f ≡ text_place s
 unfolding text_place
 refused_place s f e = sym (ap place_of e)
 
 -- A text that is taken has the place 0.
-pub accepted_place : (s : List ℕ) (n : ℕ) (c : Bool) → checked s ≡ Accepted n c → 0 ≡ text_place s
+pub accepted_place : (s : List ℕ) (n : ℕ) (c : Bool) → checked s ≡ accepted_text n c → 0 ≡ text_place s
 unfolding text_place
 accepted_place s n c e = sym (ap place_of e)
 
@@ -46,9 +45,9 @@ pub done_place : (s : List ℕ) (m : ℕ) → canonical_number s m ≡ 0 → tex
 unfolding canonical_number text_place
 done_place s m z = go (checked s) z
   where
-    go : (x : Checked) → number_within x m ≡ 0 → place_of x ≡ 0
-    go (Accepted n c) z = refl
-    go (Refused f) z = let h = refused_positive f 0 (sym z) in absurd (omega arith)
+    go : (x : Result Accepted Fault) → number_within x m ≡ 0 → place_of x ≡ 0
+    go (Ok a) z = refl
+    go (Err f) z = let h = refused_positive f 0 (sym z) in absurd (omega arith)
 
 faults_small : (n : ℕ) (c : Bool) (t : Syntax) → place_of (by_faults n c t) ≤ n
 unfolding by_faults
@@ -68,19 +67,19 @@ unfolding text_place checked by_verdict is_too_long
 place_small s =
     by_test (ltb 16384 (length s)) (λ e. rw (e, checked) (omega arith)) (λ e. rw (e, checked) (go (verdict s) refl (ltb-false 16384 (length s) e)))
   where
-    go : (v : Verdict) → verdict s ≡ v → length s ≤ 16384 → place_of (by_verdict s v) ≤ 16384
-    go WellFormed q h = omega (arith, tree_small s (read_text 8 s))
-    go (Bad k) q h = omega (arith, (verdict_bad s k q).inside)
+    go : (v : Result (Unit {0}) ℕ) → verdict s ≡ v → length s ≤ 16384 → place_of (by_verdict s v) ≤ 16384
+    go (Ok tt) q h = omega (arith, tree_small s (read_text 8 s))
+    go (Err k) q h = omega (arith, (verdict_bad s k q).inside)
 
 -- What checking found, where it found it.
-data Told (s : List ℕ) : Checked → Type 0 where
-  too_long : Told s (Refused TooLong)
-  is_not_utf8 : {k : ℕ} → verdict s ≡ Bad k → Told s (Refused (NotUtf8 k))
-  not_json : {r : List ℕ} → read_text 8 s ≡ stuck r → Told s (Refused (NotJson (length s - length r)))
-  bad_string : {t : Syntax} {r : List ℕ} → read_text 8 s ≡ found t r → 0 < string_fault t → Told s (Refused (BadString (length s - string_fault t)))
-  bad_number : {t : Syntax} {r : List ℕ} → read_text 8 s ≡ found t r → 0 < number_fault t → Told s (Refused (BadNumber (length s - number_fault t)))
-  same_keys : {t : Syntax} {r : List ℕ} → read_text 8 s ≡ found t r → 0 < key_fault t → Told s (Refused (SameKeys (length s - key_fault t)))
-  taken : {n : ℕ} {c : Bool} → Told s (Accepted n c)
+data Told (s : List ℕ) : Result Accepted Fault → Type 0 where
+  too_long : Told s (Err TooLong)
+  is_not_utf8 : {k : ℕ} → verdict s ≡ Err k → Told s (Err (NotUtf8 k))
+  not_json : {r : List ℕ} → read_text 8 s ≡ stuck r → Told s (Err (NotJson (length s - length r)))
+  bad_string : {t : Syntax} {r : List ℕ} → read_text 8 s ≡ found t r → 0 < string_fault t → Told s (Err (BadString (length s - string_fault t)))
+  bad_number : {t : Syntax} {r : List ℕ} → read_text 8 s ≡ found t r → 0 < number_fault t → Told s (Err (BadNumber (length s - number_fault t)))
+  same_keys : {t : Syntax} {r : List ℕ} → read_text 8 s ≡ found t r → 0 < key_fault t → Told s (Err (SameKeys (length s - key_fault t)))
+  taken : {a : Accepted} → Told s (Ok a)
 
 told_tree : (s : List ℕ) (x : Read Syntax) → read_text 8 s ≡ x → Told s (by_tree s x)
 unfolding by_tree by_faults
@@ -94,12 +93,12 @@ told : (s : List ℕ) → Told s (checked s)
 unfolding checked by_verdict
 told s = by_test (is_too_long s) (λ e. rw (e, checked) too_long) (λ e. rw (e, checked) (go (verdict s) refl))
   where
-    go : (v : Verdict) → verdict s ≡ v → Told s (by_verdict s v)
-    go WellFormed e = told_tree s (read_text 8 s) refl
-    go (Bad k) e = is_not_utf8 e
+    go : (v : Result (Unit {0}) ℕ) → verdict s ≡ v → Told s (by_verdict s v)
+    go (Ok tt) e = told_tree s (read_text 8 s) refl
+    go (Err k) e = is_not_utf8 e
 
 module _ (s : List ℕ) where
-  utf8_told : (x : Checked) → Told s x → number_of x ≡ 2 → Longest s (place_of x)
+  utf8_told : (x : Result Accepted Fault) → Told s x → number_of x ≡ 2 → Longest s (place_of x)
   utf8_told _ too_long e = absurd (omega arith)
   utf8_told _ (is_not_utf8 {k} v) e = verdict_bad s k v
   utf8_told _ (not_json r) e = absurd (omega arith)
@@ -108,7 +107,7 @@ module _ (s : List ℕ) where
   utf8_told _ (same_keys r l) e = absurd (omega arith)
   utf8_told _ taken e = absurd (omega arith)
 
-  json_told : AllBytes s → (x : Checked) → Told s x → number_of x ≡ 3 → LongestStart s (place_of x)
+  json_told : AllBytes s → (x : Result Accepted Fault) → Told s x → number_of x ≡ 3 → LongestStart s (place_of x)
   json_told b _ too_long e = absurd (omega arith)
   json_told b _ (is_not_utf8 v) e = absurd (omega arith)
   json_told b _ (not_json {r} h) e =
@@ -126,7 +125,7 @@ module _ (s : List ℕ) where
   json_told b _ (same_keys r l) e = absurd (omega arith)
   json_told b _ taken e = absurd (omega arith)
 
-  string_told : (x : Checked) → Told s x → number_of x ≡ 4 → FirstAt FaultyString s (place_of x)
+  string_told : (x : Result Accepted Fault) → Told s x → number_of x ≡ 4 → FirstAt FaultyString s (place_of x)
   string_told _ too_long e = absurd (omega arith)
   string_told _ (is_not_utf8 v) e = absurd (omega arith)
   string_told _ (not_json h) e = absurd (omega arith)
@@ -135,7 +134,7 @@ module _ (s : List ℕ) where
   string_told _ (same_keys r l) e = absurd (omega arith)
   string_told _ taken e = absurd (omega arith)
 
-  number_told : (x : Checked) → Told s x → number_of x ≡ 5 → FirstAt FaultyNumber s (place_of x)
+  number_told : (x : Result Accepted Fault) → Told s x → number_of x ≡ 5 → FirstAt FaultyNumber s (place_of x)
   number_told _ too_long e = absurd (omega arith)
   number_told _ (is_not_utf8 v) e = absurd (omega arith)
   number_told _ (not_json h) e = absurd (omega arith)
@@ -144,7 +143,7 @@ module _ (s : List ℕ) where
   number_told _ (same_keys r l) e = absurd (omega arith)
   number_told _ taken e = absurd (omega arith)
 
-  key_told : (x : Checked) → Told s x → number_of x ≡ 6 → FirstAt RepeatedKey s (place_of x)
+  key_told : (x : Result Accepted Fault) → Told s x → number_of x ≡ 6 → FirstAt RepeatedKey s (place_of x)
   key_told _ too_long e = absurd (omega arith)
   key_told _ (is_not_utf8 v) e = absurd (omega arith)
   key_told _ (not_json h) e = absurd (omega arith)
@@ -153,7 +152,7 @@ module _ (s : List ℕ) where
   key_told _ (same_keys {t} {r} h l) e = first_key (text_sound 8 s t r h) l
   key_told _ taken e = absurd (omega arith)
 
-  other_told : (x : Checked) → Told s x → (number_of x < 2) ⊎ (6 < number_of x) → place_of x ≡ 0
+  other_told : (x : Result Accepted Fault) → Told s x → (number_of x < 2) ⊎ (6 < number_of x) → place_of x ≡ 0
   other_told _ too_long e = refl
   other_told _ (is_not_utf8 v) e = absurd (⊎_elim (λ h. omega arith) (λ h. omega arith) e)
   other_told _ (not_json h) e = absurd (⊎_elim (λ h. omega arith) (λ h. omega arith) e)

@@ -1,4 +1,5 @@
 -- The value of a text that is taken stands at its root. Assumes nothing.
+use Rattle.std.specs.Prelude.{Result}
 use Prim.Native.Nat.{ℕ, ◌≤◌}
 use mathlib.Core.Path.{◌≡◌, sym, ap, ◌∙◌}
 use mathlib.Core.List.{List}
@@ -10,13 +11,14 @@ use Rattle.text_json.specs.Syntax.{Syntax}
 use Rattle.text_json.specs.Grammar.{Text}
 use Rattle.text.specs.Answer.{checked, number_of}
 use Rattle.text.specs.Question.{text_number}
-use Rattle.text.specs.declared.Checked.{Checked}
-use Rattle.text.specs.declared.Checked.TheVariants.{Accepted}
 use Rattle.text.proofs.Numbers.{number_checked}
 use Rattle.text.proofs.Taken.{Taken, taken, taken_text}
 use Rattle.text_view.specs.Place.{ValueAt, Readable}
+use Rattle.text.specs.Accepted.{accepted_text}
+use Rattle.text.specs.declared.Accepted.{Accepted}
+use Rattle.text.specs.declared.Fault.{Fault}
 
-module _ (s : List ℕ) (r : Checked) (e : r ≡ checked s) (n : ℕ) (own : Bool) (f : r ≡ Accepted n own) where
+module _ (s : List ℕ) (r : Result Accepted Fault) (e : r ≡ checked s) (n : ℕ) (own : Bool) (f : r ≡ accepted_text n own) where
   -- A text that checking accepts gets the number 0.
   pub zero_number : text_number s ≡ 0
   zero_number = sym (number_checked s) ∙ ap number_of (sym e ∙ f)

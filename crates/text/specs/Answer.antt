@@ -1,9 +1,7 @@
 -- What checking a text answers, with document 01's number and the place of each fault; and what canonical answers and writes.
-use Rattle.std.specs.Prelude.{ℕ, ◌-◌, List, [], ◌++◌, Bool, true, false, ◌&&◌, length, drop, ltb, eqb}
+use Rattle.std.specs.Prelude.{ℕ, ◌-◌, List, [], ◌++◌, Bool, true, false, ◌&&◌, length, drop, ltb, eqb, Result, Ok, Err}
 use Rattle.laws.specs.Order.{same}
 use Rattle.text_utf8.specs.Utf8.{verdict}
-use Rattle.text_utf8.specs.declared.Verdict.{Verdict}
-use Rattle.text_utf8.specs.declared.Verdict.TheVariants.{WellFormed, Bad}
 use Rattle.text_json.specs.Syntax.{Syntax}
 use Rattle.text_json.specs.Read.{Read, found, stuck, read_text}
 use Rattle.text_content.specs.Value.{content}
@@ -12,8 +10,8 @@ use Rattle.text_content.specs.Fault.{string_fault, number_fault, key_fault}
 use Rattle.text.specs.Question.{is_too_long, text_number}
 use Rattle.text.specs.declared.Fault.{Fault}
 use Rattle.text.specs.declared.Fault.TheVariants.{TooLong, NotUtf8, NotJson, BadString, BadNumber, SameKeys}
-use Rattle.text.specs.declared.Checked.{Checked}
-use Rattle.text.specs.declared.Checked.TheVariants.{Accepted, Refused}
+use Rattle.text.specs.declared.Accepted.{Accepted}
+use Rattle.text.specs.Accepted.{accepted_text}
 
 -- the number of each fault in document 01's table ("What comes back")
 abbrev pub fault_number : Fault → ℕ
@@ -34,40 +32,40 @@ fault_place (BadNumber k) = k
 fault_place (SameKeys k) = k
 
 -- document 01's number for an answer, 0 where the text is taken
-abbrev pub number_of : Checked → ℕ
-number_of (Accepted n c) = 0
-number_of (Refused f) = fault_number f
+abbrev pub number_of : Result Accepted Fault → ℕ
+number_of (Ok a) = 0
+number_of (Err f) = fault_number f
 
 -- the offset of the fault that an answer tells, 0 where the text is taken
-abbrev pub place_of : Checked → ℕ
-place_of (Accepted n c) = 0
-place_of (Refused f) = fault_place f
+abbrev pub place_of : Result Accepted Fault → ℕ
+place_of (Ok a) = 0
+place_of (Err f) = fault_place f
 
 -- The answer for a text of n bytes with the syntax tree t, where c says whether it is its own form. A fault's offset is the text's length
 -- less what is left from the fault on.
-unfoldable pub by_faults : ℕ → Bool → Syntax → Checked
+unfoldable pub by_faults : ℕ → Bool → Syntax → Result Accepted Fault
 by_faults n c t =
     elim (ltb 0 (string_fault t)) [
-      | true ↦ Refused (BadString (n - string_fault t))
+      | true ↦ Err (BadString (n - string_fault t))
       | false ↦
           elim (ltb 0 (number_fault t)) [
-            | true ↦ Refused (BadNumber (n - number_fault t))
+            | true ↦ Err (BadNumber (n - number_fault t))
             | false ↦
-                elim (ltb 0 (key_fault t)) [ true ↦ Refused (SameKeys (n - key_fault t)) | false ↦ Accepted (length (canonical (content t))) c ]
+                elim (ltb 0 (key_fault t)) [ true ↦ Err (SameKeys (n - key_fault t)) | false ↦ accepted_text (length (canonical (content t))) c ]
           ]
     ]
 
-unfoldable pub by_tree : List ℕ → Read Syntax → Checked
+unfoldable pub by_tree : List ℕ → Read Syntax → Result Accepted Fault
 by_tree s (found t r) = by_faults (length s) (same (canonical (content t)) s) t
-by_tree s (stuck r) = Refused (NotJson (length s - length r))
+by_tree s (stuck r) = Err (NotJson (length s - length r))
 
-unfoldable pub by_verdict : List ℕ → Verdict → Checked
-by_verdict s WellFormed = by_tree s (read_text 8 s)
-by_verdict s (Bad k) = Refused (NotUtf8 k)
+unfoldable pub by_verdict : List ℕ → Result (Unit {0}) ℕ → Result Accepted Fault
+by_verdict s (Ok tt) = by_tree s (read_text 8 s)
+by_verdict s (Err k) = Err (NotUtf8 k)
 
 -- the fault of the lowest number that applies, or the length of the canonical form and whether the text is that form
-unfoldable pub checked : List ℕ → Checked
-checked s = elim (is_too_long s) [ true ↦ Refused TooLong | false ↦ by_verdict s (verdict s) ]
+unfoldable pub checked : List ℕ → Result Accepted Fault
+checked s = elim (is_too_long s) [ true ↦ Err TooLong | false ↦ by_verdict s (verdict s) ]
 
 -- request 2026-01: the offset of the fault for the numbers 2 to 6, and else 0
 unfoldable pub text_place : List ℕ → ℕ
@@ -82,9 +80,9 @@ unfoldable pub form : List ℕ → List ℕ
 form s = form_of (read_text 8 s)
 
 -- canonical's number by what checking answers, for a buffer of m bytes: that of the fault, or 20, output longer than the buffer
-abbrev pub number_within : Checked → ℕ → ℕ
-number_within (Refused f) m = fault_number f
-number_within (Accepted n c) m = elim (ltb m n) [ true ↦ 20 | false ↦ 0 ]
+abbrev pub number_within : Result Accepted Fault → ℕ → ℕ
+number_within (Err f) m = fault_number f
+number_within (Ok a) m = elim (ltb m a.length) [ true ↦ 20 | false ↦ 0 ]
 
 unfoldable pub canonical_number : List ℕ → ℕ → ℕ
 canonical_number s m = number_within (checked s) m

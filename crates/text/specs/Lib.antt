@@ -1,4 +1,5 @@
 pub mod Question
+pub mod Accepted
 pub mod Answer
 pub mod Keys
 pub mod Places

@@ -12,8 +12,6 @@ ghost use Rattle.text_canonical.specs.Space.{WritableRoot, WritesValue};
 ghost use Rattle.text_tokens.specs.Summary.{summary};
 
 use answer::TextAnswer;
-use text_tokens::Scanned;
-use text_utf8::Verdict;
 
 // The most bytes that a text may have.
 pub const MOST_BYTES: usize = 16384;
@@ -62,14 +60,14 @@ impl Fault {
     }
 }
 
-// A text that is taken, with the length of its canonical form and whether it is that form itself; or its fault.
+// A text that is taken: the length of its canonical form, and whether it is that form itself.
 #[derive(Clone, Copy)]
-pub enum Checked {
-    Accepted { length: usize, canonical: bool },
-    Refused(Fault),
+pub struct Accepted {
+    pub length: usize,
+    pub canonical: bool,
 }
 
-pub fn check(text: &[u8]) -> Checked
+pub fn check(text: &[u8]) -> Result<Accepted, Fault>
     ensures { result ≡ checked text.now }
 {
     let mut keys = [0u16; MOST_KEYS];
@@ -81,7 +79,7 @@ pub fn check(text: &[u8]) -> Checked
 // What checking answers, and how many keys the text's value has itself: 0 where it is no object or the text is refused. The keys are left sorted.
 #[derive(Clone, Copy)]
 pub struct CheckedWithKeys {
-    pub answer: Checked,
+    pub answer: Result<Accepted, Fault>,
     pub count: usize,
 }
 
@@ -90,7 +88,7 @@ fn refusal(fault: Fault) -> CheckedWithKeys
     ensures { result ≡ refused_text fault }
 {
     CheckedWithKeys {
-        answer: Checked::Refused(fault),
+        answer: Err(fault),
         count: 0,
     }
 }
@@ -105,8 +103,8 @@ pub fn check_with(text: &[u8], keys: &mut [u16], spare: &mut [u16]) -> CheckedWi
         return refusal(Fault::TooLong);
     }
     match text_utf8::check(text) {
-        Verdict::WellFormed => check_json(text, keys, spare),
-        Verdict::Bad(at) => refusal(Fault::NotUtf8(at)),
+        Ok(()) => check_json(text, keys, spare),
+        Err(at) => refusal(Fault::NotUtf8(at)),
     }
 }
 
@@ -116,8 +114,8 @@ fn check_json(text: &[u8], keys: &mut [u16], spare: &mut [u16]) -> CheckedWithKe
     ensures root_keys { RootKeys text.now result.answer result.count keys.new }
 {
     let f = match text_scan::text(text, keys, spare) {
-        Scanned::Value(f) => f,
-        Scanned::Stuck(at) => return refusal(Fault::NotJson(at)),
+        Ok(f) => f,
+        Err(at) => return refusal(Fault::NotJson(at)),
     };
     let sum = f.sum;
     let canonical = is_form(text.len(), sum);
@@ -136,34 +134,31 @@ fn is_form(len: usize, sum: text_tokens::Summary) -> bool
 }
 
 // The first fault of a text of that length, or the length of its canonical form.
-fn by_faults(len: usize, sum: text_tokens::Summary, canonical: bool) -> Checked
+fn by_faults(len: usize, sum: text_tokens::Summary, canonical: bool) -> Result<Accepted, Fault>
     ensures { (t : Syntax) → sum ≡ summary t → result ≡ by_faults len canonical t }
 {
     if 0 < sum.string {
-        return Checked::Refused(Fault::BadString(offset(len, sum.string)));
+        return Err(Fault::BadString(offset(len, sum.string)));
     }
     if 0 < sum.number {
-        return Checked::Refused(Fault::BadNumber(offset(len, sum.number)));
+        return Err(Fault::BadNumber(offset(len, sum.number)));
     }
     if 0 < sum.key {
-        return Checked::Refused(Fault::SameKeys(offset(len, sum.key)));
+        return Err(Fault::SameKeys(offset(len, sum.key)));
     }
-    Checked::Accepted {
+    Ok(Accepted {
         length: sum.size,
         canonical,
-    }
+    })
 }
 
 // The answer, with the number of keys where the text is taken.
-fn with_count(answer: Checked, count: usize) -> CheckedWithKeys
+fn with_count(answer: Result<Accepted, Fault>, count: usize) -> CheckedWithKeys
     ensures { result ≡ with_count answer count }
 {
     match answer {
-        Checked::Accepted {
-            length: _,
-            canonical: _,
-        } => CheckedWithKeys { answer, count },
-        Checked::Refused(fault) => refusal(fault),
+        Ok(_) => CheckedWithKeys { answer, count },
+        Err(fault) => refusal(fault),
     }
 }
 
@@ -202,12 +197,9 @@ pub fn canonical_with(
     let known = check_with(text, keys, spare);
     let answer = known.answer;
     match answer {
-        Checked::Refused(fault) => answer::refused_at(out, fault.number(), fault.place()),
-        Checked::Accepted {
-            length,
-            canonical: _,
-        } => {
-            if out.len() < length {
+        Err(fault) => answer::refused_at(out, fault.number(), fault.place()),
+        Ok(accepted) => {
+            if out.len() < accepted.length {
                 return answer::refused_at(out, 20, 0);
             }
             write_form(text, known.count, out, keys, spare)
@@ -256,10 +248,7 @@ pub fn is_canonical(text: &[u8]) -> bool
     ensures { result ≡ is_canonical text.now }
 {
     match check(text) {
-        Checked::Accepted {
-            length: _,
-            canonical,
-        } => canonical,
-        Checked::Refused(_) => false,
+        Ok(accepted) => accepted.canonical,
+        Err(_) => false,
     }
 }

@@ -71,6 +71,7 @@ fn write_array(
     let mut n = 1;
     let mut start = true;
     let mut i = at + 1;
+    // where an element ends is known once it is passed, so no `for` walks them
     loop {
         match text_view::value::read_item(s, i, depth - 1, false) {
             text_view::value::Item::At {
@@ -125,12 +126,10 @@ fn write_members(
 {
     out[0] = b'{';
     let mut n = 1;
-    let mut i = 0;
-    while i < count {
+    for i in 0..count {
         let key = keys[i] as usize;
         n = separate(out, n, i == 0);
         n += write_member(s, key, depth - 1, &mut out[n..], &mut keys[count..], spare);
-        i += 1;
     }
     out[n] = b'}';
     n + 1
@@ -201,8 +200,8 @@ fn digits_end(s: &[u8], at: usize) -> usize
 {
     let first = at + text_numbers::sign_size(s[at] == b'-');
     match text_numbers::int_part(s, first) {
-        text_numbers::Int::Digits { end, value: _ } => end,
-        text_numbers::Int::NoInt(end) => end,
+        Ok(digits) => digits.end,
+        Err(at) => at,
     }
 }
 
@@ -223,6 +222,7 @@ fn collect_keys(s: &[u8], at: usize, depth: usize, keys: &mut [u16]) -> usize
 {
     let mut n = 0;
     let mut i = at + 1;
+    // where a member ends is known once it is passed, so no `for` walks them
     loop {
         match text_view::value::read_item(s, i, depth - 1, true) {
             text_view::value::Item::At {

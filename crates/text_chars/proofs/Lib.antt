@@ -1,4 +1,5 @@
 pub mod CharSteps
+pub mod Digits
 pub mod Weights
 pub mod Plain
 pub mod Encoded

@@ -15,7 +15,7 @@ use Rattle.text_json.specs.Content.{is_high, is_low, is_pair, is_surrogate, pair
 use Rattle.text_json.specs.Scan.{ScansToken}
 use Rattle.text_json.specs.Size.{content_size, string_size}
 use Rattle.text_chars.specs.Measure.{Weight, weight, measure, add, paired}
-use Rattle.text_json.specs.declared.Scan.TheVariants.{Token, NoToken}
+use Rattle.std.specs.Prelude.{Ok, Err}
 use Rattle.text_chars.proofs.Encoded.{control_high, size_four}
 
 -- lists of bytes that stand one after the other
@@ -156,13 +156,13 @@ measure_surrogates u v x h l =
 module _ (s : List ℕ) (e : ℕ) (inside : e ≤ length s) where
   -- Chars whose measure is found, with the rest from `e` on, are a token with that end, refusal and length.
   pub scans_token : (x : Read (List Char)) (f : Bool) (n : ℕ) → measure x ≡ found (weight f n) (drop e s)
-      → ScansToken refused_string content_size s x (Token e f n)
+      → ScansToken refused_string content_size s x (Ok (record { end = e; refused = f; size = n }))
   unfolding measure
   scans_token (found cs r) f n m = ((inside, cc), cc, cc)
   scans_token (stuck r) f n m = let z : ◌≡◌ {A = ℕ} 0 1 = cc in omega arith
 
   -- Chars whose measure is stuck at `e` are no token, and reading them is stuck at `e`.
-  pub scans_none : (x : Read (List Char)) → measure x ≡ stuck (drop e s) → ScansToken refused_string content_size s x (NoToken e)
+  pub scans_none : (x : Read (List Char)) → measure x ≡ stuck (drop e s) → ScansToken refused_string content_size s x (Err e)
   unfolding measure
   scans_none (found cs r) m = let z : ◌≡◌ {A = ℕ} 0 1 = cc in omega arith
   scans_none (stuck r) m = (inside, cc)
@@ -171,13 +171,14 @@ module _ (s : List ℕ) (e : ℕ) (inside : e ≤ length s) where
 
 -- A token of a string's content is a token of the string, two bytes longer in canonical form.
 pub scans_quoted : (s : List ℕ) (x : Read (List Char)) (e : ℕ) (f : Bool) (n : ℕ)
-    → ScansToken refused_string content_size s x (Token e f n) → ScansToken refused_string string_size s x (Token e f (n + 2))
+    → ScansToken refused_string content_size s x (Ok (record { end = e; refused = f; size = n }))
+    → ScansToken refused_string string_size s x (Ok (record { end = e; refused = f; size = n + 2 }))
 unfolding string_size quoted content_size
 scans_quoted s (found cs r) e f n h = (h.0, h.1, omega (arith, h.2, length-append (escaped (unescape cs)) (0x22 ∷ [])))
 scans_quoted s (stuck r) e f n h = h
 
 -- Where reading a string's content is stuck, the string is no token, and reading it is stuck at the same position.
 pub scans_unquoted : (s : List ℕ) (x : Read (List Char)) (e : ℕ)
-    → ScansToken refused_string content_size s x (NoToken e) → ScansToken refused_string string_size s x (NoToken e)
+    → ScansToken refused_string content_size s x (Err e) → ScansToken refused_string string_size s x (Err e)
 scans_unquoted s (found cs r) e h = h
 scans_unquoted s (stuck r) e h = h

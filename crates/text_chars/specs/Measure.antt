@@ -1,14 +1,11 @@
 -- A string read one char at a time: all that is kept of the chars is whether they are refused and how long their canonical form is.
 use Rattle.text_json.specs.Bytes.{is_plain}
-use Rattle.std.specs.Prelude.{ℕ, suc, ◌+◌, ◌≤◌, ◌<◌, ◌≡◌, List, [], ◌∷◌, Bool, true, false, not, ◌&&◌, ◌||◌, leb, eqb, length, take, drop}
+use Rattle.std.specs.Prelude.{ℕ, suc, ◌+◌, ◌≤◌, ◌<◌, ◌≡◌, List, [], ◌∷◌, Bool, true, false, not, ◌&&◌, ◌||◌, leb, eqb, length, take, drop, Result, Ok, Err}
 use Rattle.text_json.specs.Syntax.{Char, byte, unit}
 use Rattle.text_json.specs.Read.{Read, found, stuck, prepend, read_chars, char, hex}
 use Rattle.text_json.specs.Content.{refused_string, is_pair, is_low}
 use Rattle.text_json.specs.Size.{content_size}
-use Rattle.text_chars.specs.declared.Hex.{Hex}
-use Rattle.text_chars.specs.declared.Hex.TheVariants.{Number, NoHex}
-use Rattle.text_chars.specs.declared.Escape.{Escape}
-use Rattle.text_chars.specs.declared.Escape.TheVariants.{Char as OneChar, NoEscape}
+use Rattle.text_json.specs.declared.Token.{Token}
 
 -- whether the chars are refused, and the length of their canonical form
 pub data Weight : Type 0 where
@@ -31,16 +28,16 @@ paired u (found (unit v ∷ cs) r) = is_pair u v
 paired u (stuck r) = false
 
 -- the digits at a position make up a unit, or reading them is stuck
-abbrev pub Hexes : List ℕ → ℕ → Hex → Type 0
-Hexes s at (Number u) =
+abbrev pub Hexes : List ℕ → ℕ → Result ℕ ℕ → Type 0
+Hexes s at (Ok u) =
     (at + 4 ≤ length s) × (u < 0x10000) × (read_chars (hex 3 0) (drop at s) ≡ prepend (unit u) (read_chars char (drop (at + 4) s)))
-Hexes s at (NoHex e) = (at ≤ e) × (e ≤ length s) × (read_chars (hex 3 0) (drop at s) ≡ stuck (drop e s))
+Hexes s at (Err e) = (at ≤ e) × (e ≤ length s) × (read_chars (hex 3 0) (drop at s) ≡ stuck (drop e s))
 
 -- of x, which is read from the backslash at `at` on, one escape is taken off, no shorter than its canonical form
-abbrev pub Escapes : List ℕ → ℕ → Read (List Char) → Escape → Type 0
-Escapes s at x (OneChar e f n) =
-    (at < e) × (e ≤ length s) × (at + n ≤ e) × (measure x ≡ add f n (measure (read_chars char (drop e s))))
-Escapes s at x (NoEscape e) = (at ≤ e) × (e ≤ length s) × (x ≡ stuck (drop e s))
+abbrev pub Escapes : List ℕ → ℕ → Read (List Char) → Result Token ℕ → Type 0
+Escapes s at x (Ok t) =
+    (at < t.end) × (t.end ≤ length s) × (at + t.size ≤ t.end) × (measure x ≡ add t.refused t.size (measure (read_chars char (drop t.end s))))
+Escapes s at x (Err e) = (at ≤ e) × (e ≤ length s) × (x ≡ stuck (drop e s))
 
 -- a low surrogate's escape stands at a position, or nothing that pairs with a unit before it
 abbrev pub Lows : List ℕ → ℕ → Bool → Type 0

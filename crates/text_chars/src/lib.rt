@@ -10,48 +10,27 @@ ghost use Rattle.text_json.specs.Scan.{ScansToken};
 ghost use Rattle.text_json.specs.Size.{content_size, string_size, Within, Closed};
 ghost use Rattle.text_chars.specs.Measure.{Hexes, Escapes, Lows, plain_length, every, is_not, is_unmarked, unmarked_run};
 
-use text_json::Scan;
 use text_json::bytes::{between, hex_value, is_control, is_hex, is_plain, is_short, short_value};
+use text_json::{Stuck, Token};
 
-// Four hexadecimal digits: their number, or the position of the first byte that is no digit.
-#[derive(Clone, Copy)]
-pub enum Hex {
-    Number(u32),
-    NoHex(usize),
-}
-
-// One escape: where it ends, whether it is refused, and how long its canonical form is; or the first byte that does not fit.
-#[derive(Clone, Copy)]
-pub enum Escape {
-    Char {
-        end: usize,
-        refused: bool,
-        size: usize,
-    },
-    NoEscape(usize),
-}
-
-// The four digits of a \u escape.
-pub fn hex4(s: &[u8], at: usize) -> Hex
+//TODO Result<u32, usize>
+// The number of the four digits of a \u escape.
+pub fn hex4(s: &[u8], at: usize) -> Result<u32, Stuck>
     requires { at ≤ length s.now }
     ensures { Hexes s.now at result }
 {
-    let mut i = at;
-    let mut left: usize = 3;
     let mut n: u32 = 0;
-    while i < s.len() {
+    for i in at..at + 4 {
+        if s.len() <= i {
+            return Err(i);
+        }
         let b = s[i];
         if !is_hex(b) {
-            return Hex::NoHex(i);
+            return Err(i);
         }
         n = n * 16 + hex_value(b);
-        if left == 0 {
-            return Hex::Number(n);
-        }
-        i += 1;
-        left -= 1;
     }
-    Hex::NoHex(i)
+    Ok(n)
 }
 
 // Whether a low surrogate's escape stands at a position.
@@ -73,8 +52,8 @@ pub fn low_half(s: &[u8], at: usize) -> bool
         return false;
     }
     match hex4(s, at + 2) {
-        Hex::Number(v) => between(0xDC00, 0xDFFF, v),
-        Hex::NoHex(_) => false,
+        Ok(v) => between(0xDC00, 0xDFFF, v),
+        Err(_) => false,
     }
 }
 
@@ -115,52 +94,50 @@ pub fn unit_refused(u: u32) -> bool
 }
 
 // What the \u escape at a position counts for, with the low surrogate's escape after it where the two are one character.
-pub fn unit_escape(s: &[u8], at: usize, u: u32) -> Escape
+pub fn unit_escape(s: &[u8], at: usize, u: u32) -> Result<Token, Stuck>
     requires { (at + 6 ≤ length s.now) × (u < 0x10000) }
     ensures { Escapes s.now at (prepend (unit u) (read_chars char (drop (at + 6) s.now))) result }
 {
     let end = at + 6;
     if between(0xD800, 0xDBFF, u) {
         if low_half(s, end) {
-            return Escape::Char {
+            return Ok(Token {
                 end: end + 6,
                 refused: false,
                 size: 4,
-            };
+            });
         }
     }
-    Escape::Char {
+    Ok(Token {
         end,
         refused: unit_refused(u),
         size: unit_size(u),
-    }
+    })
 }
 
 // The escape whose backslash stands at a position.
-pub fn one_escape(s: &[u8], at: usize) -> Escape
+pub fn one_escape(s: &[u8], at: usize) -> Result<Token, Stuck>
     requires { at < length s.now }
     ensures { Escapes s.now at (read_chars escape (drop (at + 1) s.now)) result }
 {
     let next = at + 1;
     if s.len() <= next {
-        return Escape::NoEscape(next);
+        return Err(next);
     }
     let b = s[next];
     if is_short(b) {
         let v = short_value(b);
-        return Escape::Char {
+        return Ok(Token {
             end: next + 1,
             refused: is_control(v),
             size: byte_size(v),
-        };
+        });
     }
     if b != b'u' {
-        return Escape::NoEscape(next);
+        return Err(next);
     }
-    match hex4(s, at + 2) {
-        Hex::Number(u) => unit_escape(s, at, u),
-        Hex::NoHex(e) => Escape::NoEscape(e),
-    }
+    let u = hex4(s, at + 2)?;
+    unit_escape(s, at, u)
 }
 
 // The `count` bytes at `at` are 20 (hex) or more.
@@ -169,10 +146,8 @@ fn none_below_space(s: &[u8], at: usize, count: usize) -> bool
     ensures { result ≡ every (leb 0x20) (take count (drop at s.now)) }
 {
     let mut all = true;
-    let mut n = 0;
-    while n < count {
+    for n in 0..count {
         all &= 0x20 <= s[at + n];
-        n += 1;
     }
     all
 }
@@ -183,10 +158,8 @@ pub fn none_is(s: &[u8], at: usize, count: usize, m: u8) -> bool
     ensures { result ≡ every (is_not m) (take count (drop at s.now)) }
 {
     let mut all = true;
-    let mut n = 0;
-    while n < count {
+    for n in 0..count {
         all &= s[at + n] != m;
-        n += 1;
     }
     all
 }
@@ -229,14 +202,12 @@ fn plain_tail(s: &[u8], at: usize) -> usize
     requires { at ≤ length s.now }
     ensures { result ≡ at + plain_length (drop at s.now) }
 {
-    let mut i = at;
-    while i < s.len() {
+    for i in at..s.len() {
         if !is_plain(s[i]) {
             return i;
         }
-        i += 1;
     }
-    i
+    s.len()
 }
 
 // Where the plain bytes from `at` on end: eight at once if there are that many, then one byte at a time.
@@ -256,6 +227,7 @@ pub fn plain_end(s: &[u8], at: usize) -> usize
     ensures { result ≡ at + plain_length (drop at s.now) }
 {
     let mut i = at;
+    // where the run ends is what is asked, so no `for` counts it
     while plain_left(s, i, 16) {
         i += 16;
     }
@@ -266,37 +238,30 @@ pub fn plain_end(s: &[u8], at: usize) -> usize
 const LOWEST_RAW: u8 = 0x20;
 
 // The chars of a string and its closing quotation mark.
-pub fn chars(s: &[u8], at: usize) -> Scan
+pub fn chars(s: &[u8], at: usize) -> Result<Token, Stuck>
     requires { at ≤ length s.now }
     ensures { Closed at result × ScansToken refused_string content_size s.now (read_chars char (drop at s.now)) result }
 {
     let mut i = at;
     let mut refused = false;
     let mut size = 0;
+    // the position goes on by an escape or by a run of bytes, so no `for` counts it
     while i < s.len() {
         let b = s[i];
         if b == b'"' {
-            return Scan::Token {
+            return Ok(Token {
                 end: i + 1,
                 refused,
                 size,
-            };
+            });
         }
         if b == b'\\' {
-            match one_escape(s, i) {
-                Escape::Char {
-                    end,
-                    refused: f,
-                    size: n,
-                } => {
-                    i = end;
-                    refused |= f;
-                    size += n;
-                }
-                Escape::NoEscape(e) => return Scan::NoToken(e),
-            }
+            let escape = one_escape(s, i)?;
+            i = escape.end;
+            refused |= escape.refused;
+            size += escape.size;
         } else if b < LOWEST_RAW {
-            return Scan::NoToken(i);
+            return Err(i);
         } else {
             refused |= b == 0x7F;
             let next = i + 1;
@@ -304,26 +269,23 @@ pub fn chars(s: &[u8], at: usize) -> Scan
             size += 1 + (i - next);
         }
     }
-    Scan::NoToken(i)
+    Err(i)
 }
 
 // The string whose opening quotation mark stands at a position.
-pub fn string(s: &[u8], at: usize) -> Scan
+pub fn string(s: &[u8], at: usize) -> Result<Token, Stuck>
     requires { at ≤ length s.now }
     ensures { Within at result × ScansToken refused_string string_size s.now (read_string (drop at s.now)) result }
 {
     if s.len() <= at {
-        return Scan::NoToken(at);
+        return Err(at);
     }
     if s[at] != b'"' {
-        return Scan::NoToken(at);
+        return Err(at);
     }
-    match chars(s, at + 1) {
-        Scan::Token { end, refused, size } => Scan::Token {
-            end,
-            refused,
-            size: size + 2,
-        },
-        Scan::NoToken(e) => Scan::NoToken(e),
-    }
+    let content = chars(s, at + 1)?;
+    Ok(Token {
+        size: content.size + 2,
+        ..content
+    })
 }

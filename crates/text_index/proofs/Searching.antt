@@ -8,8 +8,8 @@ use lib.ListN.{length, get_or}
 use Rattle.laws.specs.Order.{leq}
 use Rattle.laws.proofs.Order.{by_test, false_true, leq_refl, leq_trans, leq_antisym, leq_total}
 use Rattle.text_order.specs.Compare.{order}
-use Rattle.text_order.specs.declared.Order.{Order}
-use Rattle.text_order.specs.declared.Order.TheVariants.{Less, Equal, Greater}
+use Rattle.std.specs.declared.cmp.Ordering.{Ordering}
+use Rattle.std.specs.declared.cmp.Ordering.TheVariants.{Less, Equal, Greater}
 use Rattle.text_order.proofs.Orders.{Ordered, is_less, is_equal, is_greater, ordered}
 use Rattle.text_index.specs.Index.{entry_text, Entry, SomeIndex, comes_before, Counted, Before}
 use Rattle.text_index.proofs.Indexing.{index_rising}
@@ -41,35 +41,35 @@ module _ (x c : List ℕ) where
   greater_before true e = e
   greater_before false e = ap not (leq_total x c e)
 
-  told : {r : Order} → r ≡ order x c → Ordered x c r
+  told : {r : Ordering} → r ≡ order x c → Ordered x c r
   told e = subst (Ordered x c) (sym e) (ordered x c)
 
   module _ (equal : Bool) where
-    less : {r : Order} → Ordered x c r → r ≡ Less → true ≡ comes_before equal x c
+    less : {r : Ordering} → Ordered x c r → r ≡ Less → true ≡ comes_before equal x c
     less (is_less a b) e = sym (less_before equal a b)
     less (is_equal a) e = let z : ◌≡◌ {A = ℕ} 0 1 = cc in absurd (omega arith)
     less (is_greater a) e = let z : ◌≡◌ {A = ℕ} 0 1 = cc in absurd (omega arith)
 
-    alike : {r : Order} → Ordered x c r → r ≡ Equal → equal ≡ comes_before equal x c
+    alike : {r : Ordering} → Ordered x c r → r ≡ Equal → equal ≡ comes_before equal x c
     alike (is_less a b) e = let z : ◌≡◌ {A = ℕ} 0 1 = cc in absurd (omega arith)
     alike (is_equal a) e = sym (same_before equal a)
     alike (is_greater a) e = let z : ◌≡◌ {A = ℕ} 0 1 = cc in absurd (omega arith)
 
-    greater : {r : Order} → Ordered x c r → r ≡ Greater → false ≡ comes_before equal x c
+    greater : {r : Ordering} → Ordered x c r → r ≡ Greater → false ≡ comes_before equal x c
     greater (is_less a b) e = let z : ◌≡◌ {A = ℕ} 0 1 = cc in absurd (omega arith)
     greater (is_equal a) e = let z : ◌≡◌ {A = ℕ} 0 1 = cc in absurd (omega arith)
     greater (is_greater a) e = sym (greater_before equal a)
 
     -- A content that comparing finds less comes before c.
-    pub is_before_less : {r : Order} → r ≡ order x c → r ≡ Less → true ≡ comes_before equal x c
+    pub is_before_less : {r : Ordering} → r ≡ order x c → r ≡ Less → true ≡ comes_before equal x c
     is_before_less e = less (told e)
 
     -- One that is the same comes before c where equal ones count.
-    pub is_before_equal : {r : Order} → r ≡ order x c → r ≡ Equal → equal ≡ comes_before equal x c
+    pub is_before_equal : {r : Ordering} → r ≡ order x c → r ≡ Equal → equal ≡ comes_before equal x c
     is_before_equal e = alike (told e)
 
     -- One that is greater does not come before c.
-    pub is_before_greater : {r : Order} → r ≡ order x c → r ≡ Greater → false ≡ comes_before equal x c
+    pub is_before_greater : {r : Ordering} → r ≡ order x c → r ≡ Greater → false ≡ comes_before equal x c
     is_before_greater e = greater (told e)
 
 -- what is not after a content that comes before c comes before c too

@@ -6,7 +6,7 @@ ghost use Rattle.std.specs.Prelude.{◌≡◌, List, ◌∷◌, ℕ, ◌+◌, �
 ghost use Rattle.text_strings.specs.InString.{Inside, content_from};
 ghost use Rattle.text_index.specs.Index.{Entry, Index, SomeIndex, comes_before, Counted, Before, Holds, Moved};
 
-use text_order::Order;
+use std::cmp::Ordering;
 
 // A part of the index: the places from `from` to `to`, the last not included.
 #[derive(Clone, Copy)]
@@ -21,9 +21,9 @@ fn is_before(b: &[u8], p: usize, t: &[u8], q: usize, equal: bool) -> bool
     ensures { result ≡ comes_before equal (content_from b.now p) (content_from t.now q) }
 {
     match text_order::compare(b, p, t, q) {
-        Order::Less => true,
-        Order::Equal => equal,
-        Order::Greater => false,
+        Ordering::Less => true,
+        Ordering::Equal => equal,
+        Ordering::Greater => false,
     }
 }
 
@@ -77,9 +77,9 @@ pub fn find(b: &[u8], at: &[usize], order: &[u16], t: &[u8], q: usize) -> Range
         let mid = low + (high - low) / 2;
         let e = order[mid] as usize;
         match text_order::compare(b, at[e], t, q) {
-            Order::Less => low = mid + 1,
-            Order::Greater => high = mid,
-            Order::Equal => {
+            Ordering::Less => low = mid + 1,
+            Ordering::Greater => high = mid,
+            Ordering::Equal => {
                 let from = count_between(b, at, order, t, q, false, low, mid);
                 let to = count_between(b, at, order, t, q, true, mid + 1, high);
                 return Range { from, to };

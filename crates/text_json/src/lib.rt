@@ -7,20 +7,13 @@ pub mod space;
 // The most arrays and objects that may stand inside each other, the outermost counted.
 pub const MOST_NESTING: usize = 8;
 
-// Where a part of the grammar ended, or the position of the first byte that does not fit.
-#[derive(Clone, Copy)]
-pub enum Step {
-    End(usize),
-    Stuck(usize),
-}
+// Where reading is stuck: the position of the first byte that does not fit, or of the text's end.
+pub type Stuck = usize;
 
-// A string or a number that was read: where it ends, whether document 01 refuses it, and the length of its canonical form.
+// A string, a number or a part of one that was read: where it ends, whether document 01 refuses it, and the length of its canonical form.
 #[derive(Clone, Copy)]
-pub enum Scan {
-    Token {
-        end: usize,
-        refused: bool,
-        size: usize,
-    },
-    NoToken(usize),
+pub struct Token {
+    pub end: usize,
+    pub refused: bool,
+    pub size: usize,
 }

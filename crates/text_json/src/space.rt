@@ -4,7 +4,7 @@ ghost use Rattle.text_json.specs.Read.{spaces, read_word};
 ghost use Rattle.text_json.specs.Scan.{At, Steps};
 ghost use Rattle.text_json.specs.Size.{reached};
 
-use crate::Step;
+use crate::Stuck;
 use crate::bytes::is_space;
 
 // The position after the white space that stands at a position.
@@ -12,32 +12,28 @@ pub fn skip_spaces(s: &[u8], at: usize) -> usize
     requires { at ≤ length s.now }
     ensures { (at ≤ result) × At s.now result (spaces (drop at s.now)) }
 {
-    let mut i = at;
-    while i < s.len() {
+    for i in at..s.len() {
         if !is_space(s[i]) {
             return i;
         }
-        i += 1;
     }
-    i
+    s.len()
 }
 
 // Reads the bytes of w, and stops at the first that differs.
-pub fn word(s: &[u8], at: usize, w: &[u8]) -> Step
+pub fn word(s: &[u8], at: usize, w: &[u8]) -> Result<usize, Stuck>
     requires { at ≤ length s.now }
     ensures { (at ≤ reached result) × Steps s.now (read_word w.now (drop at s.now)) result }
 {
     let mut i = at;
-    let mut k = 0;
-    while k < w.len() {
+    for b in w {
         if s.len() <= i {
-            return Step::Stuck(i);
+            return Err(i);
         }
-        if s[i] != w[k] {
-            return Step::Stuck(i);
+        if s[i] != *b {
+            return Err(i);
         }
         i += 1;
-        k += 1;
     }
-    Step::End(i)
+    Ok(i)
 }

@@ -4,7 +4,6 @@ use mathlib.Core.Path.{◌≡◌, sym, ap, subst, ◌∙◌}
 use mathlib.Core.List.{List, ◌∷◌, ◌++◌}
 use mathlib.Core.Bool.{true, false}
 use native.Mathlib.Omega.{arith}
-use denote.Enum.Declared.{tag_of}
 use lib.ListN.{length, take, drop, get_or}
 use Rattle.laws.specs.Order.{leq, same}
 use Rattle.laws.specs.Sort.{insert, sort, Orders}
@@ -12,8 +11,8 @@ use Rattle.laws.proofs.Order.{by_test, false_true, leq_refl, leq_total, leq_tran
 use Rattle.laws.proofs.Sort.{insert_before, insert_after}
 use Rattle.text_strings.specs.InString.{InString, Inside, content_from, key_le}
 use Rattle.text_order.specs.Compare.{order}
-use Rattle.text_order.specs.declared.Order.{Order}
-use Rattle.text_order.specs.contracts.Order
+use Rattle.std.specs.declared.cmp.Ordering.{Ordering}
+use Rattle.std.specs.declared.cmp.Ordering.TheVariants.{Less, Equal, Greater}
 use Rattle.text_strings.proofs.Contents.{inside_content}
 use Rattle.text_order.proofs.Orders.{Ordered, is_less, is_equal, is_greater, ordered}
 use Rattle.text_keys.specs.Keys.{KeysAt, no_keys, key_at}
@@ -68,11 +67,13 @@ keys_order s = record {
 }
 
 -- the number by which a match tells the answers of a comparison apart
-abbrev pub tag : Order → ℕ
-tag r = tag_of Order.the_type r
+abbrev pub tag : Ordering → ℕ
+tag Less = 0
+tag Equal = 1
+tag Greater = 2
 
 -- the order of two keys' contents, from what comparing them ensures
-pub compared : (s : List ℕ) (k l : ℕ) (r : Order) → Inside s (k + 1) → Inside s (l + 1)
+pub compared : (s : List ℕ) (k l : ℕ) (r : Ordering) → Inside s (k + 1) → Inside s (l + 1)
     → ((x y : List ℕ) → InString s (k + 1) x → InString s (l + 1) y → r ≡ order x y)
     → Ordered (content_from s (k + 1)) (content_from s (l + 1)) r
 compared s k l r p q f =
@@ -85,19 +86,19 @@ module _ {xs ys : List ℕ} where
   unequal n = by_test (same ys xs) (λ e. absurd (n (sym (same_eq ys xs e)))) (λ e. e)
 
   -- Where the comparison answers `Less`, the contents are not equal, and the first does not come after the second.
-  pub less : {r : Order} → Ordered xs ys r → tag r ≡ 0 → (same ys xs ≡ false) × (leq xs ys ≡ true)
+  pub less : {r : Ordering} → Ordered xs ys r → tag r ≡ 0 → (same ys xs ≡ false) × (leq xs ys ≡ true)
   less (is_less a b) e = (unequal b, a)
   less (is_equal a) e = absurd (omega arith)
   less (is_greater a) e = absurd (omega arith)
 
   -- Where it answers `Equal`, the contents are equal, and so the first does not come after the second.
-  pub equal : {r : Order} → Ordered xs ys r → tag r ≡ 1 → (same ys xs ≡ true) × (leq xs ys ≡ true)
+  pub equal : {r : Ordering} → Ordered xs ys r → tag r ≡ 1 → (same ys xs ≡ true) × (leq xs ys ≡ true)
   equal (is_less a b) e = absurd (omega arith)
   equal (is_equal a) e = (ap (same ys) a ∙ same_refl ys, ap (leq xs) (sym a) ∙ leq_refl xs)
   equal (is_greater a) e = absurd (omega arith)
 
   -- Where it answers `Greater`, the first content comes after the second, so they are not equal.
-  pub greater : {r : Order} → Ordered xs ys r → tag r ≡ 2 → (same ys xs ≡ false) × (leq xs ys ≡ false)
+  pub greater : {r : Ordering} → Ordered xs ys r → tag r ≡ 2 → (same ys xs ≡ false) × (leq xs ys ≡ false)
   greater (is_less a b) e = absurd (omega arith)
   greater (is_equal a) e = absurd (omega arith)
   greater (is_greater a) e = (unequal (λ z. false_true (sym a ∙ ap (leq xs) (sym z) ∙ leq_refl xs)), a)

@@ -8,7 +8,7 @@ ghost use Rattle.text_strings.specs.InString.{Inside, key_le};
 ghost use Rattle.text_keys.specs.Keys.{KeysAt, rising_keys};
 ghost use Rattle.text_keys.specs.Repeats.{same_left, repeat_left};
 
-use text_order::Order;
+use std::cmp::Ordering;
 
 // What ordering the keys of an object finds: how much of the text is left from the first one on that is equal to an earlier one, 0 if
 // there is none, and whether they stood in rising order.
@@ -54,15 +54,13 @@ fn check_order(s: &[u8], keys: &[u16]) -> Ordered
     ensures rising_value { result.rising ≡ rising_keys s.now keys.now }
     ensures left_value { result.rising ≡ true → result.left ≡ repeat_left s.now keys.now }
 {
-    let mut most = 0;
-    let mut at = 0;
-    while at + 1 < keys.len() {
-        let pair = check_pair(s, keys[at], keys[at + 1]);
+    let mut most: usize = 0;
+    for at in 1..keys.len() {
+        let pair = check_pair(s, keys[at - 1], keys[at]);
         if !pair.rising {
             return pair;
         }
-        most = larger(most, pair.left);
-        at += 1;
+        most = most.max(pair.left);
     }
     Ordered {
         left: most,
@@ -78,15 +76,15 @@ fn check_pair(s: &[u8], k: u16, l: u16) -> Ordered
 {
     let at = l as usize;
     match text_order::compare(s, (k as usize) + 1, s, at + 1) {
-        Order::Less => Ordered {
+        Ordering::Less => Ordered {
             left: 0,
             rising: true,
         },
-        Order::Equal => Ordered {
+        Ordering::Equal => Ordered {
             left: s.len() - at,
             rising: true,
         },
-        Order::Greater => Ordered {
+        Ordering::Greater => Ordered {
             left: 0,
             rising: false,
         },
@@ -121,6 +119,7 @@ fn copy_keys(keys: &[u16], to: &mut [u16])
     requires { length keys.now ≤ length to.old }
     ensures { take (length keys.now) to.new ≡ keys.now }
 {
+    // a loop, since `copy_from_slice` calls libc's memmove, and the header promises that only memcpy and memset are called
     let mut i = 0;
     while i < keys.len() {
         to[i] = keys[i];
@@ -137,6 +136,7 @@ fn merge_back(s: &[u8], left: &[u16], keys: &mut [u16])
     let mut i = 0;
     let mut j = left.len();
     let mut at = 0;
+    // a turn takes a key of either half, so no `for` walks one of them
     while i < left.len() {
         if j < keys.len() {
             let pair = check_pair(s, left[i], keys[j]);
@@ -159,18 +159,9 @@ pub fn repeat_left(s: &[u8], keys: &[u16]) -> usize
     requires { KeysAt s.now keys.now }
     ensures { (ks : List ℕ) → keys.now ≡ sort (key_le s.now) ks → result ≡ repeat_left s.now ks }
 {
-    let mut most = 0;
-    let mut i = 0;
-    while i + 1 < keys.len() {
-        let pair = check_pair(s, keys[i], keys[i + 1]);
-        most = larger(most, pair.left);
-        i += 1;
+    let mut most: usize = 0;
+    for i in 1..keys.len() {
+        most = most.max(check_pair(s, keys[i - 1], keys[i]).left);
     }
     most
-}
-
-fn larger(a: usize, b: usize) -> usize
-    ensures { result ≡ max a b }
-{
-    if a < b { b } else { a }
 }

@@ -22,7 +22,7 @@ use Rattle.text_strings.specs.Cursor.{Left, GivesByte}
 use Rattle.text_order.specs.Compare.{order}
 use Rattle.text_names.specs.Head.{head_from, head_of, head_bound}
 use Rattle.text_strings.specs.declared.Next.{Next}
-use Rattle.text_order.specs.declared.Order.TheVariants.{Less, Greater}
+use Rattle.std.specs.declared.cmp.Ordering.TheVariants.{Less, Greater}
 use Rattle.text_strings.proofs.Contents.{inside_content}
 use Rattle.text_strings.proofs.Escapes.{short_small}
 use Rattle.text_strings.proofs.Cursors.{given_end, given_byte}

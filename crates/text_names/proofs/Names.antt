@@ -16,8 +16,8 @@ use Rattle.text_strings.specs.Cursor.{Left, GivesByte}
 use Rattle.text_order.specs.Compare.{order}
 use Rattle.text_names.specs.Named.{holds_name}
 use Rattle.text_strings.specs.declared.Next.{Next}
-use Rattle.text_order.specs.declared.Order.{Order}
-use Rattle.text_order.specs.declared.Order.TheVariants.{Less, Equal, Greater}
+use Rattle.std.specs.declared.cmp.Ordering.{Ordering}
+use Rattle.std.specs.declared.cmp.Ordering.TheVariants.{Less, Equal, Greater}
 use Rattle.text_strings.proofs.Cursors.{given_end, given_byte}
 use Rattle.text_order.proofs.Orders.{Ordered, is_less, is_equal, is_greater, ordered}
 use Rattle.text_strings.proofs.Positions.{ends, goes_on, some_left}
@@ -145,7 +145,7 @@ module _ (w : Bool) where
           (b.0, b.2, q.2 ∙ same_next name k h q.0 n.byte b.0 b.1 d)
 
 -- two contents are equal where their order is `Equal`
-says_equal : Order → Bool
+says_equal : Ordering → Bool
 says_equal Equal = true
 says_equal Less = false
 says_equal Greater = false
@@ -158,7 +158,7 @@ module _ (x y : List ℕ) where
       other : (x ≡ y → ⊥) → false ≡ same x y
       other n = by_test (same x y) (λ e. absurd (n (same_eq x y e))) (λ e. sym e)
 
-      go : {r : Order} → Ordered x y r → says_equal r ≡ same x y
+      go : {r : Ordering} → Ordered x y r → says_equal r ≡ same x y
       go (is_less a b) = other b
       go (is_equal a) = sym (ap (same x) (sym a) ∙ same_refl x)
       go (is_greater a) = other (λ e. false_true (sym a ∙ ap (leq x) (sym e) ∙ leq_refl x))

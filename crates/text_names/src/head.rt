@@ -5,7 +5,7 @@ ghost use Rattle.text_order.specs.Compare.{order};
 ghost use Rattle.text_strings.specs.Cursor.{Left, ReadableCursor};
 ghost use Rattle.text_names.specs.Head.{head_from, head_of, head_bound};
 
-use text_order::Order;
+use std::cmp::Ordering;
 use text_strings::Cursor;
 
 // The number that the first n bytes before the cursor make up behind those of `start`.
@@ -55,15 +55,15 @@ pub fn head(s: &[u8], i: usize) -> u32
 }
 
 // The order of two strings' contents from position i of s and position j of t on, whose heads are g and h. Only where these are equal the strings are read.
-pub fn compare_headed(s: &[u8], i: usize, g: u32, t: &[u8], j: usize, h: u32) -> Order
+pub fn compare_headed(s: &[u8], i: usize, g: u32, t: &[u8], j: usize, h: u32) -> Ordering
     requires { Inside s.now i × Inside t.now j × (g ≡ head_of (content_from s.now i)) × (h ≡ head_of (content_from t.now j)) }
     ensures { result ≡ order (content_from s.now i) (content_from t.now j) }
 {
     if g < h {
-        return Order::Less;
+        return Ordering::Less;
     }
     if h < g {
-        return Order::Greater;
+        return Ordering::Greater;
     }
     text_order::compare(s, i, t, j)
 }

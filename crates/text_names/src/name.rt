@@ -5,7 +5,7 @@ ghost use Rattle.text_strings.specs.InString.{Inside, content_from};
 ghost use Rattle.text_strings.specs.Cursor.{Left, ReadableCursor};
 ghost use Rattle.text_names.specs.Named.{holds_name};
 
-use text_order::Order;
+use std::cmp::Ordering;
 use text_strings::Cursor;
 
 // The content from position i on is `name`.
@@ -30,8 +30,7 @@ fn holds_name(s: &[u8], i: usize, name: &[u8], whole: bool) -> bool
     requires { Inside s.now i }
     ensures { result ≡ holds_name whole (content_from s.now i) name.now }
 {
-    let mut k = 0;
-    while k < name.len() {
+    for k in 0..name.len() {
         let b = s[i + k];
         if b == b'\\' {
             return holds_left(s, Cursor::new(i + k), name, k, whole);
@@ -42,9 +41,8 @@ fn holds_name(s: &[u8], i: usize, name: &[u8], whole: bool) -> bool
         if b == b'"' {
             return false;
         }
-        k += 1;
     }
-    (s[i + k] == b'"') | !whole
+    (s[i + name.len()] == b'"') | !whole
 }
 
 // The same of what is left before the cursor and the name from byte `at` on.
@@ -53,8 +51,7 @@ fn holds_left(s: &[u8], from: Cursor, name: &[u8], at: usize, whole: bool) -> bo
     ensures { (c : List ℕ) → Left s.now from c → result ≡ holds_name whole c (drop at name.now) }
 {
     let mut c = from;
-    let mut k = at;
-    while k < name.len() {
+    for k in at..name.len() {
         let x = c.next(s);
         if !x.found {
             return false;
@@ -63,7 +60,6 @@ fn holds_left(s: &[u8], from: Cursor, name: &[u8], at: usize, whole: bool) -> bo
             return false;
         }
         c = x.rest;
-        k += 1;
     }
     let x = c.next(s);
     !x.found | !whole
@@ -75,8 +71,8 @@ pub fn equal(s: &[u8], i: usize, t: &[u8], j: usize) -> bool
     ensures { result ≡ same (content_from s.now i) (content_from t.now j) }
 {
     match text_order::compare(s, i, t, j) {
-        Order::Equal => true,
-        Order::Less => false,
-        Order::Greater => false,
+        Ordering::Equal => true,
+        Ordering::Less => false,
+        Ordering::Greater => false,
     }
 }

@@ -1,5 +1,6 @@
 -- A number from its parts, and the numbers that digits make up.
 -- Assumes nothing.
+use Rattle.std.specs.Prelude.{Result, Ok, Err}
 use Prim.Native.Nat.{ℕ, ◌+◌, ◌-◌, ◌*◌, ◌≤◌, ◌<◌}
 use mathlib.Core.Path.{◌≡◌, refl, ap, ◌∙◌}
 use mathlib.Core.List.{List, [], ◌∷◌}
@@ -15,12 +16,10 @@ use Rattle.text_json.specs.Read.{Read, found, stuck, and_then, read_int, read_fr
 use Rattle.text_json.specs.Syntax.{Numeral}
 use Rattle.text_json.specs.Content.{decimal, decimal_from, limit, signed, refused_number}
 use Rattle.text_json.specs.Scan.{ScansToken}
-use Rattle.text_numbers.specs.Parts.{Near, IntAt, ReadTo, Reaches, Parts, part_of, read_tail, refused_parts, signs, WithSign}
+use Rattle.text_numbers.specs.Parts.{Near, IntAt, ReadTo, Reaches, Parts, read_tail, refused_parts, signs, WithSign}
 use Rattle.text_json.specs.Size.{Within, numeral_size}
-use Rattle.text_json.specs.declared.Scan.{Scan}
-use Rattle.text_json.specs.declared.Scan.TheVariants.{Token, NoToken}
-use Rattle.text_json.specs.declared.Step.{Step}
-use Rattle.text_json.specs.declared.Step.TheVariants.{End, Stuck}
+use Rattle.text_json.specs.declared.Token.{Token}
+use Rattle.text_numbers.specs.declared.NumberPart.{NumberPart}
 use Rattle.text_json.proofs.ByteTests.{between_true}
 use Rattle.text_json.proofs.Places.{scans_found}
 
@@ -90,17 +89,21 @@ pub read_to_from : {A : Type 0} (s : List ℕ) (at next e : ℕ) (x y z : Read A
 read_to_from s at next e x y z l p h = record { past = le_trans l h.past; inside = h.inside; read = p ∙ h.read }
 
 -- The same for a step, whether it ends or is stuck.
-pub reaches_from : (s : List ℕ) (at next : ℕ) (x y : Read (Unit {0})) (r : Step) → at ≤ next → x ≡ y → Reaches s next y r → Reaches s at x r
-reaches_from s at next x y (End e) l p h = read_to_from s at next e x y _ l p h
-reaches_from s at next x y (Stuck e) l p h = read_to_from s at next e x y _ l p h
+pub reaches_from : (s : List ℕ) (at next : ℕ) (x y : Read (Unit {0})) (r : Result ℕ ℕ) → at ≤ next → x ≡ y → Reaches s next y r → Reaches s at x r
+reaches_from s at next x y (Ok e) l p h = read_to_from s at next e x y _ l p h
+reaches_from s at next x y (Err e) l p h = read_to_from s at next e x y _ l p h
 
 -- a fraction or an exponent that is there, of which digits must be read after its first byte
+abbrev pub part_of : Result ℕ ℕ → Result NumberPart ℕ
+part_of (Ok e) = Ok (record { end = e; whole = false })
+part_of (Err e) = Err e
+
 -- Where the digits after the first byte were stepped over, the part is found, as one that is there, or stuck where they are.
 pub part_read : (s : List ℕ) (at : ℕ) (x : Read (Unit {0})) (y : Read Bool) → y ≡ and_then x (λ _ r. found false r)
-    → (w : Step) → Reaches s (at + 1) x w → Parts s at y (part_of w)
+    → (w : Result ℕ ℕ) → Reaches s (at + 1) x w → Parts s at y (part_of w)
 unfolding and_then
-part_read s at x y here (End e) h = record { past = omega (arith, h.past); inside = h.inside; read = here ∙ rw h.read }
-part_read s at x y here (Stuck e) h = record { past = omega (arith, h.past); inside = h.inside; read = here ∙ rw h.read }
+part_read s at x y here (Ok e) h = record { past = omega (arith, h.past); inside = h.inside; read = here ∙ rw h.read }
+part_read s at x y here (Err e) h = record { past = omega (arith, h.past); inside = h.inside; read = here ∙ rw h.read }
 
 -- an int and what follows it
 
@@ -134,7 +137,7 @@ module _ (negative : Bool) (s : List ℕ) where
 module _ (negative whole : Bool) (s : List ℕ) (at m e v : ℕ) where
   -- An integer part with what is found after it is a token, with its end, its refusal and the length of its canonical form.
   pub unsigned_token : IntAt s at m v → ReadTo s m e (read_tail (drop m s)) (found whole (drop e s))
-      → ScansToken refused_number numeral_size s (read_unsigned negative (drop at s)) (Token e (refused_parts negative v whole) (signs negative + (m - at)))
+      → ScansToken refused_number numeral_size s (read_unsigned negative (drop at s)) (Ok (record { end = e; refused = refused_parts negative v whole; size = signs negative + (m - at) }))
   unfolding and_then refused_number refused_parts numeral_size
   unsigned_token int rest =
       let n : Numeral = record { negative = negative; digits = int.digits; whole = whole } in
@@ -146,11 +149,11 @@ module _ (negative whole : Bool) (s : List ℕ) (at m e v : ℕ) where
 -- from a number without its sign to the number
 
 -- A scan after a minus sign, with the sign counted in its length, has the bounds of a token that begins at the sign.
-pub within_minus : (at : ℕ) (r : Scan) → WithSign true (at + 1) r → Within at r
-within_minus at (Token e f n) h = omega arith
-within_minus at (NoToken e) h = omega arith
+pub within_minus : (at : ℕ) (r : Result Token ℕ) → WithSign true (at + 1) r → Within at r
+within_minus at (Ok t) h = omega arith
+within_minus at (Err e) h = omega arith
 
 -- A scan of a number without a sign has the bounds of a token that begins at the same position.
-pub within_plain : (at : ℕ) (r : Scan) → WithSign false at r → Within at r
-within_plain at (Token e f n) h = omega arith
-within_plain at (NoToken e) h = h
+pub within_plain : (at : ℕ) (r : Result Token ℕ) → WithSign false at r → Within at r
+within_plain at (Ok t) h = omega arith
+within_plain at (Err e) h = h

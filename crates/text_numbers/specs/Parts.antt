@@ -1,16 +1,10 @@
 -- The parts of a number, read in place.
-use Rattle.std.specs.Prelude.{ℕ, ◌+◌, ◌≤◌, ◌<◌, min, ◌≡◌, List, Bool, true, false, not, ◌&&◌, ◌||◌, length, drop, eqb, ltb}
+use Rattle.std.specs.Prelude.{ℕ, ◌+◌, ◌≤◌, ◌<◌, min, ◌≡◌, List, Bool, true, false, not, ◌&&◌, ◌||◌, length, drop, eqb, ltb, Result, Ok, Err}
 use Rattle.text_json.specs.Read.{Read, found, stuck, and_then, digits_of, after_digits, read_int, read_frac, read_exp}
 use Rattle.text_json.specs.Content.{decimal, decimal_from, limit}
-use Rattle.text_json.specs.declared.Step.{Step}
-use Rattle.text_json.specs.declared.Step.TheVariants.{End, Stuck}
-use Rattle.text_json.specs.declared.Scan.{Scan}
-use Rattle.text_json.specs.declared.Scan.TheVariants.{Token, NoToken}
+use Rattle.text_json.specs.declared.Token.{Token}
 use Rattle.text_numbers.specs.declared.Run.{Run}
-use Rattle.text_numbers.specs.declared.Int.{Int}
-use Rattle.text_numbers.specs.declared.Int.TheVariants.{Digits, NoInt}
 use Rattle.text_numbers.specs.declared.NumberPart.{NumberPart}
-use Rattle.text_numbers.specs.declared.NumberPart.TheVariants.{Past, NoPart}
 
 -- both numbers are the same, or both are above every number of 32 bits
 abbrev pub Near : ℕ → ℕ → Type 0
@@ -38,22 +32,17 @@ pub record ReadTo {A : Type 0} (s : List ℕ) (at e : ℕ) (x : Read A) (y : Rea
   pub inside : e ≤ length s
   pub read : x ≡ y
 
-abbrev pub Ints : List ℕ → ℕ → Int → Type 0
-Ints s at (Digits e v) = IntAt s at e v
-Ints s at (NoInt e) = ReadTo s at e (read_int (drop at s)) (stuck (drop e s))
+abbrev pub Ints : List ℕ → ℕ → Result Run ℕ → Type 0
+Ints s at (Ok r) = IntAt s at r.end r.value
+Ints s at (Err e) = ReadTo s at e (read_int (drop at s)) (stuck (drop e s))
 
-abbrev pub Parts : List ℕ → ℕ → Read Bool → NumberPart → Type 0
-Parts s at x (Past e f) = ReadTo s at e x (found f (drop e s))
-Parts s at x (NoPart e) = ReadTo s at e x (stuck (drop e s))
+abbrev pub Parts : List ℕ → ℕ → Read Bool → Result NumberPart ℕ → Type 0
+Parts s at x (Ok p) = ReadTo s at p.end x (found p.whole (drop p.end s))
+Parts s at x (Err e) = ReadTo s at e x (stuck (drop e s))
 
-abbrev pub Reaches : List ℕ → ℕ → Read (Unit {0}) → Step → Type 0
-Reaches s at x (End e) = ReadTo s at e x (found tt (drop e s))
-Reaches s at x (Stuck e) = ReadTo s at e x (stuck (drop e s))
-
--- the part whose digits were stepped over
-abbrev pub part_of : Step → NumberPart
-part_of (End e) = Past e false
-part_of (Stuck e) = NoPart e
+abbrev pub Reaches : List ℕ → ℕ → Read (Unit {0}) → Result ℕ ℕ → Type 0
+Reaches s at x (Ok e) = ReadTo s at e x (found tt (drop e s))
+Reaches s at x (Err e) = ReadTo s at e x (stuck (drop e s))
 
 -- [ frac ] [ exp ]
 unfoldable pub read_tail : List ℕ → Read Bool
@@ -69,6 +58,6 @@ signs true = 1
 signs false = 0
 
 -- a number without the sign before it, whose canonical form counts the sign
-abbrev pub WithSign : Bool → ℕ → Scan → Type 0
-WithSign negative at (Token e f n) = (at < e) × (at + n ≤ e + signs negative)
-WithSign negative at (NoToken e) = at ≤ e
+abbrev pub WithSign : Bool → ℕ → Result Token ℕ → Type 0
+WithSign negative at (Ok t) = (at < t.end) × (at + t.size ≤ t.end + signs negative)
+WithSign negative at (Err e) = at ≤ e

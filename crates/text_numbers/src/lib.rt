@@ -6,10 +6,10 @@ ghost use Rattle.text_json.specs.Read.{read_some_digits, read_signed, read_frac,
 ghost use Rattle.text_json.specs.Content.{refused_number};
 ghost use Rattle.text_json.specs.Scan.{ScansToken};
 ghost use Rattle.text_json.specs.Size.{numeral_size, Within};
-ghost use Rattle.text_numbers.specs.Parts.{Near, Runs, Ints, Parts, part_of, Reaches, read_tail, refused_parts, signs, WithSign};
+ghost use Rattle.text_numbers.specs.Parts.{Near, Runs, Ints, Parts, Reaches, read_tail, refused_parts, signs, WithSign};
 
 use text_json::bytes::{is_digit, is_exp, is_sign};
-use text_json::{Scan, Step};
+use text_json::{Stuck, Token};
 
 // A run of digits: where it ends, and the number that it makes up, which stops growing above 32 bits.
 #[derive(Clone, Copy)]
@@ -18,18 +18,11 @@ pub struct Run {
     pub value: u64,
 }
 
-// A number's int: where it ends and its value; or the first byte that does not fit.
+// A part that may be absent: where reading goes on, and whether it is absent.
 #[derive(Clone, Copy)]
-pub enum Int {
-    Digits { end: usize, value: u64 },
-    NoInt(usize),
-}
-
-// A part that may be absent: where reading goes on, and whether it is absent; or the first byte that does not fit.
-#[derive(Clone, Copy)]
-pub enum NumberPart {
-    Past { end: usize, whole: bool },
-    NoPart(usize),
+pub struct NumberPart {
+    pub end: usize,
+    pub whole: bool,
 }
 
 // A number with one digit more; above 32 bits it need not grow.
@@ -45,96 +38,84 @@ pub fn digits(s: &[u8], at: usize, from: u64) -> Run
     requires { (at ≤ length s.now) × (from < 10) }
     ensures { Runs s.now at from result }
 {
-    let mut i = at;
     let mut n = from;
-    while i < s.len() {
+    for i in at..s.len() {
         let b = s[i];
         if !is_digit(b) {
             return Run { end: i, value: n };
         }
         n = grow(n, (b - b'0') as u64);
-        i += 1;
     }
-    Run { end: i, value: n }
+    Run {
+        end: s.len(),
+        value: n,
+    }
 }
 
 // One digit or more.
-pub fn some_digits(s: &[u8], at: usize) -> Step
+pub fn some_digits(s: &[u8], at: usize) -> Result<usize, Stuck>
     requires { at ≤ length s.now }
     ensures { Reaches s.now at (read_some_digits (drop at s.now)) result }
 {
     if s.len() <= at {
-        return Step::Stuck(at);
+        return Err(at);
     }
     if !is_digit(s[at]) {
-        return Step::Stuck(at);
+        return Err(at);
     }
     let r = digits(s, at + 1, 0);
-    Step::End(r.end)
+    Ok(r.end)
 }
 
 // A zero, or digits that start with none.
-pub fn int_part(s: &[u8], at: usize) -> Int
+pub fn int_part(s: &[u8], at: usize) -> Result<Run, Stuck>
     requires { at ≤ length s.now }
     ensures { Ints s.now at result }
 {
     if s.len() <= at {
-        return Int::NoInt(at);
+        return Err(at);
     }
     let b = s[at];
     if b == b'0' {
-        return Int::Digits {
+        return Ok(Run {
             end: at + 1,
             value: 0,
-        };
+        });
     }
     if !is_digit(b) {
-        return Int::NoInt(at);
+        return Err(at);
     }
-    let r = digits(s, at + 1, (b - b'0') as u64);
-    Int::Digits {
-        end: r.end,
-        value: r.value,
-    }
-}
-
-// A fraction or an exponent that is there, where its digits were stepped over.
-fn stepped(step: Step) -> NumberPart
-    ensures { result ≡ part_of step }
-{
-    match step {
-        Step::End(end) => NumberPart::Past { end, whole: false },
-        Step::Stuck(at) => NumberPart::NoPart(at),
-    }
+    Ok(digits(s, at + 1, (b - b'0') as u64))
 }
 
 // A point and digits, or nothing.
-pub fn frac(s: &[u8], at: usize) -> NumberPart
+pub fn frac(s: &[u8], at: usize) -> Result<NumberPart, Stuck>
     requires { at ≤ length s.now }
     ensures { Parts s.now at (read_frac (drop at s.now)) result }
 {
     if s.len() <= at {
-        return NumberPart::Past {
+        return Ok(NumberPart {
             end: at,
             whole: true,
-        };
+        });
     }
     if s[at] != b'.' {
-        return NumberPart::Past {
+        return Ok(NumberPart {
             end: at,
             whole: true,
-        };
+        });
     }
-    stepped(some_digits(s, at + 1))
+    let end = some_digits(s, at + 1)?;
+    Ok(NumberPart { end, whole: false })
 }
 
 // Digits with a sign before them or none.
-pub fn signed(s: &[u8], at: usize) -> Step
+pub fn signed(s: &[u8], at: usize) -> Result<usize, Stuck>
     requires { at ≤ length s.now }
     ensures { Reaches s.now at (read_signed (drop at s.now)) result }
 {
     if s.len() <= at {
-        return Step::Stuck(at);
+        return Err(at);
     }
     if is_sign(s[at]) {
         some_digits(s, at + 1)
@@ -144,43 +125,37 @@ pub fn signed(s: &[u8], at: usize) -> Step
 }
 
 // An exponent, or nothing.
-pub fn exp(s: &[u8], at: usize) -> NumberPart
+pub fn exp(s: &[u8], at: usize) -> Result<NumberPart, Stuck>
     requires { at ≤ length s.now }
     ensures { Parts s.now at (read_exp (drop at s.now)) result }
 {
     if s.len() <= at {
-        return NumberPart::Past {
+        return Ok(NumberPart {
             end: at,
             whole: true,
-        };
+        });
     }
     if !is_exp(s[at]) {
-        return NumberPart::Past {
+        return Ok(NumberPart {
             end: at,
             whole: true,
-        };
+        });
     }
-    stepped(signed(s, at + 1))
+    let end = signed(s, at + 1)?;
+    Ok(NumberPart { end, whole: false })
 }
 
 // What follows a number's int.
-pub fn tail(s: &[u8], at: usize) -> NumberPart
+pub fn tail(s: &[u8], at: usize) -> Result<NumberPart, Stuck>
     requires { at ≤ length s.now }
     ensures { Parts s.now at (read_tail (drop at s.now)) result }
 {
-    match frac(s, at) {
-        NumberPart::Past { end, whole } => match exp(s, end) {
-            NumberPart::Past {
-                end: last,
-                whole: plain,
-            } => NumberPart::Past {
-                end: last,
-                whole: whole & plain,
-            },
-            NumberPart::NoPart(e) => NumberPart::NoPart(e),
-        },
-        NumberPart::NoPart(e) => NumberPart::NoPart(e),
-    }
+    let fraction = frac(s, at)?;
+    let exponent = exp(s, fraction.end)?;
+    Ok(NumberPart {
+        end: exponent.end,
+        whole: fraction.whole & exponent.whole,
+    })
 }
 
 // Whether a number is refused: it is not whole, is -0, or lies outside 32 bits with a sign.
@@ -204,30 +179,26 @@ pub fn sign_size(negative: bool) -> usize
 }
 
 // A number without the sign before it, of which `negative` tells.
-pub fn unsigned(s: &[u8], at: usize, negative: bool) -> Scan
+pub fn unsigned(s: &[u8], at: usize, negative: bool) -> Result<Token, Stuck>
     requires { at ≤ length s.now }
     ensures { WithSign negative at result × ScansToken refused_number numeral_size s.now (read_unsigned negative (drop at s.now)) result }
 {
-    match int_part(s, at) {
-        Int::Digits { end, value } => match tail(s, end) {
-            NumberPart::Past { end: last, whole } => Scan::Token {
-                end: last,
-                refused: refuses(negative, value, whole),
-                size: sign_size(negative) + (end - at),
-            },
-            NumberPart::NoPart(e) => Scan::NoToken(e),
-        },
-        Int::NoInt(e) => Scan::NoToken(e),
-    }
+    let int = int_part(s, at)?;
+    let rest = tail(s, int.end)?;
+    Ok(Token {
+        end: rest.end,
+        refused: refuses(negative, int.value, rest.whole),
+        size: sign_size(negative) + (int.end - at),
+    })
 }
 
 // The number at a position.
-pub fn number(s: &[u8], at: usize) -> Scan
+pub fn number(s: &[u8], at: usize) -> Result<Token, Stuck>
     requires { at ≤ length s.now }
     ensures { Within at result × ScansToken refused_number numeral_size s.now (read_number (drop at s.now)) result }
 {
     if s.len() <= at {
-        return Scan::NoToken(at);
+        return Err(at);
     }
     if s[at] == b'-' {
         unsigned(s, at + 1, true)

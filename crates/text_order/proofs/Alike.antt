@@ -1,6 +1,6 @@
 -- Runs of bytes that are alike in two texts and end no string: comparing goes on behind them.
 -- Assumes nothing.
-use Prim.Native.Nat.{ℕ, zero, suc, ◌+◌, ◌-◌, ◌<◌, ◌≤◌}
+use Prim.Native.Nat.{ℕ, zero, suc, ◌+◌, ◌<◌, ◌≤◌}
 use mathlib.Core.Path.{◌≡◌, refl, sym, ap, subst₂, ◌∙◌}
 use mathlib.Core.List.{List, [], ◌∷◌, ◌++◌}
 use mathlib.Core.Bool.{Bool, true, false, ◌&&◌, and-eq-true_iff}
@@ -17,7 +17,7 @@ use Rattle.laws.specs.Order.{same}
 use Rattle.laws.proofs.Order.{by_test, same_eq}
 use Rattle.text_strings.specs.InString.{InString, Inside}
 use Rattle.text_order.specs.Compare.{order, alike}
-use Rattle.text_order.specs.declared.Order.{Order}
+use Rattle.std.specs.declared.cmp.Ordering.{Ordering}
 use Rattle.text_strings.proofs.Cursors.{inside_next}
 use Rattle.text_order.proofs.Orders.{Tracks, both_plain}
 
@@ -75,7 +75,7 @@ module _ (s t : List ℕ) (i j : ℕ) where
   both_start p q = (p, q, λ x y u v. (x, y, u, v, refl))
 
   -- What is the order of the contents from the places reached on is the order of the whole contents.
-  pub told : {P Q : List ℕ → Type 0} {r : Order} → Both P Q s i t j
+  pub told : {P Q : List ℕ → Type 0} {r : Ordering} → Both P Q s i t j
       → ((x y : List ℕ) → InString s i x → InString t j y → r ≡ order x y) → (x y : List ℕ) → P x → Q y → r ≡ order x y
   told b f x y p q = let k = b.2 x y p q in f k.0 k.1 k.2 k.3 ∙ sym k.4
 

@@ -14,8 +14,8 @@ use Rattle.text_strings.specs.InString.{InString, Escapes}
 use Rattle.text_strings.specs.Cursor.{Left, GivesByte}
 use Rattle.text_order.specs.Compare.{order, differs}
 use Rattle.text_strings.specs.declared.Next.{Next}
-use Rattle.text_order.specs.declared.Order.{Order}
-use Rattle.text_order.specs.declared.Order.TheVariants.{Less, Equal, Greater}
+use Rattle.std.specs.declared.cmp.Ordering.{Ordering}
+use Rattle.std.specs.declared.cmp.Ordering.TheVariants.{Less, Equal, Greater}
 use Rattle.text_strings.proofs.Cursors.{closes, plain, given_byte, given_end}
 
 -- one step of the order
@@ -165,7 +165,7 @@ both_escaped s t i j m n c keep e f x y p q =
     (g.0, h.0, g.2, h.2, k.4 ∙ ap (λ (z : List ℕ). order z k.1) g.1 ∙ ap (order (encode c ++ g.0)) h.1 ∙ order_append (encode c) g.0 h.0)
 
 -- what the order says of two contents
-pub data Ordered (xs ys : List ℕ) : Order → Type 0 where
+pub data Ordered (xs ys : List ℕ) : Ordering → Type 0 where
   is_less : leq xs ys ≡ true → (xs ≡ ys → ⊥) → Ordered xs ys Less
   is_equal : xs ≡ ys → Ordered xs ys Equal
   is_greater : leq xs ys ≡ false → Ordered xs ys Greater
@@ -182,7 +182,7 @@ ordered (x ∷ xs) (y ∷ ys) = go (ordered xs ys) (step x y xs ys)
     go o (less h) = rw (order_less x y xs ys h) (is_less (leq_less x y xs ys h) (λ e. omega (arith, head-eq_of_cons-eq e)))
     go o (equal h) = rw (order_same x y xs ys h) (on o h)
       where
-        on : {r : Order} → Ordered xs ys r → x ≡ y → Ordered (x ∷ xs) (y ∷ ys) r
+        on : {r : Ordering} → Ordered xs ys r → x ≡ y → Ordered (x ∷ xs) (y ∷ ys) r
         on (is_less a b) q = is_less (leq_same x y xs ys q ∙ a) (λ e. b (tail-eq_of_cons-eq e))
         on (is_equal a) q = is_equal (cc)
         on (is_greater a) q = is_greater (leq_same x y xs ys q ∙ a)

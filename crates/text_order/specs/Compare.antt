@@ -2,18 +2,18 @@
 use Rattle.std.specs.Prelude.{ℕ, ◌+◌, List, [], ◌∷◌, Bool, true, false, not, ◌&&◌, ltb, eqb, leb, length, take, get_or}
 use Rattle.laws.specs.Order.{same}
 use Rattle.text_chars.specs.Measure.{is_unmarked, every}
-use Rattle.text_order.specs.declared.Order.{Order}
-use Rattle.text_order.specs.declared.Order.TheVariants.{Less, Equal, Greater}
+use Rattle.std.specs.declared.cmp.Ordering.{Ordering}
+use Rattle.std.specs.declared.cmp.Ordering.TheVariants.{Less, Equal, Greater}
 
 -- byte by byte from the start, and a content before every longer one that it begins
-unfoldable pub order : List ℕ → List ℕ → Order
+unfoldable pub order : List ℕ → List ℕ → Ordering
 order [] [] = Equal
 order [] (y ∷ ys) = Less
 order (x ∷ xs) [] = Greater
 order (x ∷ xs) (y ∷ ys) = elim (ltb x y) [ true ↦ Less | false ↦ elim (ltb y x) [ true ↦ Greater | false ↦ order xs ys ] ]
 
 -- the order that two different bytes of the text decide; a quotation mark is the end of a content
-unfoldable pub differs : ℕ → ℕ → Order
+unfoldable pub differs : ℕ → ℕ → Ordering
 differs x y = elim (eqb x 0x22) [ true ↦ Less | false ↦ elim (eqb y 0x22) [ true ↦ Greater | false ↦ elim (ltb x y) [ true ↦ Less | false ↦ Greater ] ] ]
 
 -- the lists begin with the same n bytes, none of which is a quotation mark or a backslash

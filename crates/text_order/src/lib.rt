@@ -7,40 +7,34 @@ ghost use Rattle.text_strings.specs.InString.{InString, Inside};
 ghost use Rattle.text_order.specs.Compare.{order, differs, alike, same_escape};
 ghost use Rattle.text_strings.specs.Cursor.{Left, ReadableCursor};
 
+use std::cmp::Ordering;
 use text_strings::Cursor;
 
-// How one string's content stands to another's, byte by byte.
-#[derive(Clone, Copy)]
-pub enum Order {
-    Less,
-    Equal,
-    Greater,
-}
-
 // The order of what is left before two cursors, one byte at a time.
-fn compare_cursors(s: &[u8], a: Cursor, t: &[u8], b: Cursor) -> Order
+fn compare_cursors(s: &[u8], a: Cursor, t: &[u8], b: Cursor) -> Ordering
     requires { ReadableCursor s.now a × ReadableCursor t.now b }
     ensures { (x y : List ℕ) → Left s.now a x → Left t.now b y → result ≡ order x y }
 {
     let mut i = a;
     let mut j = b;
+    // both cursors go on until one string ends or a byte differs: there is no list that a `for` would walk
     loop {
         let x = i.next(s);
         let y = j.next(t);
         if !x.found {
             if y.found {
-                return Order::Less;
+                return Ordering::Less;
             }
-            return Order::Equal;
+            return Ordering::Equal;
         }
         if !y.found {
-            return Order::Greater;
+            return Ordering::Greater;
         }
         if x.byte < y.byte {
-            return Order::Less;
+            return Ordering::Less;
         }
         if y.byte < x.byte {
-            return Order::Greater;
+            return Ordering::Greater;
         }
         i = x.rest;
         j = y.rest;
@@ -49,11 +43,12 @@ fn compare_cursors(s: &[u8], a: Cursor, t: &[u8], b: Cursor) -> Order
 
 // The order of two strings' contents from position i of s and position j of t on. Bytes that stand for themselves are compared
 // in place, and so are escapes of two bytes that are the same; at any other escape the cursors take over.
-fn compare_bytes(s: &[u8], i: usize, t: &[u8], j: usize) -> Order
+fn compare_bytes(s: &[u8], i: usize, t: &[u8], j: usize) -> Ordering
     requires { Inside s.now i × Inside t.now j }
     ensures { (x y : List ℕ) → InString s.now i x → InString t.now j y → result ≡ order x y }
 {
     let mut k = 0;
+    // the place goes on by one byte or by an escape of two, so no `for` counts it
     loop {
         let x = s[i + k];
         let y = t[j + k];
@@ -69,7 +64,7 @@ fn compare_bytes(s: &[u8], i: usize, t: &[u8], j: usize) -> Order
         }
         let is_closed = x == b'"';
         if is_closed {
-            return Order::Equal;
+            return Ordering::Equal;
         }
         k += 1;
     }
@@ -82,10 +77,8 @@ fn same_run(s: &[u8], i: usize, t: &[u8], j: usize, count: usize) -> bool
     ensures { result ≡ same (take count (drop i s.now)) (take count (drop j t.now)) }
 {
     let mut all = true;
-    let mut n = 0;
-    while n < count {
+    for n in 0..count {
         all &= s[i + n] == t[j + n];
-        n += 1;
     }
     all
 }
@@ -109,7 +102,7 @@ fn alike_run(s: &[u8], i: usize, t: &[u8], j: usize, count: usize) -> bool
 
 // The order of two strings' contents from position i of s and position j of t on: told at once by their first bytes where these differ
 // and neither begins an escape.
-fn compare_first(s: &[u8], i: usize, t: &[u8], j: usize) -> Order
+fn compare_first(s: &[u8], i: usize, t: &[u8], j: usize) -> Ordering
     requires { Inside s.now i × Inside t.now j }
     ensures { (x y : List ℕ) → InString s.now i x → InString t.now j y → result ≡ order x y }
 {
@@ -126,7 +119,7 @@ fn compare_first(s: &[u8], i: usize, t: &[u8], j: usize) -> Order
 
 // The order of two strings' contents from position i of s and position j of t on: eight bytes at once if they are alike, then byte by
 // byte.
-fn compare_rest(s: &[u8], i: usize, t: &[u8], j: usize) -> Order
+fn compare_rest(s: &[u8], i: usize, t: &[u8], j: usize) -> Ordering
     requires { Inside s.now i × Inside t.now j }
     ensures { (x y : List ℕ) → InString s.now i x → InString t.now j y → result ≡ order x y }
 {
@@ -138,7 +131,7 @@ fn compare_rest(s: &[u8], i: usize, t: &[u8], j: usize) -> Order
 
 // The order of two strings' contents from position i of s and position j of t on: sixteen bytes at a time while they are alike. Most
 // strings differ at once, so that is looked at first.
-pub fn compare(s: &[u8], i: usize, t: &[u8], j: usize) -> Order
+pub fn compare(s: &[u8], i: usize, t: &[u8], j: usize) -> Ordering
     requires { Inside s.now i × Inside t.now j }
     ensures { (x y : List ℕ) → InString s.now i x → InString t.now j y → result ≡ order x y }
 {
@@ -146,6 +139,7 @@ pub fn compare(s: &[u8], i: usize, t: &[u8], j: usize) -> Order
         return compare_first(s, i, t, j);
     }
     let mut k = 0;
+    // where the strings stop being alike is what is asked, so no `for` counts it
     while alike_run(s, i + k, t, j + k, 16) {
         k += 16;
     }
@@ -178,17 +172,17 @@ fn same_escape(s: &[u8], p: usize, t: &[u8], q: usize) -> bool
 }
 
 // The order of two contents that begin with different bytes of the text, where a quotation mark is the end of a content.
-fn differ(x: u8, y: u8) -> Order
+fn differ(x: u8, y: u8) -> Ordering
     ensures { result ≡ differs x y }
 {
     if x == b'"' {
-        return Order::Less;
+        return Ordering::Less;
     }
     if y == b'"' {
-        return Order::Greater;
+        return Ordering::Greater;
     }
     if x < y {
-        return Order::Less;
+        return Ordering::Less;
     }
-    Order::Greater
+    Ordering::Greater
 }

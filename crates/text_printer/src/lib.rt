@@ -14,6 +14,7 @@ pub fn copy(s: &[u8], from: usize, to: usize, out: &mut [u8]) -> usize
     ensures { (result ≡ to - from) × Writes out.old out.new (take (to - from) (drop from s.now)) }
 {
     let n = to - from;
+    // a loop, since `copy_from_slice` calls libc's memmove, and the header promises that only memcpy and memset are called
     let mut i = 0;
     while i < n {
         out[i] = s[from + i];
@@ -48,14 +49,13 @@ fn unmarked_tail(s: &[u8], at: usize) -> usize
     requires { at ≤ length s.now }
     ensures { UnmarkedRun s.now at result }
 {
-    let mut i = at;
-    while i < s.len() {
+    for i in at..s.len() {
         match s[i] {
             b'"' | b'\\' => return i,
-            _ => i += 1,
+            _ => {}
         }
     }
-    i
+    s.len()
 }
 
 // The same: eight bytes at once if there are that many, then one byte at a time.
@@ -75,6 +75,7 @@ fn unmarked_end(s: &[u8], at: usize) -> usize
     ensures { UnmarkedRun s.now at result }
 {
     let mut i = at;
+    // where the run ends is what is asked, so no `for` counts it
     while text_chars::unmarked_left(s, i, 16) {
         i += 16;
     }
@@ -93,6 +94,7 @@ fn write_content(s: &[u8], i: usize, out: &mut [u8]) -> usize
 {
     let mut k = i;
     let mut n = 0;
+    // the position goes on by an escape or by a run of bytes, so no `for` counts it
     loop {
         let b = s[k];
         if b == b'"' {

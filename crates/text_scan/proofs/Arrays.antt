@@ -1,4 +1,5 @@
 -- Reading the elements of an array from the left.
+use Rattle.std.specs.Prelude.{Ok, Err}
 use Prim.Native.Nat.{ℕ, ◌+◌, ◌<◌, ◌≤◌, max}
 use mathlib.Core.Path.{◌≡◌, refl, sym, ap, ◌∙◌}
 use mathlib.Core.List.{List, [], ◌∷◌, ◌++◌}
@@ -20,7 +21,6 @@ use Rattle.text_scan.specs.Scanned.{read_array}
 use Rattle.text_tokens.specs.declared.Summary.{Summary}
 use Rattle.text_tokens.specs.declared.ScannedValue.{ScannedValue}
 use Rattle.text_tokens.specs.declared.After.{After}
-use Rattle.text_tokens.specs.declared.Scanned.TheVariants.{Value, Stuck}
 use Rattle.text_scan.proofs.Results.{IsValue, scans_stuck, value_later, value_size, read_nothing, listed_empty, listed_items, item_stuck, item_ends}
 use Rattle.text_scan.proofs.Results.{item_sticks, item_more}
 
@@ -167,7 +167,7 @@ module _ (s : List ℕ) (at depth : ℕ) where
 
 module _ {s : List ℕ} {at depth i : ℕ} {sum : Summary} (p : ArrayScanned s at depth i sum) where
   -- the element at i is stuck
-  pub stuck_element : (e : ℕ) → ScansValue s (read depth (drop i s)) (Stuck e) → ScansValue s (read_array depth (drop at s)) (Stuck e)
+  pub stuck_element : (e : ℕ) → ScansValue s (read depth (drop i s)) (Err e) → ScansValue s (read_array depth (drop at s)) (Err e)
   unfolding read_array and_then
   stuck_element e q =
       let r = scans_stuck s (read depth (drop i s)) e q in
@@ -187,8 +187,8 @@ module _ {s : List ℕ} {at depth i : ℕ} {sum : Summary} (p : ArrayScanned s a
     now_holds = ap (λ (x : Summary). plus x f.sum) p.holds ∙ ap (plus (array_sum p.done)) q.sum ∙ sum_snoc p.done q.tree
 
     -- If the closing bracket follows the element, the array is read, and its summary is that of the elements done and this one.
-    pub ends : (e : ℕ) → Follows s f.end 0x5D (After.End e)
-        → ScansValue s (read_array depth (drop at s)) (Value (record { end = e; count = 0; sum = plus sum f.sum }))
+    pub ends : (e : ℕ) → Follows s f.end 0x5D (Ok (After.End e))
+        → ScansValue s (read_array depth (drop at s)) (Ok (record { end = e; count = 0; sum = plus sum f.sum }))
     unfolding read_array and_then own_key_count
     ends e w =
         rw (item_ends (read depth) 0x5D (read_shorter depth) (read_nothing depth) s i p.done (read_listed (read depth) 0x5D (drop at s)) p.reads
@@ -196,7 +196,7 @@ module _ {s : List ℕ} {at depth i : ℕ} {sum : Summary} (p : ArrayScanned s a
         ((w.1, refl), now_holds ∙ sum_array (p.done ++ (q.tree ∷ [])) (omega (arith, length-append p.done (q.tree ∷ []))), refl)
 
     -- If neither a comma nor the closing bracket follows the element, reading the array is stuck there.
-    pub sticks : (e : ℕ) → Follows s f.end 0x5D (After.Stuck e) → ScansValue s (read_array depth (drop at s)) (Stuck e)
+    pub sticks : (e : ℕ) → Follows s f.end 0x5D (Err e) → ScansValue s (read_array depth (drop at s)) (Err e)
     unfolding read_array and_then
     sticks e w =
         rw (item_sticks (read depth) 0x5D (read_shorter depth) (read_nothing depth) s i p.done (read_listed (read depth) 0x5D (drop at s)) p.reads
@@ -204,7 +204,7 @@ module _ {s : List ℕ} {at depth i : ℕ} {sum : Summary} (p : ArrayScanned s a
         (w.0.0, refl)
 
     -- If a comma follows the element, reading goes on at the next one with this element done.
-    pub goes_on : (j : ℕ) → Follows s f.end 0x5D (After.More j) → ArrayScanned s at depth j (plus sum f.sum)
+    pub goes_on : (j : ℕ) → Follows s f.end 0x5D (Ok (After.More j)) → ArrayScanned s at depth j (plus sum f.sum)
     unfolding plus
     goes_on j w =
         record {

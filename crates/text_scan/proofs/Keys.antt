@@ -1,4 +1,5 @@
 -- The keys that the reading of an object leaves: when they are those of a value, and of a text.
+use Rattle.std.specs.Prelude.{Result, Ok, Err}
 use Prim.Native.Nat.{ℕ, zero, suc, ◌+◌, ◌-◌, ◌<◌, ◌≤◌}
 use mathlib.Core.Path.{◌≡◌, refl, sym, ap, subst, ◌∙◌}
 use mathlib.Core.List.{List, [], ◌∷◌, ◌++◌}
@@ -19,9 +20,8 @@ use Rattle.text_keys.proofs.Members.{members_same}
 use Rattle.text_tokens.specs.Scanned.{closed_value}
 use Rattle.text_scan.specs.Scanned.{KeysOf, LeavesKeys, SortedKeys, read_object}
 use Rattle.text_tokens.specs.declared.Summary.{Summary}
-use Rattle.text_tokens.specs.declared.Scanned.{Scanned}
-use Rattle.text_tokens.specs.declared.Scanned.TheVariants.{Value, Stuck}
 use Rattle.text_scan.proofs.Values.{reads_object}
+use Rattle.text_tokens.specs.declared.ScannedValue.{ScannedValue}
 
 -- from the members that were read
 pub keys_of : (s : List ℕ) (x : Read Syntax) (ms : List Member) (r : List ℕ) (n : ℕ) (keys : List ℕ) → x ≡ found (object (members ms)) r
@@ -37,7 +37,7 @@ unfolding sort
 no_keys_left s keys = record { places = []; here = no_places; within = omega arith; sorted = refl }
 
 -- the keys of an object whose end was read, sorted in place before what the list held past them
-pub closed_keys : (s : List ℕ) (x : Read Syntax) (e : ℕ) (sum : Summary) (ks ls xs rest : List ℕ) (z : Scanned)
+pub closed_keys : (s : List ℕ) (x : Read Syntax) (e : ℕ) (sum : Summary) (ks ls xs rest : List ℕ) (z : Result ScannedValue ℕ)
     → z ≡ closed_value s e sum ks → xs ≡ sort (key_le s) ks → length xs ≡ length ks → ks ≡ ls
     → ((n : ℕ) (keys : List ℕ) → n ≤ length keys → take n keys ≡ sort (key_le s) ls → KeysOf s x n keys) → LeavesKeys s x (xs ++ rest) z
 closed_keys s x e sum ks ls xs rest z a b c d h =
@@ -45,7 +45,7 @@ closed_keys s x e sum ks ls xs rest z a b c d h =
     (h (length ks) (xs ++ rest) (omega (arith, length-append xs rest)) (take_at xs rest (length ks) c ∙ b ∙ ap (sort (key_le s)) d))
 
 -- what an object leaves, by the byte before it
-pub object_keys : (s : List ℕ) (at depth : ℕ) (keys : List ℕ) (z : Scanned) → at < length s → 0 < depth → get_or s at 0 ≡ 0x7B
+pub object_keys : (s : List ℕ) (at depth : ℕ) (keys : List ℕ) (z : Result ScannedValue ℕ) → at < length s → 0 < depth → get_or s at 0 ≡ 0x7B
     → LeavesKeys s (read_object (depth - 1) (drop (at + 1) s)) keys z → LeavesKeys s (read depth (drop at s)) keys z
 object_keys s at depth keys z w h e p = subst (λ (x : Read Syntax). LeavesKeys s x keys z) (sym (reads_object s at depth w h e)) p
 
@@ -66,12 +66,12 @@ brace_first s at (suc d) l t r ms e f (Nested.is_an_object {b} {s = m} q p) =
     (rw add-zero at (below_at s at (b ∷ m) e 0 (omega arith)), rw add-zero at (byte_at s at (b ∷ m) e 0) ∙ q)
 
 -- If no opening brace stands at a position, no object is read there, and any keys may be left.
-pub no_object : (s : List ℕ) (at depth : ℕ) (keys : List ℕ) (z : Scanned) → (at < length s → get_or s at 0 ≡ 0x7B → ⊥)
+pub no_object : (s : List ℕ) (at depth : ℕ) (keys : List ℕ) (z : Result ScannedValue ℕ) → (at < length s → get_or s at 0 ≡ 0x7B → ⊥)
     → LeavesKeys s (read depth (drop at s)) keys z
-no_object s at depth keys (Value f) n = λ ms r e.
+no_object s at depth keys (Ok f) n = λ ms r e.
     let b = brace_first s at depth (drop at s) (object (members ms)) r (members ms) refl refl (read_sound depth (drop at s) (object (members ms)) r e) in
     absurd (n b.0 b.1)
-no_object s at depth keys (Stuck e) n = tt
+no_object s at depth keys (Err e) n = tt
 
 -- what the value of a text leaves, which stands after its first spaces
 pub text_keys : (s : List ℕ) (at n : ℕ) (keys : List ℕ) → At s at (spaces s) → KeysOf s (read 8 (drop at s)) n keys → KeysOf s (read_text 8 s) n keys

@@ -1,4 +1,5 @@
 -- Reading the members of an object from the left.
+use Rattle.std.specs.Prelude.{Result, Err, Ok}
 use Prim.Native.Nat.{ℕ, ◌+◌, ◌*◌, ◌-◌, ◌<◌, ◌≤◌, max}
 use mathlib.Core.Path.{◌≡◌, refl, sym, ap, subst, ◌∙◌}
 use mathlib.Core.List.{List, [], ◌∷◌, ◌++◌}
@@ -13,7 +14,7 @@ use Rattle.text_json.specs.Read.{Read, found, stuck, and_then, spaces, read_list
 use Rattle.text_json.specs.Content.{refused_string, unescape}
 use Rattle.text_json.specs.Size.{string_size}
 use Rattle.text_json.specs.Scan.{At, ScansToken as TokenScans}
-use Rattle.text_json.specs.declared.Scan.TheVariants.{Token, NoToken}
+use Rattle.text_json.specs.declared.Token.{Token}
 use Rattle.text_json.proofs.Items.{items_from, prepend_all}
 use Rattle.text_json.proofs.Grammar.Ends.{inside_length}
 use Rattle.text_json.proofs.Grammar.Rests.{pair_inside, value_ends}
@@ -38,8 +39,6 @@ use Rattle.text_scan.specs.Scanned.{read_object, KeysOf}
 use Rattle.text_tokens.specs.declared.Summary.{Summary}
 use Rattle.text_tokens.specs.declared.ScannedValue.{ScannedValue}
 use Rattle.text_tokens.specs.declared.After.{After}
-use Rattle.text_tokens.specs.declared.Scanned.{Scanned}
-use Rattle.text_tokens.specs.declared.Scanned.TheVariants.{Stuck}
 use Rattle.text_scan.proofs.Results.{IsValue, scans_stuck, value_later, value_size, listed_empty, listed_items, item_stuck, item_ends, item_sticks}
 use Rattle.text_scan.proofs.Results.{item_more}
 use Rattle.text_tokens.proofs.Tokens.{mark_at}
@@ -209,16 +208,16 @@ pub record IsName (s : List ℕ) (i v fault size : ℕ) : Type 0 where
   pub short : i + size < v
 
 -- A key that is scanned at position `i` is read there, with its end, its fault and the length of its canonical form.
-pub token_name : (s : List ℕ) (i e n k : ℕ) (f : Bool) → KeyWithin i (Token e f n) → TokenScans refused_string string_size s (read_key (drop i s)) (Token e f n)
-    → k ≡ cond f (length s - i) 0 → IsName s i e k n
-token_name s i e n k f w p m = go (read_key (drop i s)) refl p
+pub token_name : (s : List ℕ) (i k : ℕ) (t : Token) → KeyWithin i (Ok t) → TokenScans refused_string string_size s (read_key (drop i s)) (Ok t)
+    → k ≡ cond t.refused (length s - i) 0 → IsName s i t.end k t.size
+token_name s i k t w p m = go (read_key (drop i s)) refl p
   where
-    go : (x : Read (List Char)) → read_key (drop i s) ≡ x → TokenScans refused_string string_size s x (Token e f n) → IsName s i e k n
+    go : (x : Read (List Char)) → read_key (drop i s) ≡ x → TokenScans refused_string string_size s x (Ok t) → IsName s i t.end k t.size
     go (found cs r) q z =
         record {
           chars = cs;
           reads = q ∙ ap (found cs) z.0.1;
-          faulty = m ∙ sym (mark_at f s i) ∙ ap (λ (b : Bool). mark b (drop i s)) z.1;
+          faulty = m ∙ sym (mark_at t.refused s i) ∙ ap (λ (b : Bool). mark b (drop i s)) z.1;
           sized = z.2;
           within = z.0.0;
           later = w.0;
@@ -227,11 +226,11 @@ token_name s i e n k f w p m = go (read_key (drop i s)) refl p
     go (stuck r) q z = absurd z
 
 -- If no key is scanned at position `i`, reading a key there is stuck at the position that is told, within the text.
-pub none_stuck : (s : List ℕ) (i e : ℕ) → TokenScans refused_string string_size s (read_key (drop i s)) (NoToken e)
+pub none_stuck : (s : List ℕ) (i e : ℕ) → TokenScans refused_string string_size s (read_key (drop i s)) (Err e)
     → (e ≤ length s) × (read_key (drop i s) ≡ stuck (drop e s))
 none_stuck s i e p = go (read_key (drop i s)) refl p
   where
-    go : (x : Read (List Char)) → read_key (drop i s) ≡ x → TokenScans refused_string string_size s x (NoToken e)
+    go : (x : Read (List Char)) → read_key (drop i s) ≡ x → TokenScans refused_string string_size s x (Err e)
         → (e ≤ length s) × (read_key (drop i s) ≡ stuck (drop e s))
     go (found cs r) q z = absurd z
     go (stuck r) q z = (z.0, q ∙ ap stuck z.1)
@@ -309,20 +308,20 @@ module _ (s : List ℕ) (at depth : ℕ) where
 
 module _ {s : List ℕ} {at depth i : ℕ} {ks : List ℕ} {sum : Summary} (p : ObjectScanned s at depth i ks sum) where
   -- no member can be read at i
-  stuck_pair : (e : ℕ) → e ≤ length s → read_pair (read depth) (drop i s) ≡ stuck (drop e s) → ScansValue s (read_object depth (drop at s)) (Stuck e)
+  stuck_pair : (e : ℕ) → e ≤ length s → read_pair (read depth) (drop i s) ≡ stuck (drop e s) → ScansValue s (read_object depth (drop at s)) (Err e)
   unfolding read_object and_then
   stuck_pair e w q =
       rw (item_stuck (read_pair (read depth)) 0x7D (pair_shorter depth) (pair_nothing depth) s i p.done
       (read_listed (read_pair (read depth)) 0x7D (drop at s)) p.reads e q) (w, refl)
 
   -- If reading a key at position `i` is stuck, reading the object is stuck at the same position.
-  pub stuck_key : (e : ℕ) → TokenScans refused_string string_size s (read_key (drop i s)) (NoToken e) → ScansValue s (read_object depth (drop at s)) (Stuck e)
+  pub stuck_key : (e : ℕ) → TokenScans refused_string string_size s (read_key (drop i s)) (Err e) → ScansValue s (read_object depth (drop at s)) (Err e)
   unfolding and_then
   stuck_key e q = let r = none_stuck s i e q in stuck_pair e r.0 (pair_by_key (read depth) (drop i s) ∙ rw r.1)
 
   module _ {v fault size : ℕ} (q : IsName s i v fault size) where
     -- If reading the member's value is stuck, reading the object is stuck at the same position.
-    pub stuck_value : (e : ℕ) → ScansValue s (read depth (drop v s)) (Stuck e) → ScansValue s (read_object depth (drop at s)) (Stuck e)
+    pub stuck_value : (e : ℕ) → ScansValue s (read depth (drop v s)) (Err e) → ScansValue s (read_object depth (drop at s)) (Err e)
     unfolding and_then
     stuck_value e z =
         let r = scans_stuck s (read depth (drop v s)) e z in
@@ -373,7 +372,7 @@ module _ {s : List ℕ} {at depth i : ℕ} {ks : List ℕ} {sum : Summary} (p : 
       unfolding tree
       now_places = places_snoc s tree i p.places refl (sym (content_from_is s (i + 1) (unescape q.chars) (name_inside s i v fault size q)))
 
-      whole_reads : (e : ℕ) → Follows s f.end 0x7D (After.End e)
+      whole_reads : (e : ℕ) → Follows s f.end 0x7D (Ok (After.End e))
           → read_object depth (drop at s) ≡ found (object (members (p.done ++ (tree ∷ [])))) (drop e s)
       unfolding read_object and_then
       whole_reads e w =
@@ -381,7 +380,7 @@ module _ {s : List ℕ} {at depth i : ℕ} {ks : List ℕ} {sum : Summary} (p : 
           (read_listed (read_pair (read depth)) 0x7D (drop at s)) p.reads tree f.end pair_reads e w)
 
       -- If the closing brace follows the member, the object is read, and its summary is that of the members done and this one.
-      pub ends : (e : ℕ) → Follows s f.end 0x7D (After.End e)
+      pub ends : (e : ℕ) → Follows s f.end 0x7D (Ok (After.End e))
           → ScansValue s (read_object depth (drop at s)) (closed_value s e (plus sum (member_summary fault size f.sum)) (ks ++ (i ∷ [])))
       ends e w = rw (whole_reads e w) ((w.1, refl), closing, own_places s now_places)
         where
@@ -391,14 +390,14 @@ module _ {s : List ℕ} {at depth i : ℕ} {ks : List ℕ} {sum : Summary} (p : 
               ∙ sum_object s (p.done ++ (tree ∷ [])) (ks ++ (i ∷ [])) now_places (omega (arith, length-append p.done (tree ∷ [])))
 
       -- its keys, once they are sorted
-      pub ends_keys : (e : ℕ) → Follows s f.end 0x7D (After.End e)
+      pub ends_keys : (e : ℕ) → Follows s f.end 0x7D (Ok (After.End e))
           → (n : ℕ) (keys : List ℕ) → n ≤ length keys → take n keys ≡ sort (key_le s) (ks ++ (i ∷ [])) → KeysOf s (read_object depth (drop at s)) n keys
       ends_keys e w n keys h k =
           keys_of s (read_object depth (drop at s)) (p.done ++ (tree ∷ [])) (drop e s) n keys (whole_reads e w)
           (record { places = ks ++ (i ∷ []); here = now_places; within = h; sorted = k })
 
       -- If neither a comma nor the closing brace follows the member, reading the object is stuck there.
-      pub sticks : (e : ℕ) → Follows s f.end 0x7D (After.Stuck e) → ScansValue s (read_object depth (drop at s)) (Stuck e)
+      pub sticks : (e : ℕ) → Follows s f.end 0x7D (Err e) → ScansValue s (read_object depth (drop at s)) (Err e)
       unfolding read_object and_then
       sticks e w =
           rw (item_sticks (read_pair (read depth)) 0x7D (pair_shorter depth) (pair_nothing depth) s i p.done
@@ -406,7 +405,7 @@ module _ {s : List ℕ} {at depth i : ℕ} {ks : List ℕ} {sum : Summary} (p : 
           (w.0.0, refl)
 
       -- If a comma follows the member, reading goes on at the next one with this member done.
-      pub goes_on : (j : ℕ) → Follows s f.end 0x7D (After.More j)
+      pub goes_on : (j : ℕ) → Follows s f.end 0x7D (Ok (After.More j))
           → ObjectScanned s at depth j (ks ++ (i ∷ [])) (plus sum (member_summary fault size f.sum))
       unfolding plus member_summary
       goes_on j w =
@@ -448,7 +447,7 @@ unfolding member_summary
 member_size fault size v x e = ap (λ (y : Summary). y.size) e
 
 -- an object's end and what it holds, by equal parts
-pub closed_same : (s : List ℕ) (r : Read Syntax) (e : ℕ) (x m n sum : Summary) (ks ls : List ℕ) (z : Scanned)
+pub closed_same : (s : List ℕ) (r : Read Syntax) (e : ℕ) (x m n sum : Summary) (ks ls : List ℕ) (z : Result ScannedValue ℕ)
     → z ≡ closed_value s e x ks → x ≡ plus sum m → m ≡ n → ks ≡ ls → ScansValue s r (closed_value s e (plus sum n) ls) → ScansValue s r z
 closed_same s r e x m n sum ks ls z a b c d p =
     subst (ScansValue s r) (sym (a ∙ ap (λ (w : Summary). closed_value s e w ks) (b ∙ ap (plus sum) c) ∙ ap (closed_value s e (plus sum n)) d)) p

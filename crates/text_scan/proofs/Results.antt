@@ -1,4 +1,5 @@
 -- What is common to reading the elements of an array and the members of an object.
+use Rattle.std.specs.Prelude.{Ok, Err}
 use Prim.Native.Nat.{ℕ, zero, suc, ◌+◌, ◌<◌, ◌≤◌}
 use mathlib.Core.Path.{◌≡◌, refl, ap, ◌∙◌}
 use mathlib.Core.List.{List, [], ◌∷◌, ◌++◌}
@@ -17,7 +18,6 @@ use Rattle.text_content.proofs.NotLonger.{value_not_longer}
 use Rattle.text_tokens.specs.Summary.{summary, own_key_count}
 use Rattle.text_tokens.specs.Scanned.{ScansValue, Follows}
 use Rattle.text_tokens.specs.declared.ScannedValue.{ScannedValue}
-use Rattle.text_tokens.specs.declared.Scanned.TheVariants.{Value, Stuck}
 use Rattle.text_strings.proofs.Views.{byte_at, below_at}
 use Rattle.text_tokens.specs.declared.After.{After}
 use Rattle.text_tokens.proofs.Follow.{after_end, after_more, after_stuck}
@@ -32,12 +32,12 @@ pub record IsValue (s : List ℕ) (x : Read Syntax) (f : ScannedValue) : Type 0 
   pub within : f.end ≤ length s
 
 -- If the scan answers with a value, a value is read, and the answer tells its end, its summary and the number of its own keys.
-pub scans_value : (s : List ℕ) (x : Read Syntax) (f : ScannedValue) → ScansValue s x (Value f) → IsValue s x f
+pub scans_value : (s : List ℕ) (x : Read Syntax) (f : ScannedValue) → ScansValue s x (Ok f) → IsValue s x f
 scans_value s (found t r) f p = record { tree = t; reads = ap (found t) p.0.1; sum = p.1; count = p.2; within = p.0.0 }
 scans_value s (stuck r) f p = absurd p
 
 -- If the scan answers that it is stuck, reading is stuck at the position that is told, within the text.
-pub scans_stuck : (s : List ℕ) (x : Read Syntax) (e : ℕ) → ScansValue s x (Stuck e) → (e ≤ length s) × (x ≡ stuck (drop e s))
+pub scans_stuck : (s : List ℕ) (x : Read Syntax) (e : ℕ) → ScansValue s x (Err e) → (e ≤ length s) × (x ≡ stuck (drop e s))
 scans_stuck s (found t r) e p = absurd p
 scans_stuck s (stuck r) e p = (p.0, ap stuck p.1)
 
@@ -119,13 +119,13 @@ module _ {A : Type 0} (item : List ℕ → Read A) (mark : ℕ) (shorter : (s : 
         ∙ ap (λ (y : Read A). and_then y (λ u r. after_item (items_from item mark) mark u (spaces r))) q)
 
     -- If the end mark follows the next item, the items done and this one are found, and the rest begins after the mark.
-    pub item_ends : (e : ℕ) → Follows s k mark (After.End e) → x ≡ found (done ++ (t ∷ [])) (drop e s)
+    pub item_ends : (e : ℕ) → Follows s k mark (Ok (After.End e)) → x ≡ found (done ++ (t ∷ [])) (drop e s)
     item_ends e w = by_next ∙ ap (prepend_all done) (after_end (items_from item mark) t s k mark e w) ∙ prepend_all_found done (t ∷ []) (drop e s)
 
     -- If neither a comma nor the end mark follows the next item, reading all of them is stuck there.
-    pub item_sticks : (e : ℕ) → Follows s k mark (After.Stuck e) → x ≡ stuck (drop e s)
+    pub item_sticks : (e : ℕ) → Follows s k mark (Err e) → x ≡ stuck (drop e s)
     item_sticks e w = by_next ∙ ap (prepend_all done) (after_stuck (items_from item mark) t s k mark e w) ∙ prepend_all_stuck done (drop e s)
 
     -- If a comma follows the next item, reading goes on at the item after it with this one done.
-    pub item_more : (j : ℕ) → Follows s k mark (After.More j) → x ≡ prepend_all (done ++ (t ∷ [])) (items_from item mark (drop j s))
+    pub item_more : (j : ℕ) → Follows s k mark (Ok (After.More j)) → x ≡ prepend_all (done ++ (t ∷ [])) (items_from item mark (drop j s))
     item_more j w = by_next ∙ ap (prepend_all done) (after_more (items_from item mark) t s k mark j w) ∙ prepend_all_snoc done t (items_from item mark (drop j s))

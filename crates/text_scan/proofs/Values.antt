@@ -1,4 +1,5 @@
 -- Which case of a value it is, by its first byte and the nesting that is left.
+use Rattle.std.specs.Prelude.{Result, Ok, Err}
 use Prim.Native.Nat.{ℕ, zero, suc, ◌+◌, ◌-◌, ◌<◌, ◌≤◌}
 use mathlib.Core.Path.{◌≡◌, refl, sym}
 use mathlib.Core.List.{List, ◌∷◌}
@@ -10,8 +11,6 @@ use Rattle.text_tokens.specs.Scanned.{ScansValue}
 use Rattle.text_scan.specs.Scanned.{read_array, read_object}
 use Rattle.text_json.specs.Scan.{At}
 use Rattle.text_tokens.specs.declared.ScannedValue.{ScannedValue}
-use Rattle.text_tokens.specs.declared.Scanned.{Scanned}
-use Rattle.text_tokens.specs.declared.Scanned.TheVariants.{Value, Stuck}
 use Rattle.text_scan.proofs.Results.{IsValue, scans_stuck, read_nothing}
 use Rattle.text_tokens.proofs.Tokens.{here}
 
@@ -35,7 +34,7 @@ pub reads_object : (s : List ℕ) (at depth : ℕ) → at < length s → 0 < dep
     → read depth (drop at s) ≡ read_object (depth - 1) (drop (at + 1) s)
 reads_object s at depth w h e = rw (here s at w) (of_object depth (get_or s at 0) (drop (at + 1) s) h e)
 
-module _ (s : List ℕ) (at depth : ℕ) (x : Scanned) where
+module _ (s : List ℕ) (at depth : ℕ) (x : Result ScannedValue ℕ) where
   -- Where an opening bracket stands and the depth is not 0, a scan of what follows it as an array is a scan of the value.
   pub is_an_array : at < length s → 0 < depth → get_or s at 0 ≡ 0x5B → ScansValue s (read_array (depth - 1) (drop (at + 1) s)) x
       → ScansValue s (read depth (drop at s)) x
@@ -64,7 +63,7 @@ module _ (s : List ℕ) (at depth : ℕ) (x : Scanned) where
 -- A whole text: spaces up to `at`, and a value there.
 module _ (s : List ℕ) (at : ℕ) (p : At s at (spaces s)) where
   -- If reading the value is stuck, reading the text is stuck at the same position.
-  pub text_stuck : (e : ℕ) → ScansValue s (read 8 (drop at s)) (Stuck e) → ScansValue s (read_text 8 s) (Stuck e)
+  pub text_stuck : (e : ℕ) → ScansValue s (read 8 (drop at s)) (Err e) → ScansValue s (read_text 8 s) (Err e)
   unfolding read_text and_then
   text_stuck e q =
       let r = scans_stuck s (read 8 (drop at s)) e q in
@@ -72,11 +71,11 @@ module _ (s : List ℕ) (at : ℕ) (p : At s at (spaces s)) where
 
   module _ (f : ScannedValue) (q : IsValue s (read 8 (drop at s)) f) (end : ℕ) (w : At s end (spaces (drop f.end s))) where
     -- something else follows it
-    pub text_junk : end < length s → ScansValue s (read_text 8 s) (Stuck end)
+    pub text_junk : end < length s → ScansValue s (read_text 8 s) (Err end)
     unfolding read_text and_then at_end
     text_junk h = rw (p.1, q.reads, w.1, here s end h) (w.0, sym (here s end h))
 
     -- If only spaces follow the value, the text is read to its end, with the value's summary and the number of its own keys.
-    pub text_whole : length s ≤ end → ScansValue s (read_text 8 s) (Value (record { end = end; count = f.count; sum = f.sum }))
+    pub text_whole : length s ≤ end → ScansValue s (read_text 8 s) (Ok (record { end = end; count = f.count; sum = f.sum }))
     unfolding read_text and_then at_end
     text_whole h = rw (p.1, q.reads, w.1, drop_of_length-le s {i = end} h) ((w.0, sym (drop_of_length-le s {i = end} h)), q.sum, q.count)

@@ -1,12 +1,11 @@
 -- What reading arrays, objects and whole texts in place needs and leaves.
-use Rattle.std.specs.Prelude.{ℕ, ◌+◌, ◌*◌, ◌≤◌, ◌≡◌, List, length, take}
+use Rattle.std.specs.Prelude.{ℕ, ◌+◌, ◌*◌, ◌≤◌, ◌≡◌, List, length, take, Result, Ok, Err}
 use Rattle.laws.specs.Sort.{sort}
 use Rattle.text_json.specs.Syntax.{Syntax, Member, array, object, elements, members}
 use Rattle.text_json.specs.Read.{Read, found, and_then, read_listed, read_pair, read}
 use Rattle.text_strings.specs.InString.{key_le}
 use Rattle.text_keys.specs.Repeats.{Places}
-use Rattle.text_tokens.specs.declared.Scanned.{Scanned}
-use Rattle.text_tokens.specs.declared.Scanned.TheVariants.{Value, Stuck}
+use Rattle.text_tokens.specs.declared.ScannedValue.{ScannedValue}
 
 -- The first n keys are those of an object with the members ms, sorted by their contents: a key is given by its place, and before
 -- the sorting they stood in the order of the text.
@@ -21,9 +20,9 @@ abbrev pub KeysOf : List ℕ → Read Syntax → ℕ → List ℕ → Type 0
 KeysOf s x n keys = (ms : List Member) (r : List ℕ) → x ≡ found (object (members ms)) r → SortedKeys s ms n keys
 
 -- the same of an answer, which tells the number of the keys
-abbrev pub LeavesKeys : List ℕ → Read Syntax → List ℕ → Scanned → Type 0
-LeavesKeys s x keys (Value f) = KeysOf s x f.count keys
-LeavesKeys s x keys (Stuck e) = Unit {0}
+abbrev pub LeavesKeys : List ℕ → Read Syntax → List ℕ → Result ScannedValue ℕ → Type 0
+LeavesKeys s x keys (Ok f) = KeysOf s x f.count keys
+LeavesKeys s x keys (Err e) = Unit {0}
 
 -- what follows the opening mark of an array, and of an object
 unfoldable pub read_array : ℕ → List ℕ → Read Syntax

@@ -7,15 +7,21 @@ ghost use Rattle.text_json.specs.Read.{read, read_text};
 ghost use Rattle.text_tokens.specs.Scanned.{ScansValue};
 ghost use Rattle.text_scan.specs.Scanned.{ScanSpace, LeavesKeys, read_array, read_object};
 
-use text_json::MOST_NESTING;
+use text_json::{MOST_NESTING, Stuck};
 use text_tokens::{
-    After, Name, Scanned, ScannedValue, Summary, added, after_item, closed, key, mark, member,
-    plain, scalar, stands, string,
+    After, Name, ScannedValue, Summary, added, after_item, closed, key, mark, member, plain,
+    scalar, stands, string,
 };
 
 // A value with arrays and objects nested at most `depth` deep. The keys of its objects are kept in `keys` while they are read.
 #[cycle(array_inner_object_value)]
-fn value(s: &[u8], at: usize, depth: usize, keys: &mut [u16], spare: &mut [u16]) -> Scanned
+fn value(
+    s: &[u8],
+    at: usize,
+    depth: usize,
+    keys: &mut [u16],
+    spare: &mut [u16],
+) -> Result<ScannedValue, Stuck>
     requires { ScanSpace s.now at keys.old spare.old }
     ensures { ScansValue s.now (read depth (drop at s.now)) result }
 {
@@ -35,7 +41,13 @@ fn value(s: &[u8], at: usize, depth: usize, keys: &mut [u16], spare: &mut [u16])
 
 // A value in an array or an object. Most are strings, and what is known of a string need not pass through `value`, which calls itself.
 #[cycle(array_inner_object_value)]
-fn inner(s: &[u8], at: usize, depth: usize, keys: &mut [u16], spare: &mut [u16]) -> Scanned
+fn inner(
+    s: &[u8],
+    at: usize,
+    depth: usize,
+    keys: &mut [u16],
+    spare: &mut [u16],
+) -> Result<ScannedValue, Stuck>
     requires { ScanSpace s.now at keys.old spare.old }
     ensures { ScansValue s.now (read depth (drop at s.now)) result }
 {
@@ -47,7 +59,13 @@ fn inner(s: &[u8], at: usize, depth: usize, keys: &mut [u16], spare: &mut [u16])
 
 // What follows the opening mark of an array.
 #[cycle(array_inner_object_value)]
-fn array(s: &[u8], at: usize, depth: usize, keys: &mut [u16], spare: &mut [u16]) -> Scanned
+fn array(
+    s: &[u8],
+    at: usize,
+    depth: usize,
+    keys: &mut [u16],
+    spare: &mut [u16],
+) -> Result<ScannedValue, Stuck>
     requires { ScanSpace s.now at keys.old spare.old }
     ensures { ScansValue s.now (read_array depth (drop at s.now)) result }
 {
@@ -62,19 +80,15 @@ fn array(s: &[u8], at: usize, depth: usize, keys: &mut [u16], spare: &mut [u16])
         size: 1,
         ordered: true,
     };
+    // where an item ends is known once it is read, so no `for` walks them
     loop {
-        let v = match inner(s, i, depth, keys, spare) {
-            Scanned::Value(f) => f,
-            Scanned::Stuck(e) => return Scanned::Stuck(e),
-        };
-        let part = v.sum;
-        sum = added(sum, part);
-        match after_item(s, v.end, b']') {
+        let v = inner(s, i, depth, keys, spare)?;
+        sum = added(sum, v.sum);
+        match after_item(s, v.end, b']')? {
             After::End(end) => {
-                return Scanned::Value(ScannedValue { end, count: 0, sum });
+                return Ok(ScannedValue { end, count: 0, sum });
             }
             After::More(j) => i = j,
-            After::Stuck(e) => return Scanned::Stuck(e),
         }
     }
 }
@@ -82,7 +96,13 @@ fn array(s: &[u8], at: usize, depth: usize, keys: &mut [u16], spare: &mut [u16])
 // What follows the opening mark of an object. A member's key is kept as its position, in the part of `keys` before the one that is
 // lent to the reading of its value. At the object's end its keys are left sorted.
 #[cycle(array_inner_object_value)]
-fn object(s: &[u8], at: usize, depth: usize, keys: &mut [u16], spare: &mut [u16]) -> Scanned
+fn object(
+    s: &[u8],
+    at: usize,
+    depth: usize,
+    keys: &mut [u16],
+    spare: &mut [u16],
+) -> Result<ScannedValue, Stuck>
     requires scan_space { ScanSpace s.now at keys.old spare.old }
     requires s_len_bound { length s.now < at + 4 * length keys.old }
     ensures scans_value { ScansValue s.now (read_object depth (drop at s.now)) result }
@@ -100,32 +120,27 @@ fn object(s: &[u8], at: usize, depth: usize, keys: &mut [u16], spare: &mut [u16]
         ordered: true,
     };
     let mut n = 0;
+    // where a member ends is known once it is read, so no `for` walks them
     loop {
-        let name = match key(s, i) {
-            text_json::Scan::Token { end, refused, size } => Name {
-                value: end,
-                fault: mark(refused, s.len(), i),
-                size,
-            },
-            text_json::Scan::NoToken(e) => return Scanned::Stuck(e),
+        let token = key(s, i)?;
+        let name = Name {
+            value: token.end,
+            fault: mark(token.refused, s.len(), i),
+            size: token.size,
         };
         keys[n] = i as u16;
         n += 1;
-        let v = match inner(s, name.value, depth, &mut keys[n..], spare) {
-            Scanned::Value(f) => f,
-            Scanned::Stuck(e) => return Scanned::Stuck(e),
-        };
+        let v = inner(s, name.value, depth, &mut keys[n..], spare)?;
         sum = added(sum, member(name, v.sum));
-        match after_item(s, v.end, b'}') {
+        match after_item(s, v.end, b'}')? {
             After::End(end) => return closed(s, end, sum, &mut keys[..n], spare),
             After::More(j) => i = j,
-            After::Stuck(e) => return Scanned::Stuck(e),
         }
     }
 }
 
 // The value of a whole text. An object is read here, not by `value`, which says nothing of the keys that it leaves.
-fn root(s: &[u8], at: usize, keys: &mut [u16], spare: &mut [u16]) -> Scanned
+fn root(s: &[u8], at: usize, keys: &mut [u16], spare: &mut [u16]) -> Result<ScannedValue, Stuck>
     requires { ScanSpace s.now at keys.old spare.old }
     ensures scans_value { ScansValue s.now (read 8 (drop at s.now)) result }
     ensures leaves_keys { LeavesKeys s.now (read 8 (drop at s.now)) keys.new result }
@@ -138,21 +153,16 @@ fn root(s: &[u8], at: usize, keys: &mut [u16], spare: &mut [u16]) -> Scanned
 
 // A whole text of at most 16,384 bytes: spaces, a value nested at most 8 deep, and spaces. `keys` and `spare` hold the keys of its
 // objects while they are read. Where the value is an object, its own keys are left at the start of `keys`, sorted.
-pub fn text(s: &[u8], keys: &mut [u16], spare: &mut [u16]) -> Scanned
+pub fn text(s: &[u8], keys: &mut [u16], spare: &mut [u16]) -> Result<ScannedValue, Stuck>
     requires { ScanSpace s.now 0 keys.old spare.old }
     ensures scans_value { ScansValue s.now (read_text 8 s.now) result }
     ensures leaves_keys { LeavesKeys s.now (read_text 8 s.now) keys.new result }
 {
     let at = text_json::space::skip_spaces(s, 0);
-    let v = match root(s, at, keys, spare) {
-        Scanned::Value(f) => f,
-        Scanned::Stuck(e) => return Scanned::Stuck(e),
-    };
+    let v = root(s, at, keys, spare)?;
     let end = text_json::space::skip_spaces(s, v.end);
     if end < s.len() {
-        return Scanned::Stuck(end);
+        return Err(end);
     }
-    let count = v.count;
-    let sum = v.sum;
-    Scanned::Value(ScannedValue { end, count, sum })
+    Ok(ScannedValue { end, ..v })
 }

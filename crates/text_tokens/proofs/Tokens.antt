@@ -1,4 +1,5 @@
 -- What the scan of a token says of the value that it is.
+use Rattle.std.specs.Prelude.{Result, Ok, Err}
 use Prim.Native.Nat.{ℕ, ◌+◌, ◌-◌, ◌<◌, ◌≤◌}
 use mathlib.Core.Path.{◌≡◌, refl, sym, ap, ap₂, subst, ◌∙◌}
 use mathlib.Core.List.{List, [], ◌∷◌}
@@ -11,18 +12,14 @@ use Rattle.text_json.specs.Syntax.{Syntax, Char, Numeral}
 use Rattle.text_json.specs.Read.{Read, found, stuck, and_then, read_scalar, read_string, read_number, read_word}
 use Rattle.text_json.specs.Content.{refused_string, refused_number}
 use Rattle.text_json.specs.Size.{string_size, numeral_size}
-use Rattle.text_json.specs.Scan.{Steps, ScansToken as TokenScans}
-use Rattle.text_json.specs.declared.Step.{Step}
-use Rattle.text_json.specs.declared.Step.TheVariants.{End}
-use Rattle.text_json.specs.declared.Scan.{Scan}
-use Rattle.text_json.specs.declared.Scan.TheVariants.{Token, NoToken}
+use Rattle.text_json.specs.Scan.{At, Steps, ScansToken as TokenScans}
+use Rattle.text_json.specs.declared.Token.{Token}
 use Rattle.text_content.specs.Value.{content}
 use Rattle.text_content.specs.Canonical.{canonical, ordered, sorted, write}
 use Rattle.text_content.specs.Fault.{mark, string_fault, number_fault, key_fault}
 use Rattle.text_tokens.specs.Summary.{summary, plain_summary, own_key_count}
-use Rattle.text_tokens.specs.Scanned.{ScansValue, literal_answer, token_answer}
-use Rattle.text_tokens.specs.declared.Scanned.{Scanned}
-use Rattle.text_tokens.specs.declared.Scanned.TheVariants.{Stuck}
+use Rattle.text_tokens.specs.Scanned.{ScansValue, literal_answer, token_told, token_answer}
+use Rattle.text_tokens.specs.declared.ScannedValue.{ScannedValue}
 
 -- a fault's mark is what the code keeps of it
 pub mark_at : (f : Bool) (s : List ℕ) (at : ℕ) → mark f (drop at s) ≡ cond f (length s - at) 0
@@ -44,13 +41,16 @@ no_fault false = refl
 token_value : {A : Type 0} (refused : A → Bool) (size : A → ℕ) (tree : A → Syntax) (p q : ℕ)
     → ((a : A) → (summary (tree a) ≡ record { string = cond (refused a) p 0; number = cond (refused a) q 0; key = 0; size = size a; ordered = true })
     × (own_key_count (tree a) ≡ 0))
-    → (s : List ℕ) (x : Read A) (w : Scan) → TokenScans refused size s x w → ScansValue s (and_then x (λ a r. found (tree a) r)) (token_answer w p q)
+    → (s : List ℕ) (x : Read A) (w : Result Token ℕ) → TokenScans refused size s x w → ScansValue s (and_then x (λ a r. found (tree a) r)) (token_answer w p q)
 unfolding and_then
-token_value refused size tree p q h s (found a r) (Token e true n) k = (k.0, held refused size tree p q a true n k.1 k.2 (h a).0, sym (h a).1)
-token_value refused size tree p q h s (found a r) (Token e false n) k = (k.0, held refused size tree p q a false n k.1 k.2 (h a).0, sym (h a).1)
-token_value refused size tree p q h s (found a r) (NoToken e) k = absurd k
-token_value refused size tree p q h s (stuck r) (Token e f n) k = absurd k
-token_value refused size tree p q h s (stuck r) (NoToken e) k = k
+token_value refused size tree p q h s (found a r) (Ok t) k = go t.refused t.end t.size k
+  where
+    go : (f : Bool) (e n : ℕ) → At s e r × (f ≡ refused a) × (n ≡ size a) → ScansValue s (found (tree a) r) (token_told f e n p q)
+    go true e n k = (k.0, held refused size tree p q a true n k.1 k.2 (h a).0, sym (h a).1)
+    go false e n k = (k.0, held refused size tree p q a false n k.1 k.2 (h a).0, sym (h a).1)
+token_value refused size tree p q h s (found a r) (Err e) k = absurd k
+token_value refused size tree p q h s (stuck r) (Ok t) k = absurd k
+token_value refused size tree p q h s (stuck r) (Err e) k = k
 
 string_summary : (s : List ℕ) (at : ℕ) (cs : List Char)
     → (summary (Syntax.string (drop at s) cs)
@@ -74,7 +74,7 @@ number_summary s at m = (
   refl,
 )
 
-module _ (s : List ℕ) (at : ℕ) (w : Scan) where
+module _ (s : List ℕ) (at : ℕ) (w : Result Token ℕ) where
   -- A string that is scanned is a value, with a fault by question 4 if it is refused; where scanning it is stuck, so is scanning the value.
   pub string_answer : TokenScans refused_string string_size s (read_string (drop at s)) w
       → ScansValue s (and_then (read_string (drop at s)) (λ cs q. found (Syntax.string (drop at s) cs) q)) (token_answer w (length s - at) 0)
@@ -86,13 +86,13 @@ module _ (s : List ℕ) (at : ℕ) (w : Scan) where
   number_answer = token_value refused_number numeral_size (Syntax.number (drop at s)) _ _ (number_summary s at) s _ w
 
 -- a literal name
-pub word_literal : (s : List ℕ) (x : Read (Unit {0})) (t : Syntax) (n : ℕ) (w : Step)
+pub word_literal : (s : List ℕ) (x : Read (Unit {0})) (t : Syntax) (n : ℕ) (w : Result ℕ ℕ)
     → (summary t ≡ plain_summary n) × (own_key_count t ≡ 0) → Steps s x w → ScansValue s (and_then x (λ _ q. found t q)) (literal_answer w n)
 unfolding and_then
-word_literal s (found u r) t n (End e) h p = (p, sym h.0, sym h.1)
-word_literal s (found u r) t n (Step.Stuck e) h p = absurd p
-word_literal s (stuck r) t n (End e) h p = absurd p
-word_literal s (stuck r) t n (Step.Stuck e) h p = p
+word_literal s (found u r) t n (Ok e) h p = (p, sym h.0, sym h.1)
+word_literal s (found u r) t n (Err e) h p = absurd p
+word_literal s (stuck r) t n (Ok e) h p = absurd p
+word_literal s (stuck r) t n (Err e) h p = p
 
 -- which case of a scalar it is, by its first byte
 of_string : (b : ℕ) (q : List ℕ) → b ≡ 0x22 → read_scalar (b ∷ q) ≡ and_then (read_string (b ∷ q)) (λ cs r. found (Syntax.string (b ∷ q) cs) r)
@@ -137,11 +137,11 @@ summary_false = (refl, refl)
 
 module _ (s : List ℕ) (at : ℕ) where
   -- At the end of the text scanning a scalar is stuck.
-  pub scalar_end : length s ≤ at → at ≤ length s → ScansValue s (read_scalar (drop at s)) (Stuck at)
+  pub scalar_end : length s ≤ at → at ≤ length s → ScansValue s (read_scalar (drop at s)) (Err at)
   unfolding read_scalar
   scalar_end h k = rw (drop_of_length-le s {i = at} h) (k, sym (drop_of_length-le s {i = at} h))
 
-  module _ (w : at < length s) (x : Scanned) where
+  module _ (w : at < length s) (x : Result ScannedValue ℕ) where
     -- At a quotation mark the scan of a string value is the scan of a scalar.
     pub scalar_string : get_or s at 0 ≡ 0x22 → ScansValue s (and_then (read_string (drop at s)) (λ cs q. found (Syntax.string (drop at s) cs) q)) x
         → ScansValue s (read_scalar (drop at s)) x
@@ -154,7 +154,7 @@ module _ (s : List ℕ) (at : ℕ) where
     scalar_number e f g h p =
         rw (here s at w) (subst (λ (y : Read Syntax). ScansValue s y x) (sym (of_number (get_or s at 0) (drop (at + 1) s) e f g h)) (rw (here s at w) at p))
 
-  module _ (w : at < length s) (v : Step) (x : Scanned) where
+  module _ (w : at < length s) (v : Result ℕ ℕ) (x : Result ScannedValue ℕ) where
     -- At the letter `n` the step over `ull` answers for a scalar: a value of four bytes, or where reading is stuck.
     pub scalar_null : get_or s at 0 ≡ 0x6E → Steps s (read_word (0x75 ∷ 0x6C ∷ 0x6C ∷ []) (drop (at + 1) s)) v
         → x ≡ literal_answer v 4 → ScansValue s (read_scalar (drop at s)) x

@@ -14,6 +14,8 @@ ghost use Rattle.text_keys.specs.Keys.{KeysAt};
 ghost use Rattle.text_tokens.specs.Summary.{plus, member_summary};
 ghost use Rattle.text_tokens.specs.Scanned.{ScansValue, Follows, plain_value, closed_value, literal_answer, token_answer, read_key, KeyWithin};
 
+use text_json::{Stuck, Token};
+
 // The first faults of a part of the text by questions 4, 5 and 6, each by the bytes left from there on (0: none), the length of its
 // canonical form, and whether the keys of every object in it are in rising order.
 #[derive(Clone, Copy)]
@@ -33,28 +35,14 @@ pub struct ScannedValue {
     pub sum: Summary,
 }
 
-// A value that was read, or the position where reading is stuck.
-#[derive(Clone, Copy)]
-pub enum Scanned {
-    Value(ScannedValue),
-    Stuck(usize),
-}
-
-// The larger of two numbers.
-fn larger(a: usize, b: usize) -> usize
-    ensures { result ≡ max a b }
-{
-    if a < b { b } else { a }
-}
-
 // What is held so far and one more element or member, with the mark after it.
 pub fn added(a: Summary, b: Summary) -> Summary
     requires { a.size + b.size < 0x10000 }
     ensures { result ≡ plus a b }
 {
-    let string = larger(a.string, b.string);
-    let number = larger(a.number, b.number);
-    let key = larger(a.key, b.key);
+    let string = a.string.max(b.string);
+    let number = a.number.max(b.number);
+    let key = a.key.max(b.key);
     Summary {
         string,
         number,
@@ -65,10 +53,10 @@ pub fn added(a: Summary, b: Summary) -> Summary
 }
 
 // A value that is no fault and whose canonical form has that length.
-pub fn plain(end: usize, size: usize) -> Scanned
+pub fn plain(end: usize, size: usize) -> Result<ScannedValue, Stuck>
     ensures { result ≡ plain_value end size }
 {
-    Scanned::Value(ScannedValue {
+    Ok(ScannedValue {
         end,
         count: 0,
         sum: Summary {
@@ -90,12 +78,12 @@ pub fn mark(faulty: bool, len: usize, at: usize) -> usize
 }
 
 // A value that is neither an array nor an object.
-pub fn scalar(s: &[u8], at: usize) -> Scanned
+pub fn scalar(s: &[u8], at: usize) -> Result<ScannedValue, Stuck>
     requires { at ≤ length s.now }
     ensures { ScansValue s.now (read_scalar (drop at s.now)) result }
 {
     if s.len() <= at {
-        return Scanned::Stuck(at);
+        return Err(at);
     }
     match s[at] {
         b'"' => string(s, at),
@@ -107,42 +95,35 @@ pub fn scalar(s: &[u8], at: usize) -> Scanned
 }
 
 // A literal name whose letters were stepped over.
-fn literal(step: text_json::Step, size: usize) -> Scanned
+fn literal(step: Result<usize, Stuck>, size: usize) -> Result<ScannedValue, Stuck>
     ensures { result ≡ literal_answer step size }
 {
-    match step {
-        text_json::Step::End(end) => plain(end, size),
-        text_json::Step::Stuck(at) => Scanned::Stuck(at),
-    }
+    plain(step?, size)
 }
 
 // A token that was scanned, as a value: its faults where it is refused, by questions 4 and 5.
-fn token(scan: text_json::Scan, string: usize, number: usize) -> Scanned
+fn token(scan: Result<Token, Stuck>, string: usize, number: usize) -> Result<ScannedValue, Stuck>
     ensures { result ≡ token_answer scan string number }
 {
-    match scan {
-        text_json::Scan::Token { end, refused, size } => {
-            if !refused {
-                return plain(end, size);
-            }
-            Scanned::Value(ScannedValue {
-                end,
-                count: 0,
-                sum: Summary {
-                    string,
-                    number,
-                    key: 0,
-                    size,
-                    ordered: true,
-                },
-            })
-        }
-        text_json::Scan::NoToken(e) => Scanned::Stuck(e),
+    let token = scan?;
+    if !token.refused {
+        return plain(token.end, token.size);
     }
+    Ok(ScannedValue {
+        end: token.end,
+        count: 0,
+        sum: Summary {
+            string,
+            number,
+            key: 0,
+            size: token.size,
+            ordered: true,
+        },
+    })
 }
 
 // A string as a value.
-pub fn string(s: &[u8], at: usize) -> Scanned
+pub fn string(s: &[u8], at: usize) -> Result<ScannedValue, Stuck>
     requires { at ≤ length s.now }
     ensures { ScansValue s.now (and_then (read_string (drop at s.now)) (λ cs q. found (Syntax.string (drop at s.now) cs) q))
         result }
@@ -151,7 +132,7 @@ pub fn string(s: &[u8], at: usize) -> Scanned
 }
 
 // A number as a value.
-fn number(s: &[u8], at: usize) -> Scanned
+fn number(s: &[u8], at: usize) -> Result<ScannedValue, Stuck>
     requires { at ≤ length s.now }
     ensures { ScansValue s.now (and_then (read_number (drop at s.now)) (λ n q. found (Syntax.number (drop at s.now) n) q))
         result }
@@ -159,31 +140,31 @@ fn number(s: &[u8], at: usize) -> Scanned
     token(text_numbers::number(s, at), 0, s.len() - at)
 }
 
-// What follows an item of an array or an object.
+// What follows an item of an array or an object: the position after the end mark, or the place of the next item.
 #[derive(Clone, Copy)]
 pub enum After {
     End(usize),
     More(usize),
-    Stuck(usize),
 }
 
 // After an item that ends at `at`, and spaces: the end mark, or a comma and the place of the next item.
-pub fn after_item(s: &[u8], at: usize, end_mark: u8) -> After
+pub fn after_item(s: &[u8], at: usize, end_mark: u8) -> Result<After, Stuck>
     requires { at ≤ length s.now }
     ensures { Follows s.now at end_mark result }
 {
     let i = text_json::space::skip_spaces(s, at);
     if s.len() <= i {
-        return After::Stuck(i);
+        return Err(i);
     }
     let b = s[i];
     if b == end_mark {
-        return After::End(i + 1);
+        return Ok(After::End(i + 1));
     }
     if b == b',' {
-        return After::More(text_json::space::skip_spaces(s, i + 1));
+        let next = text_json::space::skip_spaces(s, i + 1);
+        return Ok(After::More(next));
     }
-    After::Stuck(i)
+    Err(i)
 }
 
 // The mark stands at that position.
@@ -200,27 +181,17 @@ pub fn stands(s: &[u8], at: usize, m: u8) -> bool
 }
 
 // A member's key with its colon: where the value begins, whether the key is refused, and the length of its canonical form.
-pub fn key(s: &[u8], at: usize) -> text_json::Scan
+pub fn key(s: &[u8], at: usize) -> Result<Token, Stuck>
     requires { at ≤ length s.now }
     ensures { KeyWithin at result × TokenScans refused_string string_size s.now (read_key (drop at s.now)) result }
 {
-    match text_chars::string(s, at) {
-        text_json::Scan::NoToken(e) => text_json::Scan::NoToken(e),
-        text_json::Scan::Token { end, refused, size } => {
-            let i = text_json::space::skip_spaces(s, end);
-            match text_json::space::word(s, i, b":") {
-                text_json::Step::Stuck(e) => text_json::Scan::NoToken(e),
-                text_json::Step::End(e) => {
-                    let j = text_json::space::skip_spaces(s, e);
-                    text_json::Scan::Token {
-                        end: j,
-                        refused,
-                        size,
-                    }
-                }
-            }
-        }
-    }
+    let name = text_chars::string(s, at)?;
+    let colon = text_json::space::skip_spaces(s, name.end);
+    let after = text_json::space::word(s, colon, b":")?;
+    Ok(Token {
+        end: text_json::space::skip_spaces(s, after),
+        ..name
+    })
 }
 
 // A member's key: where its value begins, the bytes left from it on if it is refused, and the length of its canonical form.
@@ -236,7 +207,7 @@ pub fn member(name: Name, value: Summary) -> Summary
     requires { name.size + value.size < 0x10000 }
     ensures { result ≡ member_summary name.fault name.size value }
 {
-    let string = larger(name.fault, value.string);
+    let string = name.fault.max(value.string);
     Summary {
         string,
         number: value.number,
@@ -248,14 +219,20 @@ pub fn member(name: Name, value: Summary) -> Summary
 
 // The end of an object with these keys: the first that is equal to an earlier one is a fault of it, and they are in rising order or
 // not. The keys are left sorted.
-pub fn closed(s: &[u8], end: usize, sum: Summary, keys: &mut [u16], spare: &mut [u16]) -> Scanned
+pub fn closed(
+    s: &[u8],
+    end: usize,
+    sum: Summary,
+    keys: &mut [u16],
+    spare: &mut [u16],
+) -> Result<ScannedValue, Stuck>
     requires { KeysAt s.now keys.old × (length keys.old ≤ length spare.old) }
     ensures value { result ≡ closed_value s.now end sum keys.old }
     ensures keys_after { keys.new ≡ sort (key_le s.now) keys.old }
 {
     let own = text_keys::order_keys(s, keys, spare);
-    let key = larger(own.left, sum.key);
-    Scanned::Value(ScannedValue {
+    let key = own.left.max(sum.key);
+    Ok(ScannedValue {
         end,
         count: keys.len(),
         sum: Summary {

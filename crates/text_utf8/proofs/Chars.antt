@@ -1,5 +1,6 @@
 -- One character at a place of a text: what the functions inside the crate find out, said of the verdict.
 -- Assumes nothing.
+use Rattle.std.specs.Prelude.{Result, Ok, Err}
 use Prim.Native.Nat.{ℕ, zero, suc, ◌+◌, ◌≤◌, ◌<◌}
 use native.Mathlib.Nat.{add-zero}
 use native.Mathlib.Numerals.{add-one}
@@ -9,8 +10,6 @@ use mathlib.Core.Bool.{Bool, true, false, cond, true≢false, false≢true}
 use mathlib.Core.List.{List, [], ◌∷◌}
 use lib.ListN.{length, get_or, drop, length-drop, drop_of_length-le}
 use lib.Seq.{drop-cons, drop-drop}
-use Rattle.text_utf8.specs.declared.Verdict.{Verdict}
-use Rattle.text_utf8.specs.declared.Verdict.TheVariants.{WellFormed, Bad}
 use Rattle.text_utf8.specs.Utf8.{Range, within, Lead, follows, none, lead, verdict_from}
 use Rattle.text_utf8.specs.Char.{meets, char_len}
 use Rattle.text_utf8.proofs.Ranges.{lead_1}
@@ -99,14 +98,14 @@ met start at (r ∷ rs) (b ∷ s) e = go (within r b) refl (met start (suc at) r
         (omega arith, verdict_met b s start at r rs p ∙ t.1 ∙ ap (λ x. verdict_from start x [] (drop (length rs) s)) n)
     go false p ih = absurd (false≢true (sym (misses_cons r rs b s p) ∙ e))
 
-missed : (start at : ℕ) (rs : List Range) (s : List ℕ) → meets rs s ≡ false → verdict_from start at rs s ≡ Bad start
+missed : (start at : ℕ) (rs : List Range) (s : List ℕ) → meets rs s ≡ false → verdict_from start at rs s ≡ Err start
 unfolding meets verdict_from
 missed start at [] s e = absurd (true≢false e)
 missed start at (r ∷ rs) [] e = refl
 missed start at (r ∷ rs) (b ∷ s) e = go (within r b) refl (missed start (suc at) rs s)
   where
-    go : (w : Bool) → within r b ≡ w → (meets rs s ≡ false → verdict_from start (suc at) rs s ≡ Bad start)
-        → verdict_from start at (r ∷ rs) (b ∷ s) ≡ Bad start
+    go : (w : Bool) → within r b ≡ w → (meets rs s ≡ false → verdict_from start (suc at) rs s ≡ Err start)
+        → verdict_from start at (r ∷ rs) (b ∷ s) ≡ Err start
     go true p ih = verdict_met b s start at r rs p ∙ ih (sym (meets_cons r rs b s p) ∙ e)
     go false p ih = verdict_unmet b s start at r rs p
 
@@ -117,18 +116,18 @@ start_free x y at [] = refl
 start_free x y at (b ∷ s) = refl
 
 -- the first character is not well-formed: the verdict is its place
-first_bad : (start at b : ℕ) (s : List ℕ) → char_len (b ∷ s) ≡ 0 → verdict_from start at [] (b ∷ s) ≡ Bad at
+first_bad : (start at b : ℕ) (s : List ℕ) → char_len (b ∷ s) ≡ 0 → verdict_from start at [] (b ∷ s) ≡ Err at
 unfolding char_len
 first_bad start at b s e = go (lead b) refl
   where
-    go : (l : Lead) → lead b ≡ l → verdict_from start at [] (b ∷ s) ≡ Bad at
+    go : (l : Lead) → lead b ≡ l → verdict_from start at [] (b ∷ s) ≡ Err at
     go none p = verdict_none b s start at p
     go (follows rs) p = verdict_follows b s start at rs p ∙ pick (meets rs s) refl
       where
         len : char_len (b ∷ s) ≡ cond (meets rs s) (suc (length rs)) 0
         len = rw (p, char_len)
 
-        pick : (w : Bool) → meets rs s ≡ w → verdict_from at (suc at) rs s ≡ Bad at
+        pick : (w : Bool) → meets rs s ≡ w → verdict_from at (suc at) rs s ≡ Err at
         pick true q = absurd (omega (arith, rw q at (sym len ∙ e)))
         pick false q = missed at (suc at) rs s q
 
@@ -158,7 +157,7 @@ first_good start at b s n e = go (lead b) refl
         pick false q = absurd (omega (arith, rw q at (sym len ∙ e)))
 
 -- the verdict on a text from a place on
-abbrev pub verdict_at : List ℕ → ℕ → Verdict
+abbrev pub verdict_at : List ℕ → ℕ → Result (Unit {0}) ℕ
 verdict_at s i = verdict_from 0 i [] (drop i s)
 
 -- n bytes at a place, within the text, that do not change the verdict
@@ -169,7 +168,7 @@ pub record Passed (s : List ℕ) (i n : ℕ) : Type 0 where
 -- a character at a place
 module _ (s : List ℕ) (i : ℕ) (h : i < length s) where
   -- Where the character at a place has the length 0, the verdict from there on is that place.
-  pub bad_at : char_len (drop i s) ≡ 0 → verdict_at s i ≡ Bad i
+  pub bad_at : char_len (drop i s) ≡ 0 → verdict_at s i ≡ Err i
   bad_at e = rw (drop-cons s i 0 h) (first_bad 0 i (get_or s i 0) (drop (suc i) s) (rw (drop-cons s i 0 h) at e))
 
   good_at : (n : ℕ) → char_len (drop i s) ≡ suc n → Passed s i (suc n)
@@ -199,6 +198,6 @@ module _ (s : List ℕ) (i : ℕ) (h : i < length s) where
       ∙ start_free i 0 (suc i) (drop (suc i) s))
 
 -- The verdict on the text from its end on is that it is well-formed.
-pub end_at : (s : List ℕ) (i : ℕ) → length s ≤ i → verdict_at s i ≡ WellFormed
+pub end_at : (s : List ℕ) (i : ℕ) → length s ≤ i → verdict_at s i ≡ (Ok tt)
 unfolding verdict_from
 end_at s i h = rw (drop_of_length-le s h)

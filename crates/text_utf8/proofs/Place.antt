@@ -1,5 +1,6 @@
 -- What the verdict says: `WellFormed` of a well-formed text, and else the length of its longest well-formed start.
 -- Assumes nothing.
+use Rattle.std.specs.Prelude.{Result, Ok, Err}
 use Prim.Native.Nat.{ℕ, zero, suc, ◌+◌, ◌<◌}
 use native.Mathlib.Omega.{arith}
 use mathlib.Core.Path.{◌≡◌, refl, sym, ap, ◌∙◌}
@@ -7,14 +8,12 @@ use mathlib.Core.Logic.{◌↔◌}
 use mathlib.Core.Bool.{Bool, true, false, true≢false, false≢true}
 use mathlib.Core.List.{List, [], ◌∷◌}
 use lib.ListN.{length, take}
-use Rattle.text_utf8.specs.declared.Verdict.{Verdict}
-use Rattle.text_utf8.specs.declared.Verdict.TheVariants.{WellFormed, Bad}
 use Rattle.text_utf8.specs.Utf8.{Range, within, Lead, follows, none, lead, utf8_from, utf8, verdict_from, verdict}
 use Rattle.text_utf8.proofs.Steps.{utf8_follows, utf8_none, utf8_met, utf8_unmet, verdict_follows, verdict_none, verdict_met, verdict_unmet}
 
-abbrev good : Verdict → Bool
-good WellFormed = true
-good (Bad k) = false
+abbrev good : Result (Unit {0}) ℕ → Bool
+good (Ok tt) = true
+good (Err k) = false
 
 -- with the place taken away, the verdict is `utf8_from`
 good_from : (start at : ℕ) (rs : List Range) (s : List ℕ) → good (verdict_from start at rs s) ≡ utf8_from rs s
@@ -38,12 +37,12 @@ good_from start at (r ∷ rs) (b ∷ s) = go (within r b) refl (good_from start 
     go true p ih = ap good (verdict_met b s start at r rs p) ∙ ih ∙ sym (utf8_met b s r rs p)
     go false p ih = ap good (verdict_unmet b s start at r rs p) ∙ sym (utf8_unmet b s r rs p)
 
-well : (v : Verdict) → good v ≡ true → v ≡ WellFormed
-well WellFormed e = refl
-well (Bad k) e = absurd (false≢true e)
+well : (v : Result (Unit {0}) ℕ) → good v ≡ true → v ≡ (Ok tt)
+well (Ok tt) e = refl
+well (Err k) e = absurd (false≢true e)
 
 -- the verdict is `WellFormed` exactly of a well-formed text
-pub verdict_well_formed : (s : List ℕ) → verdict s ≡ WellFormed ↔ utf8 s ≡ true
+pub verdict_well_formed : (s : List ℕ) → verdict s ≡ (Ok tt) ↔ utf8 s ≡ true
 unfolding verdict utf8
 verdict_well_formed s =
     (λ e. sym (good_from 0 0 [] s) ∙ ap good e, λ e. well (verdict_from 0 0 [] s) (good_from 0 0 [] s ∙ e))
@@ -55,10 +54,10 @@ data Points (start at : ℕ) (rs : List Range) (s : List ℕ) (k : ℕ) : Type 0
   ahead : (j : ℕ) → k ≡ at + j → j < length s → utf8_from rs (take j s) ≡ true
       → ((i : ℕ) → j < i → utf8_from rs (take i s) ≡ false) → Points start at rs s k
 
-bad_inj : (j k : ℕ) → Bad j ≡ Bad k → k ≡ j
+bad_inj : (j k : ℕ) → ◌≡◌ {A = Result (Unit {0}) ℕ} (Err j) (Err k) → k ≡ j
 bad_inj j k e = cc
 
-not_bad : (k : ℕ) → WellFormed ≡ Bad k → ⊥
+not_bad : (k : ℕ) → ◌≡◌ {A = Result (Unit {0}) ℕ} (Ok tt) (Err k) → ⊥
 not_bad k e = true≢false (ap good e)
 
 never_empty : (r : Range) (rs : List Range) (i : ℕ) → utf8_from (r ∷ rs) (take i []) ≡ false
@@ -116,21 +115,21 @@ points_met start at r rs b s k p (ahead j e l ok ill) =
     longer zero h = absurd (omega arith)
     longer (suc i) h = utf8_met b (take i s) r rs p ∙ ill i (omega arith)
 
-points : (start at : ℕ) (rs : List Range) (s : List ℕ) (k : ℕ) → verdict_from start at rs s ≡ Bad k → Points start at rs s k
+points : (start at : ℕ) (rs : List Range) (s : List ℕ) (k : ℕ) → verdict_from start at rs s ≡ Err k → Points start at rs s k
 unfolding verdict_from
 points start at [] [] k e = absurd (not_bad k e)
 points start at (r ∷ rs) [] k e = back (bad_inj start k e) (never_empty r rs)
 points start at [] (b ∷ s) k e = go (lead b) refl (λ rs. points at (suc at) rs s k)
   where
     go : (l : Lead) → lead b ≡ l
-        → ((rs : List Range) → verdict_from at (suc at) rs s ≡ Bad k → Points at (suc at) rs s k)
+        → ((rs : List Range) → verdict_from at (suc at) rs s ≡ Err k → Points at (suc at) rs s k)
         → Points start at [] (b ∷ s) k
     go (follows rs) p ih = points_follows start at rs b s k p (ih rs (sym (verdict_follows b s start at rs p) ∙ e))
     go none p ih = points_none start at b s k p (bad_inj at k (sym (verdict_none b s start at p) ∙ e))
 points start at (r ∷ rs) (b ∷ s) k e = go (within r b) refl (points start (suc at) rs s k)
   where
     go : (w : Bool) → within r b ≡ w
-        → (verdict_from start (suc at) rs s ≡ Bad k → Points start (suc at) rs s k)
+        → (verdict_from start (suc at) rs s ≡ Err k → Points start (suc at) rs s k)
         → Points start at (r ∷ rs) (b ∷ s) k
     go true p ih = points_met start at r rs b s k p (ih (sym (verdict_met b s start at r rs p) ∙ e))
     go false p ih = points_unmet start at r rs b s k p (bad_inj start k (sym (verdict_unmet b s start at r rs p) ∙ e))
@@ -142,7 +141,7 @@ pub record Longest (s : List ℕ) (k : ℕ) : Type 0 where
   pub longer : (j : ℕ) → k < j → utf8 (take j s) ≡ false
 
 -- Where the verdict is a place, it is the length of the longest well-formed prefix, which is not the whole text.
-pub verdict_bad : (s : List ℕ) (k : ℕ) → verdict s ≡ Bad k → Longest s k
+pub verdict_bad : (s : List ℕ) (k : ℕ) → verdict s ≡ Err k → Longest s k
 unfolding verdict utf8 utf8_from
 verdict_bad s k e = go (points 0 0 [] s k e)
   where

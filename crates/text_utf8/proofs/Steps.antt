@@ -1,10 +1,10 @@
 -- One step of `utf8_from`, `verdict_from` and `meets`: what a byte that is met, or a first byte, leaves to read.
 -- Assumes nothing.
+use Rattle.std.specs.Prelude.{Err}
 use Prim.Native.Nat.{ℕ, suc}
 use mathlib.Core.Path.{◌≡◌}
 use mathlib.Core.Bool.{true, false}
 use mathlib.Core.List.{List, [], ◌∷◌}
-use Rattle.text_utf8.specs.declared.Verdict.TheVariants.{Bad}
 use Rattle.text_utf8.specs.Utf8.{Range, within, follows, none, lead, utf8_from, verdict_from}
 
 module _ (b : ℕ) (s : List ℕ) where
@@ -36,7 +36,7 @@ module _ (b : ℕ) (s : List ℕ) where
     verdict_follows rs e = rw (e, verdict_from)
 
     -- At a byte that no character starts with, the verdict is that byte's offset.
-    pub verdict_none : lead b ≡ none → verdict_from start at [] (b ∷ s) ≡ Bad at
+    pub verdict_none : lead b ≡ none → verdict_from start at [] (b ∷ s) ≡ Err at
     unfolding verdict_from
     verdict_none e = rw (e, verdict_from)
 
@@ -48,6 +48,6 @@ module _ (b : ℕ) (s : List ℕ) where
 
     -- Where the next byte is not within the first range to come, the verdict is the unfinished character's offset.
     pub verdict_unmet : (r : Range) (rs : List Range) → within r b ≡ false
-        → verdict_from start at (r ∷ rs) (b ∷ s) ≡ Bad start
+        → verdict_from start at (r ∷ rs) (b ∷ s) ≡ Err start
     unfolding verdict_from
     verdict_unmet r rs e = rw (e, verdict_from)

@@ -1,8 +1,6 @@
 -- Well-formed UTF-8, by the byte ranges of RFC 3629, section 4. A text is the list of its bytes.
 -- Assumes nothing.
-use Rattle.std.specs.Prelude.{ℕ, suc, Bool, true, false, ◌&&◌, List, [], ◌∷◌, leb}
-use Rattle.text_utf8.specs.declared.Verdict.{Verdict}
-use Rattle.text_utf8.specs.declared.Verdict.TheVariants.{WellFormed, Bad}
+use Rattle.std.specs.Prelude.{ℕ, suc, Bool, true, false, ◌&&◌, List, [], ◌∷◌, leb, Result, Ok, Err}
 
 -- the bytes from low to high, both among them
 pub record Range : Type 0 where
@@ -66,11 +64,11 @@ utf8 s = utf8_from [] s
 
 -- the same with the place of the first character that is not well-formed: start is the offset of the unfinished
 -- character's first byte, and at that of the text's
-unfoldable pub verdict_from : ℕ → ℕ → List Range → List ℕ → Verdict
-verdict_from start at [] [] = WellFormed
-verdict_from start at (r ∷ rs) [] = Bad start
-verdict_from start at [] (b ∷ s) = elim (lead b) [ follows rs ↦ verdict_from at (suc at) rs s | none ↦ Bad at ]
-verdict_from start at (r ∷ rs) (b ∷ s) = elim (within r b) [ true ↦ verdict_from start (suc at) rs s | false ↦ Bad start ]
+unfoldable pub verdict_from : ℕ → ℕ → List Range → List ℕ → Result (Unit {0}) ℕ
+verdict_from start at [] [] = (Ok tt)
+verdict_from start at (r ∷ rs) [] = Err start
+verdict_from start at [] (b ∷ s) = elim (lead b) [ follows rs ↦ verdict_from at (suc at) rs s | none ↦ Err at ]
+verdict_from start at (r ∷ rs) (b ∷ s) = elim (within r b) [ true ↦ verdict_from start (suc at) rs s | false ↦ Err start ]
 
-unfoldable pub verdict : List ℕ → Verdict
+unfoldable pub verdict : List ℕ → Result (Unit {0}) ℕ
 verdict s = verdict_from 0 0 [] s

@@ -6,13 +6,7 @@ ghost use Rattle.text_utf8.specs.Utf8.{range, tail, verdict};
 ghost use Rattle.text_utf8.specs.Scalar.{encode};
 ghost use Rattle.text_utf8.specs.Char.{meets, char_len, Ascii};
 
-#[derive(Clone, Copy)]
-pub enum Verdict {
-    WellFormed,
-    // The offset of the first byte of the first character that is not well-formed.
-    Bad(usize),
-}
-
+//TODO Result<(), usize>
 // The byte at `at` is there and is from low to high.
 fn byte_in(text: &[u8], at: usize, low: u8, high: u8) -> bool
     ensures { result ≡ meets (range low high ∷ []) (drop at text.now) }
@@ -91,10 +85,8 @@ fn ascii_block(text: &[u8], at: usize) -> bool
     ensures { result ≡ true → Ascii text.now at (at + 16) }
 {
     let mut all = true;
-    let mut n = 0;
-    while n < 16 {
+    for n in 0..16 {
         all &= text[at + n] <= 0x7F;
-        n += 1;
     }
     all
 }
@@ -116,10 +108,11 @@ fn ascii_run(text: &[u8], at: usize) -> usize
 
 // The verdict on a text: well-formed, or where it is not. ASCII is passed sixteen bytes at a time; a run is tried only at
 // every eighth byte, so that text with short runs does not pay for it.
-pub fn check(text: &[u8]) -> Verdict
+pub fn check(text: &[u8]) -> Result<(), usize>
     ensures { result ≡ verdict text.now }
 {
     let mut at = 0;
+    // the position goes on by a character or by a run, so no `for` counts it
     while at < text.len() {
         if text[at] < 0x80 {
             at += 1;
@@ -129,12 +122,12 @@ pub fn check(text: &[u8]) -> Verdict
         } else {
             let n = char_len(text, at);
             if n == 0 {
-                return Verdict::Bad(at);
+                return Err(at);
             }
             at += n;
         }
     }
-    Verdict::WellFormed
+    Ok(())
 }
 
 // The bytes of a scalar value: the first len of bytes.

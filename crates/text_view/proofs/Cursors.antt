@@ -3,6 +3,7 @@ use Prim.Native.Nat.{ℕ, ◌+◌, ◌-◌, ◌<◌}
 use lib.ListN.{drop}
 use mathlib.Core.Path.{◌≡◌, refl, ap}
 use mathlib.Core.List.{List, [], ◌∷◌}
+use Rattle.std.specs.Prelude.{Some, None}
 use mathlib.Core.Bool.{Bool, true, false}
 use native.Mathlib.Omega.{arith}
 use Rattle.text_json.specs.Syntax.{Syntax, elements, members, Member as MemberTree}
@@ -12,12 +13,8 @@ use Rattle.text_view.specs.Place.{ValueAt, EndsAt, kind_of}
 use Rattle.text_view.specs.Listed.{Tree, ListAt, ListEndsAt, GivesItem, Peeks}
 use Rattle.text_view.specs.Cursor.{ElementsLeft, GivesElement, MembersLeft, GivesMember, GivesHead}
 use Rattle.text_view.specs.declared.value.Item.TheVariants.{At, End}
-use Rattle.text_view.specs.declared.value.Peek.TheVariants.{At as PeekAt, End as PeekEnd}
 use Rattle.text_view.specs.declared.Elements.{Elements}
-use Rattle.text_view.specs.declared.Element.TheVariants.{At as ElementAt, End as NoElement}
 use Rattle.text_view.specs.declared.Members.{Members}
-use Rattle.text_view.specs.declared.Member.TheVariants.{At as MemberAt, End as NoMember}
-use Rattle.text_view.specs.declared.Head.TheVariants.{At as HeadAt, End as NoHead}
 use Rattle.text_view.proofs.Values.{opened_kind, kind_at_is}
 use Rattle.text_view.proofs.Steps.{kind_ends}
 use Rattle.text_view.proofs.Strings.{member_key}
@@ -72,7 +69,7 @@ module _ (s : List ℕ) (at d : ℕ) (object : Bool) (p v n : ℕ) where
 module _ (s : List ℕ) (c : Elements) where
   element_of : (ts : List Syntax) (r : List ℕ) (p v n : ℕ) → GivesItem s c.at c.depth false ts r (At p v n)
       → ((e : ℕ) → ListEndsAt s n c.depth false e → ListEndsAt s c.at c.depth false e)
-      → GivesElement s c (contents (elements ts)) (ElementAt v (record { at = n; depth = c.depth }))
+      → GivesElement s c (contents (elements ts)) (Some (v, record { at = n; depth = c.depth }))
   unfolding contents elements
   element_of [] r p v n g m = absurd g
   element_of (t ∷ ts) r p v n g m =
@@ -89,7 +86,7 @@ module _ (s : List ℕ) (c : Elements) where
       }
 
   no_element : (ts : List Syntax) (r : List ℕ) (e : ℕ) → GivesItem s c.at c.depth false ts r (End e)
-      → GivesElement s c (contents (elements ts)) NoElement
+      → GivesElement s c (contents (elements ts)) None
   unfolding contents elements
   no_element [] r e g = refl
   no_element (t ∷ ts) r e g = absurd g
@@ -106,20 +103,20 @@ module _ (s : List ℕ) (c : Elements) where
 
   module _ (vs : Values) (l : ElementsLeft s c vs) where
     -- If reading finds an item's value at `v` and the others from `n` on, the first element and the other elements stand there.
-    pub gives_element : (p v n : ℕ) → Given s c.at c.depth false p v n → GivesElement s c vs (ElementAt v (record { at = n; depth = c.depth }))
+    pub gives_element : (p v n : ℕ) → Given s c.at c.depth false p v n → GivesElement s c vs (Some (v, record { at = n; depth = c.depth }))
     gives_element p v n g =
         let h = l.derives in
         let m = same_end s c.at c.depth false p v n g l.trees l.rest h in
         rw l.means at (element_of l.trees l.rest p v n (g l.trees l.rest h) m)
 
     -- If reading an item finds the end mark, no element is left.
-    pub gives_no_element : (e : ℕ) → GivesItem s c.at c.depth false l.trees l.rest (End e) → GivesElement s c vs NoElement
+    pub gives_no_element : (e : ℕ) → GivesItem s c.at c.depth false l.trees l.rest (End e) → GivesElement s c vs None
     gives_no_element e g = rw l.means at (no_element l.trees l.rest e g)
 
 module _ (s : List ℕ) (c : Members) where
   member_of : (ts : List MemberTree) (r : List ℕ) (p v n : ℕ) → GivesItem s c.at c.depth true ts r (At p v n)
       → ((e : ℕ) → ListEndsAt s n c.depth true e → ListEndsAt s c.at c.depth true e)
-      → GivesMember s c (fields (members ts)) (MemberAt p v (record { at = n; depth = c.depth }))
+      → GivesMember s c (fields (members ts)) (Some (record { key = p; value = v; rest = record { at = n; depth = c.depth } }))
   unfolding fields members
   member_of [] r p v n g x = absurd g
   member_of (m ∷ ts) r p v n g x =
@@ -139,12 +136,12 @@ module _ (s : List ℕ) (c : Members) where
       }
 
   no_member : (ts : List MemberTree) (r : List ℕ) (e : ℕ) → GivesItem s c.at c.depth true ts r (End e)
-      → GivesMember s c (fields (members ts)) NoMember
+      → GivesMember s c (fields (members ts)) None
   unfolding fields members
   no_member [] r e g = refl
   no_member (t ∷ ts) r e g = absurd g
 
-  head_of : (ts : List MemberTree) (p v : ℕ) → Peeks s c.at c.depth true ts (PeekAt p v) → GivesHead s c (fields (members ts)) (HeadAt p v)
+  head_of : (ts : List MemberTree) (p v : ℕ) → Peeks s c.at c.depth true ts (Some (record { first = p; value = v })) → GivesHead s c (fields (members ts)) (Some (record { key = p; value = v }))
   unfolding fields members
   head_of [] p v g = absurd g
   head_of (m ∷ ts) p v g =
@@ -159,7 +156,7 @@ module _ (s : List ℕ) (c : Members) where
         place = g.place;
       }
 
-  no_head : (ts : List MemberTree) → Peeks s c.at c.depth true ts PeekEnd → GivesHead s c (fields (members ts)) NoHead
+  no_head : (ts : List MemberTree) → Peeks s c.at c.depth true ts None → GivesHead s c (fields (members ts)) None
   unfolding fields members
   no_head [] g = refl
   no_head (t ∷ ts) g = absurd g
@@ -176,20 +173,20 @@ module _ (s : List ℕ) (c : Members) where
 
   module _ (fs : Fields) (l : MembersLeft s c fs) where
     -- If looking for an item finds it at `p` and its value at `v`, the first member's key and value stand there.
-    pub gives_head : (p v : ℕ) → Peeks s c.at c.depth true l.trees (PeekAt p v) → GivesHead s c fs (HeadAt p v)
+    pub gives_head : (p v : ℕ) → Peeks s c.at c.depth true l.trees (Some (record { first = p; value = v })) → GivesHead s c fs (Some (record { key = p; value = v }))
     gives_head p v g = rw l.means at (head_of l.trees p v g)
 
     -- If looking for an item finds the end mark, no member is left.
-    pub gives_no_head : Peeks s c.at c.depth true l.trees PeekEnd → GivesHead s c fs NoHead
+    pub gives_no_head : Peeks s c.at c.depth true l.trees None → GivesHead s c fs None
     gives_no_head g = rw l.means at (no_head l.trees g)
 
     -- If reading finds an item at `p`, its value at `v` and the others from `n` on, the first member and the others stand there.
-    pub gives_member : (p v n : ℕ) → Given s c.at c.depth true p v n → GivesMember s c fs (MemberAt p v (record { at = n; depth = c.depth }))
+    pub gives_member : (p v n : ℕ) → Given s c.at c.depth true p v n → GivesMember s c fs (Some (record { key = p; value = v; rest = record { at = n; depth = c.depth } }))
     gives_member p v n g =
         let h = l.derives in
         let x = same_end s c.at c.depth true p v n g l.trees l.rest h in
         rw l.means at (member_of l.trees l.rest p v n (g l.trees l.rest h) x)
 
     -- If reading an item finds the end mark, no member is left.
-    pub gives_no_member : (e : ℕ) → GivesItem s c.at c.depth true l.trees l.rest (End e) → GivesMember s c fs NoMember
+    pub gives_no_member : (e : ℕ) → GivesItem s c.at c.depth true l.trees l.rest (End e) → GivesMember s c fs None
     gives_no_member e g = rw l.means at (no_member l.trees l.rest e g)

@@ -1,4 +1,5 @@
 -- A number of the text: its sign and its digits, as json reads them.
+use Rattle.std.specs.Prelude.{Ok, Err}
 use Prim.Native.Nat.{ℕ, zero, suc, ◌+◌, ◌<◌, ◌≤◌, ◌^◌}
 use mathlib.Core.Path.{◌≡◌, refl, sym, ap, ◌∙◌}
 use mathlib.Core.List.{List}
@@ -13,7 +14,7 @@ use Rattle.text_json.specs.Grammar.{Scalar, Nested, Value as Derives, Stops}
 use Rattle.text_json.specs.Read.{Read, found, stuck, and_then, read_int, read_unsigned, read_number}
 use Rattle.text_json.specs.Content.{decimal}
 use Rattle.text_numbers.specs.Parts.{Ints, signs, read_tail}
-use Rattle.text_numbers.specs.declared.Int.TheVariants.{Digits, NoInt}
+use Rattle.text_numbers.specs.declared.Run.{Run}
 use Rattle.text_numbers.proofs.NumberSteps.{number_minus, number_plain}
 use Rattle.text_numbers.proofs.Numerals.{unsigned_tail, unsigned_stuck, signs_most}
 use Rattle.text_json.proofs.Grammar.Complete.{number_complete}
@@ -83,15 +84,15 @@ module _ (s : List ℕ) (at d : ℕ) (n : Bool) (ds : List ℕ) (v : ValueAt s a
 -- what `int_part` finds of digits that stand for less than 2 ^ 32
 module _ (s : List ℕ) (i j : ℕ) (is : j ≡ i) (ds q : List ℕ) (reads : read_int (drop i s) ≡ found ds q) where
   -- Where the digits stand for a number of at most 32 bits, the value that is found is that number.
-  pub int_value : (e v : ℕ) → decimal ds < 2 ^ 32 → Ints s j (Digits e v) → v ≡ decimal ds
-  int_value e v small h =
+  pub int_value : (r : Run) → decimal ds < 2 ^ 32 → Ints s j (Ok r) → r.value ≡ decimal ds
+  int_value r small h =
       let f : h.digits ≡ ds = cc (rw is at h.read) in
       let g = ap decimal f in
       let k = h.value in
       omega arith
 
   -- Where digits are read, it cannot be answered that there are none.
-  pub no_int : {C : Type 0} (e : ℕ) → Ints s j (NoInt e) → C
+  pub no_int : {C : Type 0} (e : ℕ) → Ints s j (Err e) → C
   no_int e h = let f = rw is at h.read in let z : ◌≡◌ {A = ℕ} 0 1 = cc in absurd (omega arith)
 
 -- The digits of a number begin within the text, after its sign or where it has none.
@@ -100,7 +101,7 @@ after_sign s at d v h m e = omega (arith, within s at d v h, signs_most (eqb (ge
 
 -- Where a number stands, it cannot be answered that no digits follow its sign.
 pub always_digits : {C : Type 0} (s : List ℕ) (at d : ℕ) (n : Bool) (ds : List ℕ) → ValueAt s at d (number n ds)
-    → (m : ℕ) → m ≡ signs (eqb (get_or s at 0) 0x2D) → (e : ℕ) → Ints s (at + m) (NoInt e) → C
+    → (m : ℕ) → m ≡ signs (eqb (get_or s at 0) 0x2D) → (e : ℕ) → Ints s (at + m) (Err e) → C
 always_digits s at d n ds v m f e h =
     let k = number_parts s at d n ds v in
     no_int s (at + signs (eqb (get_or s at 0) 0x2D)) (at + m) (ap (λ (j : ℕ). at + j) f) ds k.1.0 k.1.1 e h

@@ -1,4 +1,5 @@
 -- Where a value ends that holds no other.
+use Rattle.std.specs.Prelude.{Result, Ok, Err}
 use Prim.Native.Nat.{ℕ, ◌+◌, ◌<◌, ◌≤◌}
 use mathlib.Core.Path.{◌≡◌, refl, sym, ap, ◌∙◌}
 use mathlib.Core.Logic.{◌⊎◌, inl, inr, ⊎_elim}
@@ -13,8 +14,7 @@ use Rattle.text_json.specs.Read.{Read, found, stuck, read_number}
 use Rattle.text_json.specs.Content.{refused_number}
 use Rattle.text_json.specs.Scan.{ScansToken}
 use Rattle.text_json.specs.Size.{Within, numeral_size}
-use Rattle.text_json.specs.declared.Scan.{Scan}
-use Rattle.text_json.specs.declared.Scan.TheVariants.{Token, NoToken}
+use Rattle.text_json.specs.declared.Token.{Token}
 use Rattle.text_json.proofs.Grammar.Ends.{inside_length}
 use Rattle.text_json.proofs.Grammar.Rests.{scalar_inside}
 use Rattle.text_json.proofs.Grammar.Complete.{number_complete}
@@ -59,18 +59,18 @@ view_of s at l t r e (Scalar.is_a_string {cs = cs} p) = at_string cs (string_fir
 
 -- where a token that was found ends
 module _ {A : Type 0} (refused : A → Bool) (size : A → ℕ) (s : List ℕ) where
-  token_end : (scan : Scan) (x : Read A) (a : A) (r : List ℕ) → ScansToken refused size s x scan → x ≡ found a r
+  token_end : (scan : Result Token ℕ) (x : Read A) (a : A) (r : List ℕ) → ScansToken refused size s x scan → x ≡ found a r
       → (end_of scan ≤ length s) × (r ≡ drop (end_of scan) s)
-  token_end (Token e f n) (found b q) a r h p = (h.0.0, cc)
-  token_end (Token e f n) (stuck q) a r h p = absurd h
-  token_end (NoToken e) (found b q) a r h p = absurd h
-  token_end (NoToken e) (stuck q) a r h p = let z : ◌≡◌ {A = ℕ} 0 1 = cc in absurd (omega arith)
+  token_end (Ok t) (found b q) a r h p = (h.0.0, cc)
+  token_end (Ok t) (stuck q) a r h p = absurd h
+  token_end (Err e) (found b q) a r h p = absurd h
+  token_end (Err e) (stuck q) a r h p = let z : ◌≡◌ {A = ℕ} 0 1 = cc in absurd (omega arith)
 
-  token_later : (at : ℕ) (scan : Scan) (x : Read A) (a : A) (r : List ℕ) → Within at scan → ScansToken refused size s x scan → x ≡ found a r
+  token_later : (at : ℕ) (scan : Result Token ℕ) (x : Read A) (a : A) (r : List ℕ) → Within at scan → ScansToken refused size s x scan → x ≡ found a r
       → at < end_of scan
-  token_later at (Token e f n) x a r w h p = w.0
-  token_later at (NoToken e) (found b q) a r w h p = absurd h
-  token_later at (NoToken e) (stuck q) a r w h p = let z : ◌≡◌ {A = ℕ} 0 1 = cc in absurd (omega arith)
+  token_later at (Ok t) x a r w h p = w.0
+  token_later at (Err e) (found b q) a r w h p = absurd h
+  token_later at (Err e) (stuck q) a r w h p = let z : ◌≡◌ {A = ℕ} 0 1 = cc in absurd (omega arith)
 
 four : (s : List ℕ) (at b : ℕ) (r : List ℕ) → View s at b r → (b ≡ 0x6E) ⊎ (b ≡ 0x74) → (r ≡ drop (at + 4) s) × (at + 4 ≤ length s)
 four s at b r (at_null e p w) k = (p, w)
@@ -135,7 +135,7 @@ module _ (s : List ℕ) (at : ℕ) (here : ScalarAt s at) where
       }
 
   -- Where it begins with none of these bytes, it ends where the number that is read there ends.
-  pub ends_number : (scan : Scan) → Within at scan → ((get_or s at 0 ≡ 0x6E) ⊎ (get_or s at 0 ≡ 0x74) → ⊥) → (get_or s at 0 ≡ 0x66 → ⊥) → (get_or s at 0 ≡ 0x22 → ⊥)
+  pub ends_number : (scan : Result Token ℕ) → Within at scan → ((get_or s at 0 ≡ 0x6E) ⊎ (get_or s at 0 ≡ 0x74) → ⊥) → (get_or s at 0 ≡ 0x66 → ⊥) → (get_or s at 0 ≡ 0x22 → ⊥)
       → ScansToken refused_number numeral_size s (read_number (drop at s)) scan → EndsAt s at 0 (end_of scan)
   ends_number scan within i j k h =
       let p = number_here s at _ _ seen i j k in

@@ -15,7 +15,7 @@ use Rattle.text_view.specs.Place.{Readable, EndsAt, ScalarAt}
 use Rattle.text_view.specs.Listed.{Tree, value_tree, DerivesItem, open_mark, end_mark, ListAt, SomeList, AnyList, ListEndsAt, SomeItem, ItemValue, ItemAt}
 use Rattle.text_view.specs.Listed.{SomeItemEnd, NoItems, GivesItem, Peeks}
 use Rattle.text_view.specs.declared.value.Item.TheVariants.{At, End}
-use Rattle.text_view.specs.declared.value.Peek.TheVariants.{At as PeekAt, End as PeekEnd}
+use Rattle.std.specs.Prelude.{Some, None}
 use Rattle.text_view.proofs.Values.{value_within, opened, is_scalar, kind_at, open_kind, open_kind_is, opened_as}
 use Rattle.text_view.proofs.Nesting.{Opens}
 use Rattle.text_view.proofs.Items.{item_inside, Started, started, ended, item, Next, at_mark, at_comma, next}
@@ -96,7 +96,7 @@ module _ (s : List ℕ) (p d : ℕ) (object : Bool) where
 
   -- At the end mark, looking for an item gives none.
   pub peeks_end : (at : ℕ) (ts : List (Tree object)) (r : List ℕ) → get_or s p 0 ≡ end_mark object → Started s p d object ts r
-      → Peeks s at d object ts PeekEnd
+      → Peeks s at d object ts None
   peeks_end at ts r e (ended w f g) = tt
   peeks_end at ts r e (item l w n h i j) = absurd (n e)
 
@@ -118,7 +118,7 @@ module _ (s : List ℕ) (p d : ℕ) (object : Bool) where
     module _ (v : ℕ) (here : ItemValue s p object v) where
       -- From a position with only spaces before that item, looking gives the item's position and its value's.
       pub peeks_item : (at : ℕ) → at ≤ p → spaces (drop at s) ≡ drop p s → (ts : List (Tree object)) (r : List ℕ) → Started s p d object ts r
-          → Peeks s at d object ts (PeekAt p v)
+          → Peeks s at d object ts (Some (record { first = p; value = v }))
       peeks_item at a e ts r (ended w f g) = absurd (more f)
       peeks_item at a e ts r (item {t = t} l w n h i j) =
           record {
@@ -197,12 +197,12 @@ some_next s e o q l h =
 -- What is read from position `at` on, by what looking there gives.
 module _ (s : List ℕ) (at d : ℕ) (object : Bool) where
   -- Where an item was seen, it and its value stand at those positions.
-  pub seen_place : (p v : ℕ) (ts : List (Tree object)) → Peeks s at d object ts (PeekAt p v) → ItemAt s at object p v
+  pub seen_place : (p v : ℕ) (ts : List (Tree object)) → Peeks s at d object ts (Some (record { first = p; value = v })) → ItemAt s at object p v
   seen_place p v [] g = absurd g
   seen_place p v (t ∷ ts) g = g.place
 
   -- At the position of its value stands a value, nested at most as deep as the items may be.
-  pub seen_readable : (p v : ℕ) (ts : List (Tree object)) → Peeks s at d object ts (PeekAt p v) → Readable s v d
+  pub seen_readable : (p v : ℕ) (ts : List (Tree object)) → Peeks s at d object ts (Some (record { first = p; value = v })) → Readable s v d
   seen_readable p v [] g = absurd g
   seen_readable p v (t ∷ ts) g =
       record {
@@ -211,12 +211,12 @@ module _ (s : List ℕ) (at d : ℕ) (object : Bool) where
       }
 
   -- Where no item was seen, none stands.
-  pub seen_none : (ts : List (Tree object)) (r : List ℕ) → ListAt s at d object ts r → Peeks s at d object ts PeekEnd → NoItems s at
+  pub seen_none : (ts : List (Tree object)) (r : List ℕ) → ListAt s at d object ts r → Peeks s at d object ts None → NoItems s at
   seen_none [] r h g = record { depth = d; object = object; rest = r; here = h }
   seen_none (t ∷ ts) r h g = absurd g
 
   -- Where no item was seen, reading gives the position after the end mark.
-  pub gives_end : (e : ℕ) (ts : List (Tree object)) (r : List ℕ) → ListAt s at d object ts r → Peeks s at d object ts PeekEnd
+  pub gives_end : (e : ℕ) (ts : List (Tree object)) (r : List ℕ) → ListAt s at d object ts r → Peeks s at d object ts None
       → (ListAt s at d object [] r → ListEndsAt s at d object e) → GivesItem s at d object ts r (End e)
   gives_end e [] r h g f = let l = f h in (l.later, l.within, l.rest [] r h)
   gives_end e (t ∷ ts) r h g f = absurd g

@@ -1,5 +1,5 @@
 -- What a cursor has before it: the elements of an array, or the members of an object.
-use Rattle.std.specs.Prelude.{ℕ, ◌+◌, ◌<◌, ◌≤◌, ◌≡◌, List, true, false, length, drop}
+use Rattle.std.specs.Prelude.{ℕ, ◌+◌, ◌<◌, ◌≤◌, ◌≡◌, List, true, false, length, drop, Option, Some, None}
 use Rattle.text_json.specs.Syntax.{Syntax, elements, members, Member as MemberTree}
 use Rattle.text_json.specs.Grammar.{Listed, Pair, Value as Derives}
 use Rattle.text_content.specs.Value.{Value, Values, no_values, value, Fields, no_fields, field, array, object, contents, fields}
@@ -7,13 +7,9 @@ use Rattle.text_strings.specs.InString.{InString}
 use Rattle.text_view.specs.Place.{ValueAt, EndsAt}
 use Rattle.text_view.specs.Listed.{ItemAt, ListEndsAt}
 use Rattle.text_view.specs.declared.Elements.{Elements}
-use Rattle.text_view.specs.declared.Element.{Element}
-use Rattle.text_view.specs.declared.Element.TheVariants.{At as ElementAt, End as NoElement}
 use Rattle.text_view.specs.declared.Members.{Members}
 use Rattle.text_view.specs.declared.Member.{Member}
-use Rattle.text_view.specs.declared.Member.TheVariants.{At as MemberAt, End as NoMember}
 use Rattle.text_view.specs.declared.Head.{Head}
-use Rattle.text_view.specs.declared.Head.TheVariants.{At as HeadAt, End as NoHead}
 
 pub record SomeArray (s : List ℕ) (at depth : ℕ) : Type 0 where
   pub values : Values
@@ -43,10 +39,10 @@ pub record NextElement (s : List ℕ) (c : Elements) (vs : Values) (p : ℕ) (d 
   pub within : d.at ≤ length s
   pub ends : (e : ℕ) → ListEndsAt s d.at d.depth false e → ListEndsAt s c.at c.depth false e
 
--- what is given of the elements vs: the first with a cursor, or the end where there is none
-abbrev pub GivesElement : List ℕ → Elements → Values → Element → Type 0
-GivesElement s c vs (ElementAt p d) = NextElement s c vs p d
-GivesElement s c vs NoElement = vs ≡ no_values
+-- what is given of the elements vs: the first with a cursor, or nothing where there is none
+abbrev pub GivesElement : List ℕ → Elements → Values → Option (ℕ × Elements) → Type 0
+GivesElement s c vs (Some (p, d)) = NextElement s c vs p d
+GivesElement s c vs None = vs ≡ no_values
 
 pub record SomeObject (s : List ℕ) (at depth : ℕ) : Type 0 where
   pub fields : Fields
@@ -79,9 +75,9 @@ pub record NextMember (s : List ℕ) (c : Members) (fs : Fields) (p q : ℕ) (d 
   pub ends : (e : ℕ) → ListEndsAt s d.at d.depth true e → ListEndsAt s c.at c.depth true e
 
 -- what is given of the members fs, likewise
-abbrev pub GivesMember : List ℕ → Members → Fields → Member → Type 0
-GivesMember s c fs (MemberAt p q d) = NextMember s c fs p q d
-GivesMember s c fs NoMember = fs ≡ no_fields
+abbrev pub GivesMember : List ℕ → Members → Fields → Option Member → Type 0
+GivesMember s c fs (Some m) = NextMember s c fs m.key m.value m.rest
+GivesMember s c fs None = fs ≡ no_fields
 
 -- the first of the members fs, by the positions of its key's quotation mark and of its value
 pub record FirstMember (s : List ℕ) (c : Members) (fs : Fields) (p q : ℕ) : Type 0 where
@@ -102,6 +98,6 @@ pub record SomeMemberEnd (s : List ℕ) (c : Members) (e : ℕ) : Type 0 where
   pub first : FirstMember s c fields key value
   pub ends : EndsAt s value c.depth e
 
-abbrev pub GivesHead : List ℕ → Members → Fields → Head → Type 0
-GivesHead s c fs (HeadAt p q) = FirstMember s c fs p q
-GivesHead s c fs NoHead = fs ≡ no_fields
+abbrev pub GivesHead : List ℕ → Members → Fields → Option Head → Type 0
+GivesHead s c fs (Some h) = FirstMember s c fs h.key h.value
+GivesHead s c fs None = fs ≡ no_fields

@@ -1,5 +1,5 @@
 -- The items of an array or an object in place: elements, or members where `object` is true.
-use Rattle.std.specs.Prelude.{ℕ, ◌<◌, ◌≤◌, ◌≡◌, List, [], ◌∷◌, Bool, true, false, length, drop, get_or}
+use Rattle.std.specs.Prelude.{ℕ, ◌<◌, ◌≤◌, ◌≡◌, List, [], ◌∷◌, Bool, true, false, length, drop, get_or, Option, Some, None}
 use Rattle.text_json.specs.Syntax.{Syntax, Member}
 use Rattle.text_json.specs.Grammar.{Listed, Pair, Value as Derives, Stops}
 use Rattle.text_json.specs.Read.{spaces}
@@ -7,7 +7,6 @@ use Rattle.text_view.specs.Place.{EndsAt}
 use Rattle.text_view.specs.declared.value.Item.{Item}
 use Rattle.text_view.specs.declared.value.Item.TheVariants.{At, End}
 use Rattle.text_view.specs.declared.value.Peek.{Peek}
-use Rattle.text_view.specs.declared.value.Peek.TheVariants.{At as PeekAt, End as PeekEnd}
 
 abbrev pub Tree : Bool → Type 0
 Tree false = Syntax
@@ -115,8 +114,8 @@ pub record HeadOf (s : List ℕ) (at depth : ℕ) (object : Bool) (t : Tree obje
   pub stops : Stops after
 
 -- the same of the first of the items ts, and nothing of the others
-abbrev pub Peeks : List ℕ → ℕ → ℕ → (object : Bool) → List (Tree object) → Peek → Type 0
-Peeks s at depth object [] PeekEnd = Unit {0}
-Peeks s at depth object [] (PeekAt p v) = ⊥
-Peeks s at depth object (t ∷ ts) PeekEnd = ⊥
-Peeks s at depth object (t ∷ ts) (PeekAt p v) = HeadOf s at depth object t p v
+abbrev pub Peeks : List ℕ → ℕ → ℕ → (object : Bool) → List (Tree object) → Option Peek → Type 0
+Peeks s at depth object [] None = Unit {0}
+Peeks s at depth object [] (Some h) = ⊥
+Peeks s at depth object (t ∷ ts) None = ⊥
+Peeks s at depth object (t ∷ ts) (Some h) = HeadOf s at depth object t h.first h.value

@@ -1,10 +1,9 @@
 -- Where a value stands in a text, and what its content is.
-use Rattle.std.specs.Prelude.{ℕ, ◌<◌, ◌≤◌, ◌^◌, ◌≡◌, List, ◌∷◌, Bool, length, drop}
+use Rattle.std.specs.Prelude.{ℕ, ◌<◌, ◌≤◌, ◌^◌, ◌≡◌, List, ◌∷◌, Bool, length, drop, Result, Ok, Err}
 use Rattle.text_json.specs.Syntax.{Syntax, Char}
 use Rattle.text_json.specs.Grammar.{Chars, Scalar, Value as Derives, Stops}
 use Rattle.text_json.specs.Content.{decimal}
-use Rattle.text_json.specs.declared.Scan.{Scan}
-use Rattle.text_json.specs.declared.Scan.TheVariants.{Token, NoToken}
+use Rattle.text_json.specs.declared.Token.{Token}
 use Rattle.text_content.specs.Value.{Value, null, boolean, number, string, array, object, content}
 use Rattle.text_view.specs.declared.Kind.{Kind}
 use Rattle.text_view.specs.declared.Kind.TheVariants.{Null, Boolean, Number, String, Array, Object}
@@ -71,6 +70,6 @@ pub record ScalarAt (s : List ℕ) (at : ℕ) : Type 0 where
   pub stops : Stops rest
 
 -- where a token ended, or reading was stuck
-abbrev pub end_of : Scan → ℕ
-end_of (Token e f n) = e
-end_of (NoToken e) = e
+abbrev pub end_of : Result Token ℕ → ℕ
+end_of (Ok t) = t.end
+end_of (Err e) = e

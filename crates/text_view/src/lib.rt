@@ -36,13 +36,6 @@ pub struct Elements {
     pub depth: usize,
 }
 
-// The next element's position with what is left after it, or the end.
-#[derive(Clone, Copy)]
-pub enum Element {
-    At(usize, Elements),
-    End,
-}
-
 impl Elements {
     // The elements of the array at `at`, which is nested at most `depth` deep.
     pub fn new(s: &[u8], at: usize, depth: usize) -> Self
@@ -57,18 +50,14 @@ impl Elements {
         }
     }
 
-    pub fn next(self, s: &[u8]) -> Element
+    // The next element's position with what is left after it, if an element is left.
+    pub fn next(self, s: &[u8]) -> Option<(usize, Elements)>
         requires { SomeElements s.now self }
         ensures { (vs : Values) → ElementsLeft s.now self vs → GivesElement s.now self vs result }
     {
-        let depth = self.depth;
-        match value::read_item(s, self.at, depth, false) {
-            value::Item::At {
-                first: _,
-                value,
-                next,
-            } => Element::At(value, Elements { at: next, depth }),
-            value::Item::End(_) => Element::End,
+        match value::read_item(s, self.at, self.depth, false) {
+            value::Item::At { value, next, .. } => Some((value, Elements { at: next, ..self })),
+            value::Item::End(_) => None,
         }
     }
 
@@ -88,22 +77,19 @@ pub struct Members {
     pub depth: usize,
 }
 
-// The next member, by the position of its key's quotation mark and that of its value, with what is left after it; or the end.
+// A member, by the position of its key's quotation mark and that of its value, with what is left after it.
 #[derive(Clone, Copy)]
-pub enum Member {
-    At {
-        key: usize,
-        value: usize,
-        rest: Members,
-    },
-    End,
+pub struct Member {
+    pub key: usize,
+    pub value: usize,
+    pub rest: Members,
 }
 
-// The next member without what is left after it, or the end.
+// A member without what is left after it.
 #[derive(Clone, Copy)]
-pub enum Head {
-    At { key: usize, value: usize },
-    End,
+pub struct Head {
+    pub key: usize,
+    pub value: usize,
 }
 
 impl Members {
@@ -120,15 +106,13 @@ impl Members {
         }
     }
 
-    // What stands next; looking for it does not pass its value.
-    pub fn first(self, s: &[u8]) -> Head
+    // What stands next, if a member is left; looking for it does not pass its value.
+    pub fn first(self, s: &[u8]) -> Option<Head>
         requires { SomeMembers s.now self }
         ensures { (fs : Fields) → MembersLeft s.now self fs → GivesHead s.now self fs result }
     {
-        match value::peek_item(s, self.at, self.depth, true) {
-            value::Peek::At { first, value } => Head::At { key: first, value },
-            value::Peek::End => Head::End,
-        }
+        let value::Peek { first, value } = value::peek_item(s, self.at, self.depth, true)?;
+        Some(Head { key: first, value })
     }
 
     // What is left after the first member, whose value ends at `end`: who has read the value need not pass it again.
@@ -137,9 +121,10 @@ impl Members {
         ensures { (fs : Fields) (p q : ℕ) → MembersLeft s.now self fs → FirstMember s.now self fs p q
             → EndsAt s.now q self.depth end → NextMember s.now self fs p q result }
     {
-        let depth = self.depth;
-        let at = value::after_value(s, end);
-        Members { at, depth }
+        Members {
+            at: value::after_value(s, end),
+            ..self
+        }
     }
 
     // The position after the object, of which no member is left.
@@ -150,18 +135,18 @@ impl Members {
         value::list_end(s, self.at)
     }
 
-    pub fn next(self, s: &[u8]) -> Member
+    // The next member, if one is left.
+    pub fn next(self, s: &[u8]) -> Option<Member>
         requires { SomeMembers s.now self }
         ensures { (fs : Fields) → MembersLeft s.now self fs → GivesMember s.now self fs result }
     {
-        let depth = self.depth;
-        match value::read_item(s, self.at, depth, true) {
-            value::Item::At { first, value, next } => Member::At {
+        match value::read_item(s, self.at, self.depth, true) {
+            value::Item::At { first, value, next } => Some(Member {
                 key: first,
                 value,
-                rest: Members { at: next, depth },
-            },
-            value::Item::End(_) => Member::End,
+                rest: Members { at: next, ..self },
+            }),
+            value::Item::End(_) => None,
         }
     }
 }

@@ -15,6 +15,7 @@ ghost use Rattle.text_view.specs.Listed.{end_mark};
 ghost use Rattle.text_view.specs.declared.value.Item.TheVariants.{At as ItemIs};
 
 use crate::{Kind, Whole};
+use text_json::{Stuck, Token};
 
 // The value of a whole text: it stands after the first spaces.
 pub fn root(s: &[u8]) -> usize
@@ -48,11 +49,11 @@ pub fn whole(s: &[u8], at: usize) -> Whole
 {
     let negative = s[at] == b'-';
     match text_numbers::int_part(s, at + text_numbers::sign_size(negative)) {
-        text_numbers::Int::Digits { end: _, value } => Whole {
+        Ok(digits) => Whole {
             negative,
-            magnitude: value as u32,
+            magnitude: digits.value as u32,
         },
-        text_numbers::Int::NoInt(_) => Whole {
+        Err(_) => Whole {
             negative,
             magnitude: 0,
         },
@@ -60,7 +61,7 @@ pub fn whole(s: &[u8], at: usize) -> Whole
 }
 
 // An item of an array or an object: where it starts, where its value stands, and where the next item or the end mark is looked
-// for. At the end: the position after the end mark.
+// for. At the end: the position after the end mark, so both are places, and no Option says them.
 #[derive(Clone, Copy)]
 pub enum Item {
     At {
@@ -73,22 +74,18 @@ pub enum Item {
 
 // An item without what follows it.
 #[derive(Clone, Copy)]
-pub enum Peek {
-    At { first: usize, value: usize },
-    End,
+pub struct Peek {
+    pub first: usize,
+    pub value: usize,
 }
 
 // Where a token that was read ends.
-fn token_end(r: text_json::Scan) -> usize
+fn token_end(r: Result<Token, Stuck>) -> usize
     ensures { result ≡ end_of r }
 {
     match r {
-        text_json::Scan::Token {
-            end,
-            refused: _,
-            size: _,
-        } => end,
-        text_json::Scan::NoToken(e) => e,
+        Ok(token) => token.end,
+        Err(at) => at,
     }
 }
 
@@ -106,6 +103,7 @@ fn string_tail(s: &[u8], from: usize) -> usize
     ensures { StringEndsAt s.now from result }
 {
     let mut i = from;
+    // the position goes on by a char, which may be an escape, so no `for` counts it
     loop {
         let b = s[i];
         if b == b'"' {
@@ -137,6 +135,7 @@ fn string_end(s: &[u8], from: usize) -> usize
     ensures { StringEndsAt s.now from result }
 {
     let mut i = from;
+    // where the run ends is what is asked, so no `for` counts it
     while text_chars::unmarked_left(s, i, 16) {
         i += 16;
     }
@@ -164,6 +163,7 @@ fn skip_nested(s: &[u8], from: usize) -> usize
 {
     let mut i = from;
     let mut open: usize = 1;
+    // a string is passed whole, so no `for` counts the position
     while 0 < open {
         let b = s[i];
         if b == b'"' {
@@ -192,17 +192,17 @@ pub fn skip(s: &[u8], at: usize, depth: usize) -> usize
 }
 
 // The first of the items from `at` on, where what follows it is not asked, and so its value need not be passed.
-pub fn peek_item(s: &[u8], at: usize, depth: usize, object: bool) -> Peek
+pub fn peek_item(s: &[u8], at: usize, depth: usize, object: bool) -> Option<Peek>
     requires { SomeList s.now at depth object }
     ensures { (ts : List (Tree object)) (rest : List ℕ) → ListAt s.now at depth object ts rest
         → Peeks s.now at depth object ts result }
 {
     let first = text_json::space::skip_spaces(s, at);
     if s[first] == end_mark(object) {
-        return Peek::End;
+        return None;
     }
     let value = item_value(s, first, object);
-    Peek::At { first, value }
+    Some(Peek { first, value })
 }
 
 // The first of the items from `at` on.
@@ -211,13 +211,11 @@ pub fn read_item(s: &[u8], at: usize, depth: usize, object: bool) -> Item
     ensures { (ts : List (Tree object)) (rest : List ℕ) → ListAt s.now at depth object ts rest
         → GivesItem s.now at depth object ts rest result }
 {
-    match peek_item(s, at, depth, object) {
-        Peek::At { first, value } => {
-            let next = after_value(s, skip(s, value, depth));
-            Item::At { first, value, next }
-        }
-        Peek::End => Item::End(list_end(s, at)),
-    }
+    let Some(Peek { first, value }) = peek_item(s, at, depth, object) else {
+        return Item::End(list_end(s, at));
+    };
+    let next = after_value(s, skip(s, value, depth));
+    Item::At { first, value, next }
 }
 
 // The position from which on the items stand after one whose value ends at `end`: spaces are passed, and a comma.

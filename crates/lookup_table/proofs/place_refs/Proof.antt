@@ -8,7 +8,7 @@ use borrow.Rule.Slice.PartMut.{mid_of, mid_len}
 use lib.ListN.{length, get_or}
 use lib.Seq.{length-take-le}
 use Rattle.manifest.specs.Opened.{Opens}
-use Rattle.manifest.specs.declared.Places.{Places}
+use Rattle.manifest.specs.Opened.{Places}
 use Rattle.store_record.specs.Reading.{between, held_in, no_record, RecordIn}
 use Rattle.store_record.specs.declared.Record.{Record}
 use Rattle.store_names.proofs.Opened.{opened_at}

@@ -8,7 +8,7 @@ use Rattle.policy_pairs.proofs.count_row.Goals.{After-is_reported, then-is_repor
 
 pub loop-o-init : goal.loop-o-init
 unfolding pairs_with
-loop-o-init c = (omega arith, refl)
+loop-o-init c = refl
 
 -- what is asked is whether the pair is reported
 told : (c : After-is_reported) → c.is_reported.result ≡ reported c.args.t c.args.g c.loop-o.o
@@ -23,21 +23,19 @@ loop-o-preserved c =
     let t = c.args.t in
     let g = c.args.g in
     let o = c.loop-o.o in
-    let e = told c.before in (
-      omega arith,
-      elim c.if-is_reported.branch [
-        | then-is_reported w ↦ omega (
-          arith,
-          c.loop-o.invariant.1,
-          w.n-is,
-          ap length (with_next_taken (reported t) g o (sym e ∙ w.if-is_reported.true)),
-          length-append (row_pairs t g o) (pair g o ∷ []),
-        )
-        | else-is_reported w ↦ w.n-is ∙ c.loop-o.invariant.1 ∙ ap length (sym (with_next_left (reported t) g o (sym e ∙ w.if-is_reported.false)))
-      ],
-    )
+    let e = told c.before in
+    elim c.if-is_reported.branch [
+      | then-is_reported w ↦ omega (
+        arith,
+        c.loop-o.invariant,
+        w.n-is,
+        ap length (with_next_taken (reported t) g o (sym e ∙ w.if-is_reported.true)),
+        length-append (row_pairs t g o) (pair g o ∷ []),
+      )
+      | else-is_reported w ↦ w.n-is ∙ c.loop-o.invariant ∙ ap length (sym (with_next_left (reported t) g o (sym e ∙ w.if-is_reported.false)))
+    ]
 
 pub returns : goal.returns
 returns c =
     let e : c.loop-o.o ≡ c.args.t.count = omega arith in
-    c.loop-o.invariant.1 ∙ ap (λ (o : ℕ). length (row_pairs c.args.t c.args.g o)) e
+    c.loop-o.invariant ∙ ap (λ (o : ℕ). length (row_pairs c.args.t c.args.g o)) e

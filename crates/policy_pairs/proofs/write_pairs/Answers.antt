@@ -10,7 +10,7 @@ use Rattle.policy_pairs.proofs.write_pairs.Goals.{After-write_row-n}
 
 pub loop-g-init : goal.loop-g-init
 unfolding pairs_from
-loop-g-init c = (omega arith, no_pairs_written _)
+loop-g-init c = no_pairs_written _
 
 -- there is room for the next guard's pairs
 room : (c : goal.In-loop-g) → c.loop-g.n + 2 * length (row_pairs c.args.t c.loop-g.g c.args.t.count) ≤ length c.args.out.now
@@ -20,7 +20,7 @@ room c =
     omega (
       arith,
       c.requires.1,
-      c.loop-g.invariant.1.size,
+      c.loop-g.invariant.size,
       ap length (from_next (reported t) t.count g),
       length-append (table_pairs t g) (row_pairs t g t.count),
       ap length (all_pairs t t.count refl),
@@ -34,7 +34,7 @@ pub slice_bounds-write_row-start : goal.slice_bounds-write_row-start
 slice_bounds-write_row-start c = slice_bounds-write_row-count c
 
 pub write_row-n-requires : goal.write_row-n-requires
-write_row-n-requires c = (omega arith, omega arith, omega (arith, room c.before, left_length c.loop-g.invariant.1))
+write_row-n-requires c = (omega arith, omega arith, omega (arith, room c.before, left_length c.loop-g.invariant))
 
 -- the slice with the next guard's pairs
 next : (c : After-write_row-n) →
@@ -43,7 +43,7 @@ next : (c : After-write_row-n) →
 next c =
     let t = c.args.t in
     let g = c.loop-g.g in
-    let w = c.loop-g.invariant.1 in
+    let w = c.loop-g.invariant in
     subst (WritesPairs _ _ _) (sym (from_next (reported t) t.count g))
     (more_written w _ _ (row_pairs t g t.count)
     (written_by _ _ _ _ c.write_row-n.ensures.value (omega (arith, room c.before.before, left_length w, c.write_row-n.ensures.value))
@@ -53,10 +53,10 @@ pub overflow_add-n : goal.overflow_add-n
 overflow_add-n c = omega (arith, room c.before.before.before.before.before, c.write_row-n.ensures.value)
 
 pub loop-g-preserved : goal.loop-g-preserved
-loop-g-preserved c = (omega arith, next c.before.before.before)
+loop-g-preserved c = next c.before.before.before
 
 pub returns : goal.returns
 returns c =
     let t = c.args.t in
-    let w = subst (WritesPairs c.args.out.now c.loop-g.out c.loop-g.n) (all_pairs t c.loop-g.g (omega arith)) c.loop-g.invariant.1 in
+    let w = subst (WritesPairs c.args.out.now c.loop-g.out c.loop-g.n) (all_pairs t c.loop-g.g (omega arith)) c.loop-g.invariant in
     pairs_written w ∙ ap (λ (k : ℕ). report_of (pairs_in (guards_in t) (rows_in t)) ++ drop k c.args.out.now) w.size

@@ -11,7 +11,7 @@ use Rattle.policy_pairs.proofs.write_row.Goals.{After-is_reported, then-is_repor
 
 pub loop-o-init : goal.loop-o-init
 unfolding pairs_with
-loop-o-init c = (omega arith, no_pairs_written _)
+loop-o-init c = no_pairs_written _
 
 -- what is asked is whether the pair is reported
 told : (c : After-is_reported) → c.is_reported.result ≡ reported c.args.t c.args.g c.loop-o.o
@@ -32,7 +32,7 @@ room c h =
       arith,
       c.requires.2,
       c.loop-o-test.true,
-      c.loop-o.invariant.1.size,
+      c.loop-o.invariant.size,
       ap length (next c h),
       length-append (row_pairs t g o) (pair g o ∷ []),
       with_grows (reported t) g (o + 1) t.count (omega arith),
@@ -55,20 +55,18 @@ loop-o-preserved c =
     let t = c.args.t in
     let g = c.args.g in
     let o = c.loop-o.o in
-    let out = c.args.out.now in (
-      omega arith,
-      elim c.if-is_reported.branch [
-        | then-is_reported w ↦ subst₃ (WritesPairs out) (sym w.out-is) (sym w.n-is) (sym (next c.before w.if-is_reported.true))
-            (pair_written c.loop-o.invariant.1 g o (room c.before w.if-is_reported.true))
-        | else-is_reported w ↦ subst₃ (WritesPairs out) (sym w.out-is) (sym w.n-is)
-            (sym (with_next_left (reported t) g o (sym (told c.before) ∙ w.if-is_reported.false))) c.loop-o.invariant.1
-      ],
-    )
+    let out = c.args.out.now in
+    elim c.if-is_reported.branch [
+      | then-is_reported w ↦ subst₃ (WritesPairs out) (sym w.out-is) (sym w.n-is) (sym (next c.before w.if-is_reported.true))
+          (pair_written c.loop-o.invariant g o (room c.before w.if-is_reported.true))
+      | else-is_reported w ↦ subst₃ (WritesPairs out) (sym w.out-is) (sym w.n-is)
+          (sym (with_next_left (reported t) g o (sym (told c.before) ∙ w.if-is_reported.false))) c.loop-o.invariant
+    ]
 
 written : (c : goal.After-loop-o) → WritesPairs c.args.out.now c.loop-o.out c.loop-o.n (row_pairs c.args.t c.args.g c.args.t.count)
 written c =
     let e : c.loop-o.o ≡ c.args.t.count = omega arith in
-    subst (λ (o : ℕ). WritesPairs c.args.out.now c.loop-o.out c.loop-o.n (row_pairs c.args.t c.args.g o)) e c.loop-o.invariant.1
+    subst (λ (o : ℕ). WritesPairs c.args.out.now c.loop-o.out c.loop-o.n (row_pairs c.args.t c.args.g o)) e c.loop-o.invariant
 
 pub returns-clause-value : goal.returns-clause-value
 returns-clause-value c = (written c).size

@@ -1,9 +1,6 @@
--- The places lie within the buffers. The measure is how many turns are left.
+-- The places lie within the buffers.
 use Rattle.std.proofs.Common.{◌≤◌, length}
 use Rattle.roomreport.proofs.read_all.Given as goal
 
-abbrev pub invariant-loop-turns : goal.invariant-loop-turns
-invariant-loop-turns l = (l.t.kept ≤ length l.kept) × (l.t.unprinted ≤ length l.out)
-
-abbrev pub decreases-loop-turns : goal.decreases-loop-turns
-decreases-loop-turns l = l.turns
+abbrev pub invariant-loop : goal.invariant-loop
+invariant-loop l = (l.t.kept ≤ length l.kept) × (l.t.unprinted ≤ length l.out)

@@ -16,16 +16,16 @@ returns-then-most-lt128 t c = none_here c.args.s.now c.args.i c.args.most (omega
 
 pub returns-then-value-eq0 : goal.returns-then-value-eq0
 returns-then-value-eq0 t c =
-    zero_rest c.args.s.now c.args.i c.args.most (omega arith) c.if-b-lt128.false _ _ c.in-At.ensures (omega arith)
+    zero_rest c.args.s.now c.args.i c.args.most (omega arith) c.if-b-lt128.false _ _ c.in_ok-value.ensures (omega arith)
 
 pub returns-then-most-low : goal.returns-then-most-low
 returns-then-most-low t c =
-    large_rest c.args.s.now c.args.i c.args.most (omega arith) c.if-b-lt128.false _ _ c.in-At.ensures (omega arith)
+    large_rest c.args.s.now c.args.i c.args.most (omega arith) c.if-b-lt128.false _ _ c.in_ok-value.ensures (omega arith)
 
-pub returns-in-Missing : goal.returns-in-Missing
-returns-in-Missing t c =
-    rest_missing c.args.s.now c.args.i c.args.most (omega arith) c.if-b-lt128.false c.in-Missing.ensures
+pub returns-in_err-value : goal.returns-in_err-value
+returns-in_err-value t c =
+    rw c.from_residual.ensures (rest_missing c.args.s.now c.args.i c.args.most (omega arith) c.if-b-lt128.false c.in_err-value.ensures)
 
-pub returns-else-most-low : goal.returns-else-most-low
-returns-else-most-low t c =
-    with_rest c.args.s.now c.args.i c.args.most (omega arith) c.if-b-lt128.false _ _ c.in-At.ensures (omega arith) (omega (arith, c.type_inv.s c.args.i))
+pub returns : goal.returns
+returns t c =
+    with_rest c.args.s.now c.args.i c.args.most (omega arith) c.if-b-lt128.false _ _ c.in_ok-value.ensures (omega arith) (omega (arith, c.type_inv.s c.args.i))

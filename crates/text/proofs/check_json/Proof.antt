@@ -17,17 +17,17 @@ text-requires c κs =
     let b = c.requires in
     record { within = omega arith; short = b.0; enough = omega (arith, b.0, b.1.enough); sorting = b.1.sorting }
 
-returns-in-Stuck : tie.Need-returns-in-Stuck
-returns-in-Stuck c =
+returns-in-Err : tie.Need-returns-in-Err
+returns-in-Err c =
     let s = c.args.text.now in
-    let r = rw c.in-Stuck.is at c.text.ensures in
+    let r = rw c.in-Err.is at c.text.ensures in
     refused_keys s _ _ _ _ c.refusal.ensures (stuck_at s (read_text 8 s) _ (scans_stuck s (read_text 8 s) _ r.0))
 
 returns : tie.Need-returns
 returns c =
     let s = c.args.text.now in
-    let f = c.in-Value.f in
-    let r = rw c.in-Value.is at c.text.ensures in
+    let f = c.in-Ok.f in
+    let r = rw c.in-Ok.is at c.text.ensures in
     let v = scans_value s (read_text 8 s) f r.0 in
     let flag = c.is_form-canonical.ensures v.tree v.sum in
     let e = c.by_faults-answer.ensures v.tree v.sum ∙ ap (λ (b : Bool). by_faults (length s) b v.tree) flag ∙ told_by_tree s f v in
@@ -36,5 +36,5 @@ returns c =
 
 pub check_json_spec : {M : Type 1} → statement M
 check_json_spec =
-    tie.close (tie.spec text-requires (λ c. search rules) (λ c. search rules) (λ c κs. search rules) (λ c. search rules) (λ c. search rules) returns-in-Stuck
+    tie.close (tie.spec text-requires (λ c. search rules) (λ c. search rules) (λ c κs. search rules) (λ c. search rules) (λ c. search rules) returns-in-Err
     (λ c κs. search rules) (λ c κs. search rules) (λ c κs. search rules) (λ c. search rules) (λ c. search rules) returns)

@@ -5,12 +5,12 @@ use Rattle.text.proofs.Outcome.{accepted_flag, refused_flag}
 use Rattle.text.proofs.is_canonical.Statement.{statement}
 use Rattle.text.proofs.is_canonical.Tie as tie
 
-returns-in-Accepted : tie.Need-returns-in-Accepted
-returns-in-Accepted c = accepted_flag _ _ _ (sym c.check.ensures ∙ c.in-Accepted.is)
+returns-in-Ok : tie.Need-returns-in-Ok
+returns-in-Ok c = accepted_flag _ _ _ (sym c.check.ensures ∙ c.in-Ok.is)
 
-returns-in-Refused : tie.Need-returns-in-Refused
-returns-in-Refused c = sym (refused_flag _ _ (sym c.check.ensures ∙ c.in-Refused.is))
+returns-in-Err : tie.Need-returns-in-Err
+returns-in-Err c = sym (refused_flag _ _ (sym c.check.ensures ∙ c.in-Err.is))
 
 pub is_canonical_spec : {M : Type 1} → statement M
 is_canonical_spec =
-    tie.close (tie.spec (λ c κs. search rules) (λ c. search rules) (λ c. search rules) returns-in-Accepted returns-in-Refused)
+    tie.close (tie.spec (λ c κs. search rules) (λ c. search rules) (λ c. search rules) returns-in-Ok returns-in-Err)

@@ -23,24 +23,24 @@ int_part-requires c κs =
     let p = c.requires in
     after_sign _ _ p.depth _ p.here _ c.sign_size.ensures
 
-returns-in-Digits : tie.Need-returns-in-Digits
-returns-in-Digits c =
+returns-in-Ok : tie.Need-returns-in-Ok
+returns-in-Ok c =
     let d = c.before in
     let b = d.before.before.before.before in
     let p = b.requires in
     let f = ap (λ (n : ℕ). b.args.at + n) d.sign_size.ensures in
     digits_end _ _ _ _ _ (within _ _ p.depth _ p.here) f
-    (subst (Ints b.args.s.now (b.args.at + d.sign_size.result)) c.in-Digits.is d.int_part.ensures)
+    (subst (Ints b.args.s.now (b.args.at + d.sign_size.result)) c.in-Ok.is d.int_part.ensures)
 
-returns-in-NoInt : tie.Need-returns-in-NoInt
-returns-in-NoInt c =
+returns-in-Err : tie.Need-returns-in-Err
+returns-in-Err c =
     let d = c.before in
     let b = d.before.before.before.before in
     let p = b.requires in
     always_digits _ _ p.depth p.negative p.digits p.here _ d.sign_size.ensures _
-    (subst (Ints b.args.s.now (b.args.at + d.sign_size.result)) c.in-NoInt.is d.int_part.ensures)
+    (subst (Ints b.args.s.now (b.args.at + d.sign_size.result)) c.in-Err.is d.int_part.ensures)
 
 pub digits_end_spec : {M : Type 1} → statement M
 digits_end_spec =
-    tie.close (tie.spec bounds-s-at (λ c κs. search rules) overflow_add-first int_part-requires (λ c. search rules) (λ c. search rules) returns-in-Digits
-    returns-in-NoInt)
+    tie.close (tie.spec bounds-s-at (λ c κs. search rules) overflow_add-first int_part-requires (λ c. search rules) (λ c. search rules) returns-in-Ok
+    returns-in-Err)

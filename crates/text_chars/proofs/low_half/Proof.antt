@@ -51,22 +51,22 @@ returns-then-s-next-ne117 c u =
     rw (char_escape _ _ else2.if-s-at.false else2.if-s-at-ne92.false)
     (paired_escape u _ _ c.if-s-next.false c.if-s-next-ne117.true)
 
-returns-in-Number : tie.Need-returns-in-Number
+returns-in-Ok : tie.Need-returns-in-Ok
 unfolding is_low
-returns-in-Number c =
+returns-in-Ok c =
     let h = c.before.before in
-    let read = rw c.in-Number.is at h.hex4.ensures in
+    let read = rw c.in-Ok.is at h.hex4.ensures in
     let next : (start h.before).args.at + 2 + 4 ≡ (start h.before).args.at + 6 = omega arith in
-    lows (text h.before) (start h.before).args.at c.in-Number.v _ c.between.ensures (omega arith)
+    lows (text h.before) (start h.before).args.at c.in-Ok.v _ c.between.ensures (omega arith)
     (starts h.before ∙ rw next at read.2)
 
-returns-in-NoHex : tie.Need-returns-in-NoHex
-returns-in-NoHex c u =
+returns-in-Err : tie.Need-returns-in-Err
+returns-in-Err c u =
     let h = c.before in
-    let read = rw c.in-NoHex.is at h.hex4.ensures in
+    let read = rw c.in-Err.is at h.hex4.ensures in
     rw (starts h.before, read.2) (paired_stuck u _)
 
 pub low_half_spec : {M : Type 1} → statement M
 low_half_spec =
     tie.close (tie.spec returns-then-s-at (λ c. search rules) returns-then-s-at-ne92 (λ c. search rules) returns-then-s-next (λ c. search rules) returns-then-s-next-ne117 (λ c. search rules)
-    (λ c κs. search rules) (λ c. search rules) (λ c κs. search rules) (λ c. search rules) returns-in-Number returns-in-NoHex)
+    (λ c κs. search rules) (λ c. search rules) (λ c κs. search rules) (λ c. search rules) returns-in-Ok returns-in-Err)

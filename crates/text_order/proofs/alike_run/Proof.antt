@@ -1,7 +1,6 @@
 -- `text_order::alike_run` meets its contract: too few bytes on either side, or the two tests of `count` bytes.
 -- Assumes nothing.
 use borrow.Author.Rules.{rules}
-use Prim.Native.Nat.{◌-◌}
 use mathlib.Core.Path.{sym, ◌∙◌}
 use borrow.Author.Tests.{not-true, not-false}
 use native.Mathlib.Omega.{arith}

@@ -11,12 +11,6 @@ use Rattle.text_order.proofs.Alike.{Both, both_start}
 use Rattle.text_order.proofs.Twins.{twin_within, twins}
 use Rattle.text_order.proofs.compare_bytes.Statement.{statement}
 use Rattle.text_order.proofs.compare_bytes.Tie as tie
-use Rattle.text_order.proofs.compare_bytes.Reads as reads
-use Rattle.text_order.proofs.compare_bytes.Lts as lts
-use Rattle.text_strings.proofs.Cursor.new.Reads as new-reads
-use Rattle.text_order.proofs.compare_cursors.Reads as compare-cursors-reads
-use Rattle.text_order.proofs.differ.Reads as differ-reads
-use Rattle.text_order.proofs.either_escapes.Reads as either-escapes-reads
 
 abbrev invariant-loop : tie.invariant-loop-k
 invariant-loop s i t j k₀ k = Both (InString s i) (InString t j) s (i + k) t (j + k)

@@ -6,9 +6,6 @@ use Rattle.text_order.proofs.Orders.{Tracks, first_ends, both_end, second_ends, 
 use mathlib.Core.Path.{refl}
 use Rattle.text_order.proofs.compare_cursors.Statement.{statement}
 use Rattle.text_order.proofs.compare_cursors.Tie as tie
-use Rattle.text_order.proofs.compare_cursors.Reads as reads
-use Rattle.text_order.proofs.compare_cursors.Lts as lts
-use Rattle.text_strings.proofs.Cursor.next.Reads as next-reads
 
 abbrev invariant-loop : tie.invariant-loop-x
 invariant-loop s t i₀ j₀ i j = ReadableCursor s i × ReadableCursor t j × Tracks (Left s i₀) (Left t j₀) (Left s i) (Left t j)

@@ -1,8 +1,6 @@
 use borrow.Author.Tests.{eq-eqb, ne_eqb}
 use Rattle.text_order.proofs.either_escapes.Statement.{statement}
 use Rattle.text_order.proofs.either_escapes.Tie as tie
-use Rattle.text_order.proofs.either_escapes.Reads as reads
-use Rattle.text_order.proofs.either_escapes.Lts as lts
 
 returns-then-x-eq92 : tie.Need-returns-then-x-eq92
 returns-then-x-eq92 c = rw (eq-eqb _ _ c.if-x-eq92.true)

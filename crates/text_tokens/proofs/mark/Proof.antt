@@ -1,8 +1,6 @@
 use borrow.Author.Rules.{rules}
 use Rattle.text_tokens.proofs.mark.Statement.{statement}
 use Rattle.text_tokens.proofs.mark.Tie as tie
-use Rattle.text_tokens.proofs.mark.Reads as reads
-use Rattle.text_tokens.proofs.mark.Lts as lts
 
 returns-then-faulty : tie.Need-returns-then-faulty
 returns-then-faulty c = rw c.if-faulty.true

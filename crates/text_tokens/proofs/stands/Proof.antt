@@ -4,8 +4,6 @@ use Rattle.laws.proofs.Order.{false_true}
 use borrow.Author.Rules.{rules}
 use Rattle.text_tokens.proofs.stands.Statement.{statement}
 use Rattle.text_tokens.proofs.stands.Tie as tie
-use Rattle.text_tokens.proofs.stands.Reads as reads
-use Rattle.text_tokens.proofs.stands.Lts as lts
 
 returns-then-s-at : tie.Need-returns-then-s-at
 returns-then-s-at c = (λ _. (c.if-at-s.true, c.if-s-at.true), λ e. false_true (sym e))

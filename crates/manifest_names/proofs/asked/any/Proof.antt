@@ -9,17 +9,17 @@ use Rattle.manifest_names.proofs.asked.any.Tie as tie
 any_grouped-requires : tie.Need-any_grouped-requires
 any_grouped-requires c κs =
     let a = c.before.before.before.before.before.before in
-    (a.requires.0, a.requires.1, group_here _ _ _ a.requires.2 _ c.in-At.is)
+    (a.requires.0, a.requires.1, group_here _ _ _ a.requires.2 _ c.in-Some.is)
 
-returns-in-Missing : tie.Need-returns-in-Missing
-returns-in-Missing c = λ i o f. none_tried _ _ (missing_members _ _ _ o f c.in-Missing.is)
+returns-in-None : tie.Need-returns-in-None
+returns-in-None c = λ i o f. none_tried _ _ (missing_members _ _ _ o f c.in-None.is)
 
-returns-in-At : tie.Need-returns-in-At
-returns-in-At c =
+returns-in-Some : tie.Need-returns-in-Some
+returns-in-Some c =
     let d = c.before in
     let a = d.before.before.before.before.before.before in
-    λ i o f. c.any_grouped.ensures i _ (its_object _ _ _ a.requires.2 _ d.in-At.is o f)
+    λ i o f. c.any_grouped.ensures i _ (its_object _ _ _ a.requires.2 _ d.in-Some.is o f)
 
 pub any_spec : {M : Type 1} → statement M
 any_spec =
-    tie.close (tie.spec (λ c. search rules) (λ c. search rules) any_grouped-requires returns-in-Missing returns-in-At)
+    tie.close (tie.spec (λ c. search rules) (λ c. search rules) any_grouped-requires returns-in-None returns-in-Some)

@@ -1,0 +1,8 @@
+use Rattle.text_view.proofs.Cursors.{gives_element, gives_no_element}
+use Rattle.text_view.proofs.Elements.next.Goals as goal
+
+pub returns-in-At : goal.returns-in-At
+returns-in-At c = λ x l. gives_element _ _ x l _ _ _ c.in-At.ensures
+
+pub returns-in-End : goal.returns-in-End
+returns-in-End c = λ x l. gives_no_element _ _ x l _ (c.in-End.ensures l.trees l.rest l.derives)
